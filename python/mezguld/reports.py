@@ -20,6 +20,7 @@ FOUND = re.compile(f"step ([0-9]+), (before )?{ADDRESS} (.+?): (.+)", re.DOTALL)
 ORIGIN = re.compile(f"(.+), (allocated|freed) by step ([0-9]+), (before )?{ADDRESS}", re.DOTALL)
 AGAIN = re.compile(r"(.+): ([0-9]+) more, the last at step ([0-9]+)", re.DOTALL)
 STOPPED = re.compile(f"stopped: ([a-z ]+?) (at|before) {ADDRESS}(?:: (.+))?")
+PROCESS = re.compile(f"process {WORD} (.*): parent {WORD}, (?:steps ([0-9]+) to ([0-9]+)|from step ([0-9]+))", re.DOTALL)
 FUNCTION = re.compile(r"(?:INT ([0-9A-F]{2})h|(XMS)) function ([0-9A-F]{2})h(?: \(.*\))?")
 COUNTS = re.compile(r"([0-9]+), notes: ([0-9]+)")
 INTERRUPT = re.compile(r"INT ([0-9A-F]{2})h")
@@ -145,6 +146,13 @@ def stopped(line: str) -> Members:
     return {"type": "stopped", "reason": reason} | site(segment, offset, place == "before") | code
 
 
+def process(line: str) -> Members:
+    """The object about a process."""
+    prefix, name, parent, first, last, only = groups(PROCESS, line)
+    ended: Members = {"last": int(last)} if last else {}
+    return {"type": "process", "process": int(prefix, 16), "name": name, "parent": int(parent, 16), "first": int(first or only)} | ended
+
+
 def objects(lines: list[str], status: int | None) -> list[Any]:
     """The objects for the lines of a report, the last of which has the exit code if the program ended; None for the code if the status hides
     it. A line of another kind, as that of a fault, stays as it is."""
@@ -165,6 +173,8 @@ def objects(lines: list[str], status: int | None) -> list[Any]:
             first, second = groups(COUNTS, rest)
             made.append({"type": "summary", "errors": int(first), "notes": int(second)})
             made.append({"type": "exited", "code": status})
+        elif word.startswith("process "):
+            made.insert(-1, process(line))
         elif word == "stopped":
             made[-1] = stopped(line)
         else:

@@ -57,6 +57,16 @@ document dm go
 dm go N: goes to the state after N steps from the start, N in hexadecimal, forwards or back, past all breakpoints.
 end
 
+define dm check
+  monitor check
+  maintenance flush register-cache
+  maintenance flush dcache
+  frame
+end
+document dm check
+Goes to the next step in which the checker finds something, and prints that, past all breakpoints.
+end
+
 define dm blocks
   monitor M
 end

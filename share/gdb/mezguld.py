@@ -5,7 +5,6 @@
 An address SEGMENT:OFFSET has hexadecimal numbers or 16-bit registers on both sides: 0103:0119, ds:si. `help dm` lists the commands.
 """
 import os
-import re
 import shlex
 import struct
 import subprocess
@@ -19,7 +18,7 @@ HERE = os.path.dirname(os.path.abspath(__file__))
 sys.path.insert(0, HERE)
 sys.dont_write_bytecode = True
 import mezguld_frames  # noqa: E402
-from mezguld_frames import flush, is_there, linear_of, memory, monitor, quietly, stack, steps  # noqa: E402
+from mezguld_frames import flush, is_there, linear_of, memory, monitor, quietly, stack  # noqa: E402
 
 sys.path.remove(HERE)
 
@@ -31,8 +30,6 @@ REGISTERS = {"ax": "ax", "bx": "bx", "cx": "cx", "dx": "dx", "sp": "sp", "bp": "
 GOES_OVER, RETURNS = ("call", "lcall", "int", "into", "rep", "repz", "repnz", "loop", "loope", "loopne"), ("ret", "lret", "iret", "retw", "lretw", "iretw")
 # The most steps of `dm out`.
 MOST = 100_000
-# A line of `dm check` about a finding, with the number of its step.
-FINDING = re.compile(r"(?:error|note): step (\d+), ")
 
 
 def register(name):
@@ -108,9 +105,6 @@ class Group(gdb.Command):
 class Given(gdb.Command):
     """A command `dm NAME`, which calls a function with the words behind it; the function's comment is its help."""
 
-    # The words of the last `dm connect`.
-    connected = ()
-
     def __init__(self, name, call, least, most):
         self.__doc__, self.call, self.least, self.most = call.__doc__, call, least, most
         super().__init__(f"dm {name}", gdb.COMMAND_USER)
@@ -132,7 +126,6 @@ def connect(*words):
         gdb.execute(f"target extended-remote | {program()} gdb {' '.join(shlex.quote(it) for it in words)}", to_string=True)
     except gdb.error as error:
         raise gdb.GdbError(refusal(words) or str(error)) from error
-    Given.connected = words
     show()
 
 
@@ -149,40 +142,12 @@ def refusal(words):
         return f"{program()}: {error.strerror}"
 
 
-def findings():
-    """The lines of `dm check` for the program that `dm connect` has started, with their steps, and its other lines."""
-    if not Given.connected:
-        raise gdb.GdbError("dm check works behind dm connect")
-    words, given, words_left = [], os.devnull, list(Given.connected)
-    while words_left:
-        word_now = words_left.pop(0)
-        name, _, value = word_now.partition("=")
-        if name in ("--input", "--steps"):
-            value = value or (words_left.pop(0) if words_left else "")
-            given = value if name == "--input" else given
-        else:
-            words.append(word_now)
-    try:
-        with open(given, "rb") as file:
-            ran = subprocess.run([program(), "check", *words], stdin=file, stdout=subprocess.DEVNULL, stderr=subprocess.PIPE, check=False)
-    except OSError as error:
-        raise gdb.GdbError(f"dm check: {error.strerror}") from error
-    lines = ran.stderr.decode("utf-8", "backslashreplace").splitlines()
-    found = [(int(it[1]), it.string) for it in map(FINDING.match, lines) if it]
-    return found, [it for it in lines if not FINDING.match(it)]
-
-
 def check():
-    """dm check: goes to the next step in which dm check finds something, and prints that; with what was set in GDB, registers or memory, left out."""
+    """dm check: goes to the next step in which the checker finds something, and prints that."""
     mezguld_frames.require_program()
-    now = steps()
-    found, others = findings()
-    following = min((step for step, _ in found if now < step), default=None)
-    if following is None:
-        print(f"nothing is found behind step {now}", *others, sep="\n")
-        return
-    print(*(line for step, line in found if step == following), sep="\n")
-    go(f"{following:X}")
+    print(monitor("check"), end="")
+    flush()
+    show()
 
 
 def over():

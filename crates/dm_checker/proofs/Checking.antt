@@ -9,8 +9,8 @@ use Rattle.dm_machine.specs.Run as run
 use Rattle.dm_machine.proofs.OneRun.{none-made}
 use Rattle.dm_findings.specs.declared.finding.Found.{Found}
 use Rattle.dm_findings.specs.Report.{Reported, report_of}
-use Rattle.dm_origins.specs.Origins.{Known, known_first}
-use Rattle.dm_checker.specs.Origins.{IsKnownAfter, OriginsIn}
+use Rattle.dm_origins.specs.Origins.{Known}
+use Rattle.dm_checker.specs.Origins.{IsKnownAfter, OriginsIn, known_at}
 use Rattle.dm_checker.specs.Origins as origins
 use Rattle.dm_checker.specs.declared.watch.Watch.{Watch}
 use Rattle.dm_checker.specs.Checks.{FindsIn, Checks, IsReport, RunsPart, reported}
@@ -54,10 +54,10 @@ pub record HasChecked (free : Bool) (s : State) (n : ℕ) (t : State) (k : Known
   pub knows : OriginsIn s n t k
   pub is : report ≡ report_of (reported free found)
 
-pub checked_none : (free : Bool) (s t : State) (k : Known) (r : Reported) → s.exited ≡ None → t ≡ s → k ≡ known_first s.ems s.xms → r ≡ report_of [] → HasChecked free s 0 t k r
+pub checked_none : (free : Bool) (s t : State) (k : Known) (r : Reported) → s.exited ≡ None → t ≡ s → k ≡ known_at s → r ≡ report_of [] → HasChecked free s 0 t k r
 checked_none free s t k r e same first is =
     let F : State → Type 0 = λ u. FindsIn s 0 u [] in
-    let G : State → Type 0 = λ u. OriginsIn s 0 u (known_first s.ems s.xms) in
+    let G : State → Type 0 = λ u. OriginsIn s 0 u (known_at s) in
     let H : Known → Type 0 = λ l. OriginsIn s 0 t l in
     record { running = e; found = []; finds = subst F (sym same) checks.here; knows = subst H (sym first) (subst G (sym same) origins.here); is = is }
 
@@ -65,8 +65,8 @@ pub checked_more : (free : Bool) (s t u : State) (n : ℕ) (w : Watch) (k l : Kn
 checked_more free s t u n w k l old new h x = record {
   running = h.running;
   found = h.found ++ x.found;
-  finds = checks.further n t u k l h.found x.found h.finds h.knows x.answers (x.knows refl) x.finds;
-  knows = origins.further n t u k l h.knows x.answers (x.knows refl);
+  finds = checks.further n t u k l h.found x.found h.finds h.knows x.answers x.knows x.finds;
+  knows = origins.further n t u k l h.knows x.answers x.knows;
   is = x.reports h.found h.is;
 }
 

@@ -1,5 +1,6 @@
 -- Findings that are listed stay listed when more are found.
-use Rattle.std.proofs.Common.{◌≡◌, Bool, true, false, List, [], ◌∷◌, ◌++◌, refl, sym, ◌∙◌, ap, append-nil, append_assoc}
+use Rattle.std.proofs.Common.{◌≡◌, ◌≤◌, Bool, true, false, List, [], ◌∷◌, ◌++◌, length, refl, sym, ◌∙◌, ap, append-nil, append_assoc, arith}
+use Rattle.std.proofs.lemmas.List.{length-append, length-map, nil_from_length}
 use Rattle.dm_findings.specs.declared.finding.Found.{Found}
 use Rattle.dm_findings.specs.declared.report.Listed.{Listed}
 use Rattle.dm_findings.specs.Report.{Reported, is_listed, lines_from, report_of}
@@ -40,3 +41,16 @@ longer_by free a b fs more e h =
       is = ap (λ (r : Reported). founds r.listed) (h fs e ∙ ap report_of (reported_append free fs more)) ∙ p.is
           ∙ ap (λ (r : Reported). founds r.listed ++ p.more) (sym e);
     }
+
+-- ---- where no more is listed, the same is
+
+none_more : (xs ys : List Found) → length (xs ++ ys) ≤ length xs → ys ≡ []
+none_more xs ys few = nil_from_length ys (let both = length-append xs ys in omega (arith, few, both))
+
+pub listed_same : (a b : Reported) → IsLonger a b → length b.listed ≤ length a.listed → founds b.listed ≡ founds a.listed
+listed_same a b p few =
+    let of_a = length-map a.listed (λ (l : Listed). l.found) in
+    let of_b = length-map b.listed (λ (l : Listed). l.found) in
+    let is = ap (λ (l : List Found). length l) p.is in
+    let none = none_more (founds a.listed) p.more (omega (arith, few, of_a, of_b, is)) in
+    p.is ∙ ap (λ (l : List Found). founds a.listed ++ l) none ∙ append-nil (founds a.listed)

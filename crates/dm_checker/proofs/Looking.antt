@@ -13,7 +13,8 @@ use Rattle.dm_findings.specs.Calls.{call_of}
 use Rattle.dm_checker.specs.declared.acts.Before.{Before}
 use Rattle.dm_checker.specs.declared.watch.Watched.{Watched}
 use Rattle.dm_checker.specs.declared.watch.Watch.{Watch}
-use Rattle.dm_checker.specs.Calls.{is_arena, is_ending, is_starting, arranges, freed_twice, call_findings}
+use Rattle.dm_calls.specs.Calls.{is_arena, is_ending, is_starting, arranges, call_findings}
+use Rattle.dm_checker.specs.Freed.{freed_twice}
 use Rattle.dm_checker.specs.Headers.{overwritten, mapped_away}
 use Rattle.dm_checker.specs.Shown.{Shown}
 use Rattle.dm_checker.specs.Arranged.{other_freed, stack_freed, not_resized, if_whole, arranged_by, arranged}

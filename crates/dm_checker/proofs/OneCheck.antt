@@ -10,8 +10,8 @@ use Rattle.dm_machine.specs.Run as run
 use Rattle.dm_machine.proofs.OneRun.{goes-one}
 use Rattle.dm_machine.proofs.OneStop.{some-none, not_beyond, run-one}
 use Rattle.dm_findings.specs.declared.finding.Found.{Found}
-use Rattle.dm_origins.specs.Origins.{Known, known_first}
-use Rattle.dm_checker.specs.Origins.{IsKnownAfter, OriginsIn}
+use Rattle.dm_origins.specs.Origins.{Known}
+use Rattle.dm_checker.specs.Origins.{IsKnownAfter, OriginsIn, known_at}
 use Rattle.dm_checker.specs.Origins as origins
 use Rattle.dm_checker.specs.Checks.{FindsAt, FindsAtStop, FindsIn, here, further, Checks, over, whole, cut}
 use Rattle.dm_checker.specs.Laws.{ACheckedRunIsARun, CheckHasOneReport}
@@ -45,7 +45,7 @@ last_known s u m n k (origins.further j t v l o h a x) e =
     let same : j ≡ n = omega arith in
     record { before = t; known = l; origins = subst (λ (i : ℕ). OriginsIn s i t l) same h; knows = x }
 
-first_known : (s u : State) (m : ℕ) (k : Known) → OriginsIn s m u k → m ≡ 0 → k ≡ known_first s.ems s.xms
+first_known : (s u : State) (m : ℕ) (k : Known) → OriginsIn s m u k → m ≡ 0 → k ≡ known_at s
 first_known s u m k origins.here e = refl
 first_known s u m k (origins.further j t v l o h a x) e = absurd (omega arith)
 

@@ -20,7 +20,8 @@ use Rattle.dm_findings.specs.Report.{Reported}
 use Rattle.dm_origins.specs.Origins.{Known}
 use Rattle.dm_checker.specs.declared.acts.Before.{Before}
 use Rattle.dm_checker.specs.declared.watch.Watch.{Watch}
-use Rattle.dm_checker.specs.Calls.{stays, freed_twice, call_findings}
+use Rattle.dm_calls.specs.Calls.{stays, call_findings}
+use Rattle.dm_checker.specs.Freed.{freed_twice}
 use Rattle.dm_leaks.specs.Leaks.{leaks}
 use Rattle.dm_touches.specs.declared.elements.Elements.{Elements}
 use Rattle.dm_cpu.specs.Guest.{guest}
@@ -35,6 +36,7 @@ use Rattle.dm_checker.specs.Arranged.{arranged_by, arranged}
 use Rattle.dm_checker.specs.Findings.{findings, Finds, FindsTouched, touching, over, IsFound, none}
 use Rattle.dm_checker.specs.Checks.{FindsAtEnd, FindsAtStop, left_behind, left_by}
 use Rattle.dm_checker.specs.Origins.{known_by, IsKnownAfter}
+use Rattle.dm_checker.specs.Processes.{KnowsAtStop}
 use Rattle.dm_checker.specs.Watching.{header_of, broken_at, shown_of, IsWatch, IsSeen}
 use Rattle.dm_checker.specs.Clear.{is_read_clear, is_write_clear, IsPassed}
 use Rattle.dm_checker.specs.inner.Steps.{IsBefore, found_by, ReportsMore, Touches, Looks, ChecksOne, IsPassing, PassesIn}
@@ -107,12 +109,12 @@ goes_on free s t v w k l first fs gs old new a touched x same told watch knows =
   finds = record { findings = first ++ x.more; finds = x.finds first touched; told = found_as s t l gs (first ++ x.more) told.0 (same ∙ x.is) told.1 };
   reports = told.2;
   watch = λ e. watch;
-  knows = λ e. knows;
+  knows = knows;
 }
 
 -- the program ends
-pub exits : (free : Bool) (s t : State) (code : ℕ) (w : Watch) (k l : Known) (old new : Reported) → Answers s (Some (Exited code)) t → Ends free s t k old new → ChecksOne free s (Some (Exited code)) t w k l old new
-exits free s t code w k l old new a x = record { answers = a; found = x.0; finds = x.1; reports = x.2; watch = λ e. absurd (some_none (Exited code) e); knows = λ e. absurd (some_none (Exited code) e) }
+pub exits : (free : Bool) (s t : State) (code : ℕ) (w : Watch) (k l : Known) (old new : Reported) → Answers s (Some (Exited code)) t → Ends free s t k old new → IsKnownAfter s t k l → ChecksOne free s (Some (Exited code)) t w k l old new
+exits free s t code w k l old new a x knows = record { answers = a; found = x.0; finds = x.1; reports = x.2; watch = λ e. absurd (some_none (Exited code) e); knows = knows }
 
 -- what was kept is seen in its own memory
 seen_there : (s : State) (w : Watch) → IsWatch s.upper s.memory w → ((k : ℕ) → IfSome (slice_index_or s.memory.windows k None) (IsPage s.memory)) → IsSeen s.upper s.memory w
@@ -162,8 +164,10 @@ pages_there s x k =
 over_then : (free : Bool) (s t : State) (code : ℕ) (w : Watch) (k : Known) (r : Reported) → Answers s (Some (Exited code)) t → call_of s.cpu ≡ None → IsWatch s.upper s.memory w → AreConsistent s → ChecksOne free s (Some (Exited code)) t w k k r r
 over_then free s t code w k r a uncalled x linked =
     let F : State → Type 0 = λ u. FindsAtEnd s u k [] in
+    let G : State → Type 0 = λ u. IsKnownAfter s u k k in
     let ended = had_ended s t code uncalled a in
-    exits free s t code w k k r r a ([], subst F (sym (exit_changes_nothing s t code uncalled a)) (nothing_found s w k ended.0 uncalled ended.1 x (pages_there s linked)), reports_none free r)
+    let same = sym (exit_changes_nothing s t code uncalled a) in
+    exits free s t code w k k r r a ([], subst F same (nothing_found s w k ended.0 uncalled ended.1 x (pages_there s linked)), reports_none free r) (subst G same (known_still s s w w k uncalled x x))
 
 pub was_over : (free : Bool) (s t : State) (b : Before) (code : ℕ) (w : Watch) (k : Known) (r : Reported) → Answers s (Some (Exited code)) t → IsBefore s b → b.call ≡ None → IsWatch s.upper s.memory w → AreConsistent t → ChecksOne free s (Some (Exited code)) t w k k r r
 was_over free s t b code w k r a h e x linked =
@@ -180,9 +184,18 @@ none_at s t InputEnded k other = refl
 none_at s t Destroyed k other = refl
 none_at s t NoMemory k other = refl
 
+still_known : (s t : State) (stop : Stop) (k : Known) → ((code : ℕ) → stop ≡ Exited code → ⊥) → KnowsAtStop s stop t k k
+still_known s t (Exited code) k other = absurd (other code refl)
+still_known s t AllSteps k other = refl
+still_known s t Halted k other = refl
+still_known s t Unlisted k other = refl
+still_known s t InputEnded k other = refl
+still_known s t Destroyed k other = refl
+still_known s t NoMemory k other = refl
+
 -- no step was made
 pub stops : (free : Bool) (s t : State) (stop : Stop) (w : Watch) (k : Known) (r : Reported) → Answers s (Some stop) t → ((code : ℕ) → stop ≡ Exited code → ⊥) → ChecksOne free s (Some stop) t w k k r r
-stops free s t stop w k r a other = record { answers = a; found = []; finds = none_at s t stop k other; reports = reports_none free r; watch = λ e. absurd (some_none stop e); knows = λ e. absurd (some_none stop e) }
+stops free s t stop w k r a other = record { answers = a; found = []; finds = none_at s t stop k other; reports = reports_none free r; watch = λ e. absurd (some_none stop e); knows = still_known s t stop k other }
 
 -- ---- a step of an instruction that touches nothing that matters
 

@@ -17,7 +17,7 @@ use Rattle.dm_findings.specs.declared.calls.Call.{Call}
 use Rattle.dm_findings.specs.declared.calls.Call.TheVariants.{Dos, Interrupt}
 use Rattle.dm_findings.specs.declared.finding.Finding.TheVariants.{Refused}
 use Rattle.dm_findings.specs.Calls.{is_bare_return, call_by, call_of}
-use Rattle.dm_checker.specs.Calls.{is_arena, is_ending, is_console, is_system, is_served, may_be_refused, is_stray_block, refused_by_dos, call_findings}
+use Rattle.dm_calls.specs.Calls.{is_arena, is_ending, is_console, is_system, is_served, may_be_refused, is_stray_block, refused_by_dos, call_findings}
 use Rattle.dm_checker.specs.Laws.{UnservedCallsAreFound}
 use Rattle.dm_checker.proofs.Reading.{still_running}
 

@@ -21,7 +21,8 @@ use Rattle.dm_origins.specs.Origins.{Known, origin_of}
 use Rattle.dm_checker.specs.Shown.{Shown, IsShown}
 use Rattle.dm_checker.specs.Headers.{overwritten, mapped_away}
 use Rattle.dm_touches.specs.Found.{touch_findings}
-use Rattle.dm_checker.specs.Calls.{arranges, freed_twice, call_findings}
+use Rattle.dm_calls.specs.Calls.{arranges, call_findings}
+use Rattle.dm_checker.specs.Freed.{freed_twice}
 use Rattle.dm_checker.specs.Arranged.{arranged}
 
 -- the finding that the arena was whole and is destroyed, or was destroyed and is whole, by where its list breaks before

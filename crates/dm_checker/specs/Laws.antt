@@ -9,7 +9,7 @@ use Rattle.dm_findings.specs.declared.calls.Call.TheVariants.{Dos}
 use Rattle.dm_findings.specs.declared.finding.Finding.TheVariants.{Refused}
 use Rattle.dm_findings.specs.declared.finding.Found.{Found}
 use Rattle.dm_findings.specs.Calls.{call_of}
-use Rattle.dm_checker.specs.Calls.{is_served, call_findings}
+use Rattle.dm_calls.specs.Calls.{is_served, call_findings}
 use Rattle.dm_checker.specs.Checks.{Checks}
 
 -- a checked run is a run: the same steps, stop and state

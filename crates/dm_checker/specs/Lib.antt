@@ -1,10 +1,12 @@
 pub mod Shown
 pub mod Headers
-pub mod Calls
 pub mod Arranged
+pub mod Freed
+pub mod Courses
 pub mod Origins
 pub mod Findings
 pub mod Checks
+pub mod Processes
 pub mod Marking
 pub mod Clear
 pub mod Watching

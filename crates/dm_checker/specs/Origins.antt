@@ -1,4 +1,4 @@
--- Who allocated what there is, and who freed what is free, along a run.
+-- Who allocated what there is, who freed what is free, and which processes ran, along a run.
 use Rattle.std.specs.Prelude.{◌≡◌, ℕ, ◌+◌, if◌then◌else◌, Option, Some, None}
 use Rattle.dm_findings.specs.declared.calls.Call.{Call}
 use Rattle.dm_findings.specs.declared.calls.Call.TheVariants.{ExpandedMemory, ExtendedMemory}
@@ -9,7 +9,8 @@ use Rattle.dm_origins.specs.Origins.{Known, known_first, with_handles, with_bloc
 use Rattle.dm_state.specs.State.{State}
 use Rattle.dm_machine.specs.Step.{MakesStep}
 use Rattle.dm_checker.specs.Shown.{Shown, IsShown}
-use Rattle.dm_checker.specs.Calls.{arranges}
+use Rattle.dm_calls.specs.Calls.{arranges}
+use Rattle.dm_checker.specs.Courses.{present_process, with_course}
 
 -- the step from s to t, as who allocated or freed: its number, and where in its code the program performs it
 abbrev pub origin_at : State → State → Origin
@@ -23,12 +24,13 @@ if_both_whole None (Some at) k l = k
 
 -- what is known after the step from s to t with this call, if k was known before it: a call of a driver allocated the
 -- handles that were not in use, and one that may write headers freed the memory that is in a free block now, and was in
--- none before. `old` and `new` are what memory shows of the arena before and after the step
+-- none before, and may have started or ended a process. `old` and `new` are what memory shows of the arena before and
+-- after the step
 abbrev pub known_by : State → State → Shown → Shown → Option Call → Known → Known
 known_by s t old new (Some (ExpandedMemory number)) k = with_handles k t.ems (Some (origin_at s t))
 known_by s t old new (Some (ExtendedMemory number)) k = with_blocks k t.xms (Some (origin_at s t))
 known_by s t old new call k =
-    if arranges s.cpu call then if_both_whole old.broken new.broken k (with_freed k old.headers new.headers (origin_at s t)) else k
+    if arranges s.cpu call then with_course s t call (if_both_whole old.broken new.broken k (with_freed k old.headers new.headers (origin_at s t))) else k
 
 -- l is known after the step from s to t, if k was known before it
 pub record IsKnownAfter (s t : State) (k l : Known) : Type 0 where
@@ -38,7 +40,11 @@ pub record IsKnownAfter (s t : State) (k l : Known) : Type 0 where
   pub after : IsShown t.upper t.memory new
   pub is : l ≡ known_by s t old new (call_of s.cpu) k
 
+-- what is known in s, where a run begins
+abbrev pub known_at : State → Known
+known_at s = known_first s.ems s.xms (present_process s)
+
 -- n steps lead from s to this state, none of them ended the program, and this is known after them
 pub data OriginsIn (s : State) : ℕ → State → Known → Type 0 where
-  here : OriginsIn s 0 s (known_first s.ems s.xms)
+  here : OriginsIn s 0 s (known_at s)
   further : (n : ℕ) (t u : State) (k l : Known) → OriginsIn s n t k → MakesStep t (record { stop = None; state = u }) → IsKnownAfter t u k l → OriginsIn s (n + 1) u l

@@ -1,17 +1,18 @@
 //! Checked runs: a run of a machine, and the report of what was found in it.
 
-ghost use Rattle.std.specs.Prelude.{◌≡◌, ◌≢◌, [], false, IfOk, OnErr, ℕ, None};
+ghost use Rattle.std.specs.Prelude.{◌≡◌, ◌≢◌, [], false, true, IfOk, OnErr, ℕ, None};
 ghost use Rattle.dm_state.specs.State.{State, HasProgram};
 ghost use Rattle.dm_machine.specs.Run.{IsRun};
 ghost use Rattle.dm_findings.specs.Report.{report_of};
 ghost use Rattle.dm_checker.specs.Checks.{IsReport, RunsPart};
-ghost use Rattle.dm_checker.specs.Checking.{GoesOn, IsLonger, IsUnderWay};
+ghost use Rattle.dm_checker.specs.Checking.{GoesOn, GoesToFirst, HasProcesses, IsLonger, IsUnderWay};
 
 use crate::steps::{look_at_step, pass};
 use crate::watch::{Watch, read_arena};
 use dm_findings::Report;
 use dm_machine::{Machine, Stop};
 use dm_origins::Origins;
+use dm_processes::Process;
 use std::alloc::{AllocError, Global};
 use std::marker::Model;
 
@@ -68,7 +69,8 @@ impl CheckedRun {
     {
         let over = exit_code(machine);
         let kept = read_arena(alloc, machine)?;
-        let origins = Origins::new(alloc, machine.ems(), machine.xms())?;
+        let present = Process::at(machine.space(), machine.present(), machine.steps());
+        let origins = Origins::new(alloc, machine.ems(), machine.xms(), present)?;
         Ok(CheckedRun {
             report: Report::new(alloc),
             left: n,
@@ -91,7 +93,9 @@ impl CheckedRun {
         requires way { (s : State) × (n : ℕ) × IsUnderWay s n machine.old self.old }
         ensures ok { IfOk result (λ stop. (s : State) (n : ℕ) → IsUnderWay s n machine.old self.old → GoesOn s n stop machine.new self.old self.new) }
         ensures lines { IfOk result (λ stop. IsLonger self.old.report self.new.report) }
+        ensures processes { IfOk result (λ stop. (s : State) (n : ℕ) → IsUnderWay s n machine.old self.old → HasProcesses s n stop machine.new self.new) }
         ensures whole { IfOk result (λ stop. pausing ≡ false → stop ≢ None) }
+        ensures first { IfOk result (λ stop. pausing ≡ true → (s : State) (n : ℕ) → IsUnderWay s n machine.old self.old → GoesToFirst s n self.old machine.new self.new stop) }
         ensures err { OnErr result ((s : State) (n : ℕ) → IsUnderWay s n machine.old self.old → RunsPart s n machine.new) }
         ensures loaded { HasProgram machine.new }
     {
@@ -142,10 +146,27 @@ impl CheckedRun {
         requires way { (s : State) × (n : ℕ) × IsUnderWay s n machine.old self.old }
         ensures ok { IfOk result (λ stop. (s : State) (n : ℕ) → IsUnderWay s n machine.old self.old → GoesOn s n stop machine.new self.old self.new) }
         ensures lines { IfOk result (λ stop. IsLonger self.old.report self.new.report) }
+        ensures processes { IfOk result (λ stop. (s : State) (n : ℕ) → IsUnderWay s n machine.old self.old → HasProcesses s n stop machine.new self.new) }
+        ensures first { IfOk result (λ stop. (s : State) (n : ℕ) → IsUnderWay s n machine.old self.old → GoesToFirst s n self.old machine.new self.new stop) }
         ensures err { OnErr result ((s : State) (n : ℕ) → IsUnderWay s n machine.old self.old → RunsPart s n machine.new) }
         ensures loaded { HasProgram machine.new }
     {
         self.advance(alloc, machine, true)
+    }
+
+    /// The processes of the steps that were made, in the order of their starts: the one that was present where the run began,
+    /// and those that it has started. Each has its last step if it has ended.
+    pub fn processes(&self) -> &[Process]
+        ensures { result.now ≡ self.now.origins.processes }
+    {
+        self.origins.processes()
+    }
+
+    /// How many steps the run may still make, where it goes on.
+    pub fn left(&self) -> u64
+        ensures { result ≡ self.now.left }
+    {
+        self.left
     }
 
     /// The report of what is found so far.

@@ -4,13 +4,12 @@
 
 mod acts;
 mod arranged;
-mod calls;
 mod checks;
+mod freed;
 mod headers;
 mod laws;
 mod marking;
 mod noting;
-mod put;
 mod steps;
 mod touched;
 mod watch;

@@ -1,6 +1,7 @@
-//! Who allocated and who freed, kept along a run.
+//! Who allocated, who freed, and which processes ran, kept along a run.
 
 ghost use Rattle.std.specs.Prelude.{◌≡◌, map, Some, IfOk, OnOk};
+ghost use Rattle.dm_checker.specs.Courses.{with_course};
 ghost use Rattle.dm_state.specs.State.{State};
 ghost use Rattle.dm_origins.specs.Origins.{with_freed};
 ghost use Rattle.dm_checker.specs.Origins.{if_both_whole, known_by};
@@ -8,12 +9,13 @@ ghost use Rattle.dm_checker.specs.Watching.{header_of, broken_at, shown_of};
 ghost use Rattle.dm_checker.specs.inner.Steps.{IsBefore};
 
 use crate::acts::Before;
-use crate::calls::arranges;
 use crate::watch::{Watch, Watched};
 use dm_blocks::Header;
+use dm_calls::{arranges, ends_process, has_started};
 use dm_findings::{Call, Origin};
 use dm_machine::Machine;
 use dm_origins::Origins;
+use dm_processes::Process;
 use std::alloc::{AllocError, Global};
 
 /// The headers without their bytes. An `Err` is a failed allocation.
@@ -48,7 +50,27 @@ fn note_arena(
     Ok(())
 }
 
-/// Notes what a step allocated or freed. `before` is what was kept of the state before the step, `machine` is in the state
+/// Notes that a step started or ended a process, if it did. `before` is what was kept of the state before the step,
+/// `machine` is in the state after it. An `Err` is a failed allocation.
+fn note_course(
+    origins: &mut Origins,
+    before: &Before,
+    machine: &Machine,
+) -> Result<(), AllocError>
+    ensures { OnOk result ((s : State) → IsBefore s before.now → origins.new ≡ with_course s machine.now before.now.call origins.old) }
+{
+    let step = machine.steps();
+    if has_started(&before.cpu, &machine.cpu(), before.call) {
+        let process = Process::at(machine.space(), machine.present(), step);
+        return origins.note_start(process);
+    }
+    if ends_process(before.call) {
+        origins.note_end(step);
+    }
+    Ok(())
+}
+
+/// Notes what a step allocated or freed, and the process that it started or ended. `before` is what was kept of the state before the step, `machine` is in the state
 /// after it, `old` and `new` are the arena before it and after it. An `Err` is a failed allocation.
 pub(crate) fn note(
     alloc: Global,
@@ -70,6 +92,7 @@ pub(crate) fn note(
         call => {
             if arranges(&before.cpu, call) {
                 note_arena(alloc, origins, old, new, origin)?;
+                note_course(origins, before, machine)?;
             }
         }
     }

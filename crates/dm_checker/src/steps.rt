@@ -17,12 +17,12 @@ ghost use Rattle.dm_checker.specs.inner.Steps.{IsBefore, IsPart, Looks, ReportsM
 
 use crate::acts::Before;
 use crate::arranged::put_arranged;
-use crate::calls::{arranges, put_freed_twice, put_of_call, stays};
+use crate::freed::put_freed_twice;
 use crate::headers::{put_all_mapped_away, put_all_overwritten};
 use crate::noting::note;
-use crate::put::put;
 use crate::touched::put_touched;
 use crate::watch::{Broken, Watch, read_arena};
+use dm_calls::{arranges, put, put_of_call, stays};
 use dm_findings::{Act, Call, Finding, Found, Report};
 use dm_leaks::put_leaks;
 use dm_machine::{Machine, Stop, tables_and_memory_are_consistent};
@@ -179,7 +179,8 @@ fn check_end(
 ) -> Result<(), AllocError>
     requires before { (s : State) × IsBefore s before.now × IsWatch s.upper s.memory kept.old }
     requires call { before.now.call ≡ Some call }
-    ensures { OnOk result ((s : State) → IsBefore s before.now → IsWatch s.upper s.memory kept.old → FindsTouched s (shown_of kept.old) found.old.items → (more : List Found) × FindsAtEnd s machine.now origins.old more × ReportsMore free report.old report.new more) }
+    ensures knows { OnOk result ((s : State) → IsBefore s before.now → IsWatch s.upper s.memory kept.old → IsKnownAfter s machine.now origins.old origins.new) }
+    ensures finds { OnOk result ((s : State) → IsBefore s before.now → IsWatch s.upper s.memory kept.old → FindsTouched s (shown_of kept.old) found.old.items → (more : List Found) × FindsAtEnd s machine.now origins.old more × ReportsMore free report.old report.new more) }
 {
     look(alloc, found, before, kept, origins, machine)?;
     put_leaks(found, machine, stays(call))?;

@@ -12,10 +12,11 @@ use Rattle.dm_findings.specs.declared.report.Listed.{Listed}
 use Rattle.dm_findings.specs.Report.{Reported, report_of}
 use Rattle.dm_findings.proofs.Reports.{none-reported}
 use Rattle.dm_json.specs.declared.forms.Form.{Form}
-use Rattle.dm_json.specs.Forms.{found_in, lines_in, summary_in, report_in}
+use Rattle.dm_json.specs.Forms.{end_in, found_in, lines_in, processes_in, summary_in, report_in}
+use Rattle.dm_processes.specs.declared.process.Process.{Process}
 use Rattle.dm_checker.specs.Checks.{IsReport, here}
 use Rattle.dm_checker.specs.Checking.{UnderWay, IsUnderWay, IsLonger, founds, going, had_ended}
-use Rattle.dm_cli.specs.Checking.{IsLost, some_steps, all_steps}
+use Rattle.dm_cli.specs.Checking.{IsLost, all_in, some_steps, all_steps}
 use Rattle.dm_cli.specs.Messages.{Prints, HasPrinted, Stream, all, part}
 use Rattle.dm_cli.specs.inner.Checking.{HasFollowed}
 
@@ -76,7 +77,7 @@ pub lost_of : (form : Form) (s t : State) (n : ℕ) (c : UnderWay) (failed : Boo
 lost_of form s t n c failed a b (going e made watch) h =
     some_steps (n - c.left) t made.found (omega arith) made.finds
     (subst (λ (r : Reported). Prints (lines_in form r.listed) a b) made.reports (prints_of failed _ a b h))
-lost_of form s t n c failed a b (had_ended code e f g i) h =
+lost_of form s t n c failed a b (had_ended code e f g i first) h =
     some_steps 0 s [] (omega arith) here (subst (λ (r : Reported). Prints (lines_in form r.listed) a b) i (prints_of failed _ a b h))
 
 pub lost_with : (form : Form) (s t : State) (n : ℕ) (c : UnderWay) (free failed : Bool) (a b : Stream) → c.free ≡ free → IsUnderWay s n t c → HasPrinted failed (lines_in form c.report.listed) a b → IsLost s n free form a b
@@ -105,12 +106,14 @@ lost_all form s t n stop c d failed a b h = all_steps stop t d.report h.report (
 
 -- ---- the whole text
 
-pub whole_text : (form : Form) (r : Reported) (rest : List ℕ) → lines_in form r.listed ++ (summary_in form r ++ rest) ≡ report_in form r ++ rest
-whole_text form r rest = sym (append_assoc (lines_in form r.listed) (summary_in form r) rest)
+pub whole_text : (a b c d : List ℕ) → a ++ (b ++ c ++ d) ≡ a ++ b ++ c ++ d
+whole_text a b c d = sym (append_assoc a (b ++ c) d) ∙ ap (λ (l : List ℕ). l ++ d) (sym (append_assoc a b c))
 
-pub whole_printed : (form : Form) (now : Bool) (r : Reported) (rest text : List ℕ) (a b : Stream) → text ≡ summary_in form r ++ rest → HasPrinted now (lines_in form r.listed ++ text) a b → HasPrinted now (report_in form r ++ rest) a b
-whole_printed form now r rest text a b e h =
-    subst (λ (l : List ℕ). HasPrinted now l a b) (ap (λ (x : List ℕ). lines_in form r.listed ++ x) e ∙ whole_text form r rest) h
+pub whole_printed : (form : Form) (now : Bool) (r : Reported) (ps : List Process) (stop : Stop) (t : State) (text : List ℕ) (a b : Stream)
+    → text ≡ summary_in form r ++ processes_in form ps ++ end_in form stop t.memory t.cpu → HasPrinted now (lines_in form r.listed ++ text) a b → HasPrinted now (all_in form r ps stop t) a b
+whole_printed form now r ps stop t text a b e h =
+    subst (λ (l : List ℕ). HasPrinted now l a b)
+    (ap (λ (x : List ℕ). lines_in form r.listed ++ x) e ∙ whole_text (lines_in form r.listed) (summary_in form r) (processes_in form ps) (end_in form stop t.memory t.cpu)) h
 
 -- the lines of the findings that are listed now, behind those that were listed before
 pub grown : (form : Form) (old new : Reported) → IsLonger old new → (count : ℕ) → count ≡ length old.listed → (failed : Bool) (a b : Stream)

@@ -9,8 +9,10 @@ use Rattle.dm_machine.specs.Run.{IsRun}
 use Rattle.dm_findings.specs.declared.finding.Found.{Found}
 use Rattle.dm_findings.specs.Report.{Reported, report_of}
 use Rattle.dm_json.specs.declared.forms.Form.{Form}
-use Rattle.dm_json.specs.Forms.{form_of, lines_in, report_in, end_in}
+use Rattle.dm_json.specs.Forms.{form_of, lines_in, report_in, processes_in, end_in}
+use Rattle.dm_processes.specs.declared.process.Process.{Process}
 use Rattle.dm_checker.specs.Checks.{FindsIn, IsReport, reported}
+use Rattle.dm_checker.specs.Processes.{AreProcesses}
 use Rattle.dm_cli.specs.declared.fault.Fault.{Fault}
 use Rattle.dm_cli.specs.declared.fault.Fault.TheVariants.{OutOfMemory}
 use Rattle.dm_cli.specs.Messages.{Stream, Prints, HasPrinted}
@@ -42,17 +44,21 @@ pub data IsLost (s : State) (n : ℕ) (free : Bool) (form : Form) (error_before 
   all_steps : (stop : Stop) (t : State) (report : Reported) → IsReport s n free stop t report → Prints (lines_in form report.listed) error_before error_after
       → IsLost s n free form error_before error_after
 
+-- what is printed of a run that stopped: its report, the lines about its processes, and the line about its end
+abbrev pub all_in : Form → Reported → List Process → Stop → State → List ℕ
+all_in form report ps stop t = report_in form report ++ processes_in form ps ++ end_in form stop t.memory t.cpu
+
 -- `dm check`: the machine runs as for `dm run`; findings about free memory are left out by `--no-free`, and the
--- report is JSON by `--json`. The result is the exit status: the report with the line about the end of the run was printed on
+-- report is JSON by `--json`. The result is the exit status: the report with the processes and the end of the run was printed on
 -- standard error, or a first part of it (`failed`), and the whole output written to standard output; or a write of the output failed, after a first part, and the line of that fault was printed behind the
 -- report (`middle` is standard error between the two). Otherwise it is a fault: nothing was written to standard output, no
 -- write of it failed, and a part of the report may have been printed
 pub data Checks (files : List ℕ → Option (List ℕ)) (typed : Option (List ℕ)) (o : CheckOptions) (before after : Option (List ℕ)) (failed_before failed_after : ℕ) (error_before error_after : Stream) : Result ℕ Fault → Type 0 where
-  checked : (m t : State) (stop : Stop) (report : Reported) (failed : Bool) (status : ℕ) → IsStartedBy files typed o.machine m → IsRun m o.machine.steps stop t → IsReport m o.machine.steps (not o.no_free) stop t report
-      → Appends before after t.console.output → failed_after ≡ failed_before → HasPrinted failed (report_in (form_of o.json) report ++ end_in (form_of o.json) stop t.memory t.cpu) error_before error_after → status ≡ told_status failed (checked_status report stop)
+  checked : (m t : State) (stop : Stop) (report : Reported) (ps : List Process) (failed : Bool) (status : ℕ) → IsStartedBy files typed o.machine m → IsRun m o.machine.steps stop t → IsReport m o.machine.steps (not o.no_free) stop t report → AreProcesses m o.machine.steps stop t ps
+      → Appends before after t.console.output → failed_after ≡ failed_before → HasPrinted failed (all_in (form_of o.json) report ps stop t) error_before error_after → status ≡ told_status failed (checked_status report stop)
       → Checks files typed o before after failed_before failed_after error_before error_after (Ok status)
-  partly_written : (m t : State) (stop : Stop) (report : Reported) (middle : Stream) (failed : Bool) (status : ℕ) → IsStartedBy files typed o.machine m → IsRun m o.machine.steps stop t → IsReport m o.machine.steps (not o.no_free) stop t report
-      → AppendsPart before after t.console.output → HasFailed failed_before failed_after → HasPrinted failed (report_in (form_of o.json) report ++ end_in (form_of o.json) stop t.memory t.cpu) error_before middle
+  partly_written : (m t : State) (stop : Stop) (report : Reported) (ps : List Process) (middle : Stream) (failed : Bool) (status : ℕ) → IsStartedBy files typed o.machine m → IsRun m o.machine.steps stop t → IsReport m o.machine.steps (not o.no_free) stop t report → AreProcesses m o.machine.steps stop t ps
+      → AppendsPart before after t.console.output → HasFailed failed_before failed_after → HasPrinted failed (all_in (form_of o.json) report ps stop t) error_before middle
       → Prints unwritten_line middle error_after → status ≡ told_status failed (unwritten_status report) → Checks files typed o before after failed_before failed_after error_before error_after (Ok status)
   no_memory : (m : State) → IsStartedBy files typed o.machine m → IsLost m o.machine.steps (not o.no_free) (form_of o.json) error_before error_after → Keeps before after → failed_after ≡ failed_before
       → Checks files typed o before after failed_before failed_after error_before error_after (Err OutOfMemory)

@@ -1,8 +1,8 @@
 //! `dm check`: a run with a report of its findings on standard error, as a text or as JSON, whatever becomes of standard
-//! output. The line of a finding is printed when it is found; the summary and the line about the end of the run, which is
-//! empty in a text for an exit, follow at the end.
+//! output. The line of a finding is printed when it is found; the summary, the lines about processes, if there was more than
+//! one, and the line about the end of the run, which is empty in a text for an exit, follow at the end.
 ghost use Rattle.std.specs.Prelude.{◌≡◌, ◌++◌, ◌≤◌, [], List, ℕ, IfOk, OnErr, OnOk, drop, length};
-ghost use Rattle.dm_json.specs.Forms.{end_in, lines_in, summary_in};
+ghost use Rattle.dm_json.specs.Forms.{end_in, lines_in, processes_in, summary_in};
 ghost use Rattle.dm_checker.specs.Checking.{IsUnderWay};
 ghost use Rattle.dm_findings.specs.Report.{report_of};
 ghost use Rattle.dm_cli.specs.Checking.{Checks, IsLost, checked_status, told_status, unwritten_status};
@@ -18,28 +18,32 @@ use crate::loading::loaded;
 use crate::messages::{print_fault, print_now};
 use dm_checker::CheckedRun;
 use dm_findings::Report;
-use dm_json::{Form, form_of, put_end_in, put_lines_in, put_summary_in};
+use dm_json::{Form, form_of, put_end_in, put_lines_in, put_processes_in, put_summary_in};
 use dm_machine::{Machine, Out, Stop};
 use dm_options::command_line::CheckOptions;
 use dm_out::write_all;
+use dm_processes::Process;
 use std::alloc::{AllocError, Global};
 use std::io::Read;
 
 /// The exit status of a checked run in which errors were found.
 const ERRORS: u8 = 124;
 
-/// Appends the summary of a report, and the line about the stop of a machine, to `text`. An `Err` is a failed allocation.
+/// Appends the summary of a report, the lines about processes, and the line about the stop of a machine, to `text`. An
+/// `Err` is a failed allocation.
 fn put_end(
     text: &mut Vec<u8>,
     alloc: Global,
     form: Form,
     report: &Report,
+    processes: &[Process],
     stop: Stop,
     machine: &Machine,
 ) -> Result<(), AllocError>
-    ensures { OnOk result (text.new.items ≡ text.old.items ++ summary_in form report.now ++ end_in form stop machine.now.memory machine.now.cpu) }
+    ensures { OnOk result (text.new.items ≡ text.old.items ++ summary_in form report.now ++ processes_in form processes.now ++ end_in form stop machine.now.memory machine.now.cpu) }
 {
     put_summary_in(text, alloc, form, report)?;
+    put_processes_in(text, form, processes)?;
     put_end_in(text, alloc, form, stop, &machine.cpu(), machine.space())
 }
 
@@ -123,7 +127,7 @@ fn follow<E: Out>(
 
 /// Runs a machine for at most `steps` steps under the checker, with findings about free memory or without (`free`), and
 /// prints, in this form, the line of each finding that is listed on `error`, as it is found. Then it writes the output to `out`, and
-/// prints the summary and the line about the stop. If a write of the output failed, after a first part of it or none, it
+/// prints the summary, the processes and the line about the stop. If a write of the output failed, after a first part of it or none, it
 /// prints the fault after them. Returns the exit status, 126 if a part of the report could not be written. `OutOfMemory` if an allocation failed, before anything is
 /// written to `out`; then lines of findings may have been printed, but no summary.
 fn check_machine<W: Out, E: Out>(
@@ -148,7 +152,8 @@ fn check_machine<W: Out, E: Out>(
     };
     let report = run.report();
     let mut text = Vec::new(alloc);
-    let Ok(()) = put_end(&mut text, alloc, form, report, stop, machine) else {
+    let processes = run.processes();
+    let Ok(()) = put_end(&mut text, alloc, form, report, processes, stop, machine) else {
         return Err(Fault::OutOfMemory);
     };
     let written = write_all(out, machine.output());
@@ -163,8 +168,8 @@ fn check_machine<W: Out, E: Out>(
 }
 
 /// `dm check`: runs the first file under the checker, and prints the line of each finding that is listed on `error`, as
-/// it is found. Then it writes the program's output to `out`, and prints the summary and the line about the stop, and
-/// after them the fault of the output, if it was not written whole. Returns the exit status, or another fault, which is
+/// it is found. Then it writes the program's output to `out`, and prints the summary, the processes and the line about the
+/// stop, and after them the fault of the output, if it was not written whole. Returns the exit status, or another fault, which is
 /// not printed yet.
 pub(crate) fn check<'a, F: Storage, I: Read + Drop, W: Out, E: Out>(
     alloc: Global,

@@ -59,7 +59,7 @@ reply_text reply.Begun = codes "T05replaylog:begin;"
 reply_text (reply.Watch point) = watch_text point
 reply_text (reply.Exited code) = hex_text 87 code
 reply_text (reply.Bytes bytes) = encode_lower bytes
-reply_text reply.Help = encode_lower (codes "monitor takes R, U, D, M, P, X, O and step N" ++ 10 ∷ [])
+reply_text reply.Help = encode_lower (codes "monitor takes R, U, D, M, P, X, O, check and step N" ++ 10 ∷ [])
 reply_text reply.Passed = encode_lower (codes "this step has passed" ++ 10 ∷ [])
 reply_text reply.StoppedBefore = encode_lower (codes "the program has stopped before" ++ 10 ∷ [])
 reply_text reply.Abilities = codes "PacketSize=4000;qXfer:features:read+;swbreak+;hwbreak+;ReverseStep+;ReverseContinue+;QStartNoAckMode+;vContSupported+"

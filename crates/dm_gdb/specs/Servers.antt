@@ -23,6 +23,7 @@ use Rattle.dm_target.specs.Memory.{segment_below, readable, bytes_from, reads_as
 use Rattle.dm_target.specs.Registers.{has_register, register_bytes, all_registers}
 use Rattle.dm_target.specs.Settings.{registers_with}
 use Rattle.dm_gdb.specs.Description.{features_reply}
+use Rattle.dm_gdb.specs.Checking.{ChecksFrom, is_check}
 use Rattle.dm_gdb.specs.Monitor.{is_shown, is_shown_line, step_of, text_reply, stepped_reply}
 use Rattle.dm_target.specs.declared.going.Pause.{Pause}
 use Rattle.dm_target.specs.declared.going.Pause.TheVariants as pause
@@ -192,13 +193,14 @@ pub data Replies (s : Served) (most : ℕ) : Request → Reply → Served → Ty
   places : Replies s most request.Offsets (reply.Offsets s.base) s
   threads : Replies s most request.FirstThreads (threads_reply s.ended) s
   ends : Replies s most request.EndProgram reply.Done (record s { ended = true })
-  shows : (line : List ℕ) (command : Command) (text : List ℕ) → step_of line ≡ None → command_of line ≡ Some command → is_shown command ≡ true → Displays (new_session s.history.machine) command text
+  shows : (line : List ℕ) (command : Command) (text : List ℕ) → step_of line ≡ None → is_check line ≡ false → command_of line ≡ Some command → is_shown command ≡ true → Displays (new_session s.history.machine) command text
       → Replies s most (request.Command line) (text_reply text) s
-  helps : (line : List ℕ) → step_of line ≡ None → is_shown_line (command_of line) ≡ false → Replies s most (request.Command line) reply.Help s
+  helps : (line : List ℕ) → step_of line ≡ None → is_check line ≡ false → is_shown_line (command_of line) ≡ false → Replies s most (request.Command line) reply.Help s
   goes_to : (line : List ℕ) (n : ℕ) (why : Stop) (t : State) → step_of line ≡ Some n → s.history.machine.steps ≤ n → IsRun s.history.machine (n - s.history.machine.steps) why t
       → Replies s most (request.Command line) (stepped_reply why) (at_state s t)
   goes_back : (line : List ℕ) (n : ℕ) (q : Past) → step_of line ≡ Some n → n < s.history.machine.steps → GoesBack s.history n q → Replies s most (request.Command line) reply.Done (with_past s q)
   has_passed : (line : List ℕ) (n : ℕ) → step_of line ≡ Some n → n < s.history.origin.steps → Replies s most (request.Command line) reply.Passed s
+  checks : (line : List ℕ) (told : Reply) (t : State) → is_check line ≡ true → ChecksFrom s.history.machine told t → Replies s most (request.Command line) told (at_state s t)
   steps_back : (what : Undone) (q : Past) → Undoes s.points.watches s.history what q → Replies s most request.StepBack (undone_reply s.points.breaks what q.machine) (with_past s q)
   continues_back : (what : Undone) (q : Past) → Returns s.points.breaks s.points.watches s.history what q → Replies s most request.ContinueBack (undone_reply s.points.breaks what q.machine) (with_past s q)
   restarts : Replies s most request.Restart (reply.Signal 0x05) (restarted s)

@@ -1,3 +1,4 @@
 -- Definitions that private contracts and proofs alone name.
 pub mod Texts
 pub mod Monitor
+pub mod Checking

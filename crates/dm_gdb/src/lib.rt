@@ -5,6 +5,7 @@
 
 mod answers;
 mod back;
+mod checking;
 mod connection;
 mod description;
 mod digits;

@@ -8,6 +8,7 @@ ghost use Rattle.dm_gdb.specs.Servers.{Replies};
 ghost use Rattle.dm_gdb.specs.inner.Monitor.{ShowsLine};
 ghost use Rattle.dm_requests.specs.declared.request.Request.TheVariants as request;
 
+use crate::checking::is_check;
 use crate::replies::Reply;
 use crate::server::Server;
 use crate::texts::Text;
@@ -116,6 +117,9 @@ impl Server {
     {
         if let Some(number) = step_of(line) {
             return self.go_to(line, number);
+        }
+        if is_check(line) {
+            return self.check(line);
         }
         if !is_shown_line(line) {
             return Ok(Reply::Help);

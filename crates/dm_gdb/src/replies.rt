@@ -161,7 +161,7 @@ pub fn put_reply(alloc: Global, out: &mut Vec<u8>, reply: &Reply) -> Result<(), 
         Reply::Help => put_hex(
             alloc,
             out,
-            b"monitor takes R, U, D, M, P, X, O and step N\n",
+            b"monitor takes R, U, D, M, P, X, O, check and step N\n",
         ),
         Reply::Passed => put_hex(alloc, out, b"this step has passed\n"),
         Reply::StoppedBefore => put_hex(alloc, out, b"the program has stopped before\n"),

@@ -10,6 +10,9 @@ use Rattle.dm_findings.specs.Report.{Reported}
 use Rattle.dm_json.specs.declared.forms.Form.{Form}
 use Rattle.dm_json.specs.declared.forms.Form.TheVariants.{Text, Json}
 use Rattle.dm_json.specs.Objects.{found_object, summary_objects, end_object}
+use Rattle.dm_json.specs.Processes.{process_objects}
+use Rattle.dm_processes.specs.declared.process.Process.{Process}
+use Rattle.dm_reports.specs.Processes.{processes_text}
 use Rattle.dm_reports.specs.Reports.{summary_text}
 use Rattle.dm_reports.specs.Stops.{stopped_line}
 use Rattle.dm_reports.specs.Texts.{found_line}
@@ -39,6 +42,11 @@ summary_in Json r = summary_objects r
 -- a report: a line for each finding that it lists, and what follows them
 abbrev pub report_in : Form → Reported → List ℕ
 report_in form r = lines_in form r.listed ++ summary_in form r
+
+-- the lines about the processes of a run; none if there was one process alone
+abbrev pub processes_in : Form → List Process → List ℕ
+processes_in Text ps = processes_text ps
+processes_in Json ps = process_objects ps
 
 -- the line about the end of a run, by the memory and the registers then. A text has none for an exit
 abbrev pub end_in : Form → Stop → Memory → Cpu → List ℕ

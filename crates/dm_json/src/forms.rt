@@ -1,12 +1,14 @@
 //! The report of `dm check` in either form. Each function appends its text to `out`; an `Err` is a failed allocation.
 
 ghost use Rattle.std.specs.Prelude.{◌≡◌, ◌++◌, OnOk};
-ghost use Rattle.dm_json.specs.Forms.{end_in, form_of, found_in, lines_in, summary_in};
+ghost use Rattle.dm_json.specs.Forms.{end_in, form_of, found_in, lines_in, processes_in, summary_in};
 
 use crate::objects::{put_end_object, put_found_object, put_summary_objects};
+use crate::processes::put_process_objects;
 use dm_cpu::Cpu;
 use dm_findings::{Found, Listed, Report};
-use dm_reports::{put_found, put_stop, put_summary};
+use dm_processes::Process;
+use dm_reports::{put_found, put_processes, put_stop, put_summary};
 use dm_space::Space;
 use dm_state::Stop;
 use std::alloc::{AllocError, Global};
@@ -78,6 +80,24 @@ pub fn put_summary_in(
     match form {
         Form::Text => put_summary(out, report),
         Form::Json => put_summary_objects(out, alloc, report),
+    }
+}
+
+/// Appends the lines about the processes of a run, in the order of their starts; nothing if there was one process alone.
+///
+/// # Errors
+///
+/// `AllocError` if an allocation fails.
+pub fn put_processes_in(
+    out: &mut Vec<u8>,
+    form: Form,
+    processes: &[Process],
+) -> Result<(), AllocError>
+    ensures { OnOk result (out.new.items ≡ out.old.items ++ processes_in form processes.now) }
+{
+    match form {
+        Form::Text => put_processes(out, processes),
+        Form::Json => put_process_objects(out, processes),
     }
 }
 

@@ -263,7 +263,7 @@ fn put_members(out: &mut Vec<u8>, alloc: Global, found: &Found) -> Result<(), Al
 }
 
 /// Appends the beginning of a line, with the word that says what it is.
-fn put_opening(out: &mut Vec<u8>, word: &[u8]) -> Result<(), AllocError>
+pub(crate) fn put_opening(out: &mut Vec<u8>, word: &[u8]) -> Result<(), AllocError>
     ensures { OnOk result (out.new.items ≡ out.old.items ++ opening word.now) }
 {
     out.extend_from_slice(b"{\"type\":\"")?;

@@ -1,4 +1,5 @@
--- Who allocated what there is, and who freed what is free, as a run shows it: the step, and the caller in the program.
+-- Who allocated what there is, and who freed what is free, as a run shows it: the step, and the caller in the program;
+-- and which processes ran.
 -- Source: LIM EMS 4.0, section 2 (handles); XMS 3.0 (handles); MS-DOS Programmer's Reference, "Arena header", functions
 -- 48h, 49h and 4Ah.
 use Rattle.std.specs.Prelude.{ℕ, ◌+◌, ◌-◌, ◌/◌, ◌==◌, ◌&&◌, not, nat_lt, is_some, Bool, if◌then◌else◌, List, [], ◌∷◌, replicate, slice_index_or, Option, Some, None}
@@ -13,15 +14,17 @@ use Rattle.dm_findings.specs.declared.finding.Finding.TheVariants.{FreeRead, Fre
 use Rattle.dm_findings.specs.declared.finding.Kept.{Kept}
 use Rattle.dm_findings.specs.declared.finding.Kept.TheVariants as kept
 use Rattle.dm_findings.specs.declared.finding.Origin.{Origin}
+use Rattle.dm_processes.specs.declared.process.Process.{Process}
 use Rattle.dm_origins.specs.declared.handles.Since.{Since}
 use Rattle.dm_origins.specs.declared.handles.Since.TheVariants.{Unused, Used}
 
 -- what is known: of each handle of expanded memory (from 0) and of extended memory (from 1), whether it is in use, and
--- since when; of each paragraph below 10000h, the last step that freed it
+-- since when; of each paragraph below 10000h, the last step that freed it; and the processes, in the order of their starts
 pub record Known : Type 0 where
   pub handles : List Since
   pub blocks : List Since
   pub freed : List (Option Origin)
+  pub processes : List Process
 
 -- the list with each element changed by f, which takes its index, too; the first has index i
 unfoldable pub each_from : {A : Type 0} → (ℕ → A → A) → ℕ → List A → List A
@@ -55,13 +58,13 @@ with_handles k ems o = record k { handles = each_from (λ h x. seen (has_handle 
 abbrev pub with_blocks : Known → xms.Tables → Option Origin → Known
 with_blocks k tables o = record k { blocks = each_from (λ h x. seen (has_block tables h) o x) 0 k.blocks }
 
--- nothing is known
-unfoldable pub nothing_known : Known
-nothing_known = record { handles = replicate 64 Unused; blocks = replicate 64 Unused; freed = replicate 0x10000 None }
+-- nothing is known but this process
+unfoldable pub nothing_known : Process → Known
+nothing_known p = record { handles = replicate 64 Unused; blocks = replicate 64 Unused; freed = replicate 0x10000 None; processes = p ∷ [] }
 
--- what is known before a run: the handles that are in use
-abbrev pub known_first : Tables → xms.Tables → Known
-known_first ems tables = with_blocks (with_handles nothing_known ems None) tables None
+-- what is known before a run: the handles that are in use, and the process that is present
+abbrev pub known_first : Tables → xms.Tables → Process → Known
+known_first ems tables p = with_blocks (with_handles (nothing_known p) ems None) tables None
 
 -- ---- memory of the arena
 

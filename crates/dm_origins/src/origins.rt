@@ -1,15 +1,17 @@
 //! What is known in a run of who allocated and who freed.
 
-ghost use Rattle.std.specs.Prelude.{◌≡◌, ◌/◌, IfOk, replicate, slice_index_or};
+ghost use Rattle.std.specs.Prelude.{◌≡◌, ◌/◌, ◌++◌, ◌∷◌, [], IfOk, OnOk, replicate, slice_index_or};
 ghost use Rattle.dm_space.specs.Memory.{linear};
 ghost use Rattle.dm_origins.specs.Origins.{known_first, with_handles, with_blocks, with_freed, of_kept, of_paragraph, origin_of, origin_since};
 ghost use Rattle.dm_origins.specs.declared.handles.Since.TheVariants.{Unused};
+ghost use Rattle.dm_processes.specs.Processes.{with_end};
 
 use crate::freed::free_all;
 use crate::handles::{Since, look_at_blocks, look_at_handles};
 use dm_blocks::Header;
 use dm_ems::Ems;
 use dm_findings::{Finding, Kept, Origin};
+use dm_processes::{Process, end_innermost};
 use dm_touches::FarAddress;
 use dm_xms::Xms;
 use std::alloc::{AllocError, Global};
@@ -19,14 +21,15 @@ use std::marker::Model;
 const PARAGRAPHS: usize = 0x1_0000;
 
 /// Of each handle of expanded and of extended memory, whether it is in use and which step allocated it; of each paragraph
-/// below 10000h, which step was the last that freed it.
+/// below 10000h, which step was the last that freed it; and the processes that ran.
 ///
-/// Contracts see three lists.
+/// Contracts see four lists.
 #[derive(Drop)]
 pub struct Origins {
     handles: [Since; 64],
     blocks: [Since; 64],
     freed: Vec<Option<Origin>>,
+    processes: Vec<Process>,
 }
 
 impl Model for Origins {
@@ -35,7 +38,7 @@ impl Model for Origins {
 
     ghost Value = { Known };
 
-    ghost view = { λ r. record { handles = r.handles; blocks = r.blocks; freed = r.freed.items } };
+    ghost view = { λ r. record { handles = r.handles; blocks = r.blocks; freed = r.freed.items; processes = r.processes.items } };
 
     ghost invariant = { λ r. vec_len r.freed ≡ 0x10000 };
 }
@@ -53,20 +56,28 @@ fn never_freed(alloc: Global) -> Result<Vec<Option<Origin>>, AllocError>
 }
 
 impl Origins {
-    /// What is known before a run: which handles are in use. An `Err` is a failed allocation.
+    /// What is known before a run: which handles are in use, and the process that is present. An `Err` is a failed allocation.
     #[tactic(auto, unfolding(crate::specs::Origins::nothing_known))]
-    pub fn new(alloc: Global, ems: &Ems, xms: &Xms) -> Result<Origins, AllocError>
-        ensures { IfOk result (λ origins. origins ≡ known_first ems.now xms.now) }
+    pub fn new(
+        alloc: Global,
+        ems: &Ems,
+        xms: &Xms,
+        present: Process,
+    ) -> Result<Origins, AllocError>
+        ensures { IfOk result (λ origins. origins ≡ known_first ems.now xms.now present) }
     {
         let mut handles = [Since::Unused; 64];
         look_at_handles(&mut handles, ems, None);
         let mut blocks = [Since::Unused; 64];
         look_at_blocks(&mut blocks, xms, None);
         let freed = never_freed(alloc)?;
+        let mut processes = Vec::new(alloc);
+        processes.push(present)?;
         Ok(Origins {
             handles,
             blocks,
             freed,
+            processes,
         })
     }
 
@@ -90,6 +101,28 @@ impl Origins {
         ensures { self.new ≡ with_freed self.old old.now new.now origin }
     {
         free_all(&mut self.freed, old, new, origin);
+    }
+
+    /// Notes that a process has started. An `Err` is a failed allocation.
+    pub fn note_start(&mut self, process: Process) -> Result<(), AllocError>
+        ensures { OnOk result (self.new ≡ record self.old { processes = self.old.processes ++ process ∷ [] }) }
+    {
+        self.processes.push(process)?;
+        Ok(())
+    }
+
+    /// Notes that the innermost process has ended, by this step.
+    pub fn note_end(&mut self, step: u64)
+        ensures { self.new ≡ record self.old { processes = with_end step self.old.processes } }
+    {
+        end_innermost(&mut self.processes, step);
+    }
+
+    /// The processes that ran, in the order of their starts.
+    pub fn processes(&self) -> &[Process]
+        ensures { result.now ≡ self.now.processes }
+    {
+        &self.processes
     }
 
     /// The last step that freed a paragraph; None if there is none.

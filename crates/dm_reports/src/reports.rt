@@ -52,7 +52,11 @@ fn put_left_out(out: &mut Vec<u8>, unlisted: u64) -> Result<(), AllocError>
 }
 
 /// Appends the line about the findings that are left out, if there are any.
-fn put_unlisted(out: &mut Vec<u8>, unlisted: u64) -> Result<(), AllocError>
+///
+/// # Errors
+///
+/// `AllocError` if an allocation fails.
+pub fn put_unlisted(out: &mut Vec<u8>, unlisted: u64) -> Result<(), AllocError>
     ensures { OnOk result (out.new.items ≡ out.old.items ++ unlisted_line unlisted) }
 {
     if unlisted == 0 {

@@ -20,6 +20,7 @@ use Rattle.dm_checker.specs.declared.watch.Watch.{Watch}
 use Rattle.dm_checker.specs.Findings.{Finds, FindsTouched}
 use Rattle.dm_checker.specs.Origins.{IsKnownAfter}
 use Rattle.dm_checker.specs.Checks.{FindsAt, FindsAtStop, reported}
+use Rattle.dm_checker.specs.Processes.{KnowsAtStop}
 use Rattle.dm_checker.specs.Watching.{IsWatch, shown_of}
 
 -- b is what the checker keeps of the state s before a step: the registers, A20, the present process, the call, where in
@@ -77,6 +78,11 @@ abbrev pub FindsAtAny : State → Option Stop → State → Known → Known → 
 FindsAtAny s None t k l found = FindsAt s t l found
 FindsAtAny s (Some stop) t k l found = FindsAtStop s stop t k found
 
+-- l is known after a call of `step` from s to t, whether the machine goes on (None) or stops, if k was known before
+abbrev pub KnowsAtAny : State → Option Stop → State → Known → Known → Type 0
+KnowsAtAny s None t k l = IsKnownAfter s t k l
+KnowsAtAny s (Some stop) t k l = KnowsAtStop s stop t k l
+
 -- nothing is found of the step from s to t, and it allocates and frees nothing
 pub record IsPassing (s t : State) : Type 0 where
   pub finds : Finds s t []
@@ -96,4 +102,4 @@ pub record ChecksOne (free : Bool) (s : State) (stop : Option Stop) (t : State) 
   pub finds : FindsAtAny s stop t k l found
   pub reports : ReportsMore free old new found
   pub watch : stop ≡ None → IsWatch t.upper t.memory w
-  pub knows : stop ≡ None → IsKnownAfter s t k l
+  pub knows : KnowsAtAny s stop t k l

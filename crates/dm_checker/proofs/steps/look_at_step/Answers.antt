@@ -28,7 +28,7 @@ returns-in-Some-call-clause-ok c =
     let exited : c.make_step-stop.result ≡ Some (Exited code) = c.in-Some-Exited.is ∙ ap (λ (x : Stop). Some x) is in
     let touched = touched_calling s v c.of-before.result c.in-Some-call.call c.new-found.result.items c.put_touched.new.out.items c.new-found.ensures.items c.in_ok-put_touched.ensures before c.in-Some-call.is in
     subst F (sym exited)
-    (exits c.args.free s t code c.check_end.new.kept c.args.origins.now c.check_end.new.origins c.args.report.now c.check_end.new.report (subst A exited c.make_step-stop.ensures.answers) (c.in_ok-check_end-in-Some-Exited.ensures s before c.requires.watch touched))
+    (exits c.args.free s t code c.check_end.new.kept c.args.origins.now c.check_end.new.origins c.args.report.now c.check_end.new.report (subst A exited c.make_step-stop.ensures.answers) (c.in_ok-check_end-in-Some-Exited.ensures.finds s before c.requires.watch touched) (c.in_ok-check_end-in-Some-Exited.ensures.knows s before c.requires.watch))
 
 pub returns-in-Some-Exited-clause-ok : goal.returns-in-Some-Exited-clause-ok
 returns-in-Some-Exited-clause-ok c =

@@ -2,7 +2,7 @@ use Rattle.std.proofs.Common.{◌∙◌, ℕ, List, Option, None, length, refl, 
 use Rattle.dm_state.specs.declared.stop.Stop.{Stop}
 use Rattle.dm_state.specs.State.{State}
 use Rattle.dm_findings.specs.declared.report.Listed.{Listed}
-use Rattle.dm_checker.specs.Checking.{GoesOn, IsUnderWay}
+use Rattle.dm_checker.specs.Checking.{GoesOn, HasProcesses, IsUnderWay}
 use Rattle.dm_checker.proofs.Checking.{at_err}
 use Rattle.dm_cli.proofs.Following.{none_listed, first_printed, lines_few, grown_by, lost_with, lost_kept, report_free}
 use Rattle.dm_cli.proofs.checking.follow.Goals as goal
@@ -42,6 +42,7 @@ returns-in-Some-clause-ok g c s n way =
     let run = c.go_on.new.self in
     let goes = subst (λ (o : Option Stop). GoesOn s n o t c.loop-stop.run run) c.in-Some.is (c.in_ok-stop.ensures.ok s n (c.loop-stop.invariant.way s n way)) in
     record {
+      processes = subst (λ (o : Option Stop). HasProcesses s n o t run) c.in-Some.is (c.in_ok-stop.ensures.processes s n (c.loop-stop.invariant.way s n way));
       report = report_free s t n c.loop-stop.run.free c.args.run.now.free c.in-Some.stop run.report c.loop-stop.invariant.free goes;
       printed = grown_by c.args.form c.loop-stop.run.report run.report c.report.result.now c.report.ensures c.in_ok-stop.ensures.lines c.loop-stop.count c.loop-stop.invariant.count c.in_ok-failed.failed _ _ (c.in_ok-failed.ensures.ok _ _ c.loop-stop.invariant.printed);
     }

@@ -1,12 +1,13 @@
-use Rattle.std.proofs.Common.{◌≡◌, ◌∙◌, ◌-◌, ◌<◌, ◌≤◌, Bool, Option, Some, None, ap, sym, subst, arith}
+use Rattle.std.proofs.Common.{◌≡◌, ◌∙◌, ◌-◌, ◌<◌, ◌≤◌, Bool, Option, Some, None, refl, ap, sym, subst, arith}
 use Rattle.dm_state.specs.declared.stop.Stop.{Stop}
 use Rattle.dm_state.specs.declared.stop.Stop.TheVariants.{Steps as AllSteps}
 use Rattle.dm_checker.specs.Checks.{IsReport}
 use Rattle.dm_checker.specs.Checking.{UnderWay, going}
 use Rattle.dm_checker.specs.inner.Steps.{ChecksOne}
+use Rattle.dm_checker.specs.inner.Steps as steps
 use Rattle.dm_checker.proofs.Checking.{HasChecked, checked_all, at_err}
 use Rattle.dm_checker.proofs.Longer.{longer_on}
-use Rattle.dm_checker.proofs.Underway.{ended_of, going_of, made_of, all_made, stopped, gone_on, part_lost, listed_on}
+use Rattle.dm_checker.proofs.Underway.{ended_of, ended_processes, first_ended, going_of, made_of, all_made, all_processes, first_whole, stopped, stop_processes, first_stopped, gone_on, first_listed, part_lost, listed_on}
 use Rattle.dm_checker.proofs.checks.CheckedRun.advance.Goals as goal
 
 pub returns-in-Some-clause-ok : goal.returns-in-Some-clause-ok
@@ -110,6 +111,7 @@ loop-preserved c =
           gone_on c.self.inside.free s c.loop.machine u n c.loop.left c.pass-left.result c.loop.self-inside.origins c.loop.self-inside.report few (c.loop.invariant.checked s n way) c.pass-left.ensures.passes less
           v c.look_at_step.new.kept c.look_at_step.new.origins report x;
       few = omega (arith, c.loop.invariant.few, less);
+      no_more = ?;
       longer =
           let s = c.requires.way.0 in
           let n = c.requires.way.1 in
@@ -133,3 +135,98 @@ returns-clause-ok c s n way =
     let all : n - c.loop.left ≡ n = omega (arith, c.loop.invariant.few, c.loop-test.false, most, g) in
     subst (λ (f : Bool). IsReport s n f AllSteps c.loop.machine c.loop.self-inside.report) free
     (checked_all c.self.inside.free s c.loop.machine (n - c.loop.left) n c.loop.self-inside.origins c.loop.self-inside.report (c.loop.invariant.checked s n way) all)
+
+-- ---- the processes
+
+pub returns-in-Some-clause-processes : goal.returns-in-Some-clause-processes
+returns-in-Some-clause-processes c s n way =
+    let over : c.args.self.now.over ≡ Some c.in-Some.code = sym (ap (λ (u : UnderWay). u.over) c.self.view_is) ∙ c.in-Some.is in
+    ended_processes s c.args.machine.now n c.in-Some.code c.args.self.now over way
+
+pub returns-then-left-eq0-clause-processes : goal.returns-then-left-eq0-clause-processes
+returns-then-left-eq0-clause-processes c s n way =
+    let free : c.self.inside.free ≡ c.args.self.now.free = ap (λ (u : UnderWay). u.free) c.self.view_is in
+    let most : c.args.self.now.left ≡ c.self.inside.left = sym (ap (λ (u : UnderWay). u.left) c.self.view_is) in
+    let over : c.args.self.now.over ≡ None = sym (ap (λ (u : UnderWay). u.over) c.self.view_is) ∙ c.in_default.is in
+    let few : c.loop.left ≤ n = (let g = (going_of s c.args.machine.now n c.args.self.now over way).few in omega (arith, c.loop.invariant.few, most, g)) in
+    let h = c.loop.invariant.checked s n way in
+    let all : c.pass-left.result ≡ c.loop.left = omega (arith, c.if-left-eq0.true, c.pass-left.ensures.most) in
+    all_processes c.self.inside.free s c.loop.machine c.pass-left.new.machine n c.loop.left c.pass-left.result c.loop.self-inside.origins c.loop.self-inside.report few h c.pass-left.ensures.passes all
+
+pub returns-in-Some-2-clause-processes : goal.returns-in-Some-2-clause-processes
+returns-in-Some-2-clause-processes c s n way =
+    let free : c.self.inside.free ≡ c.args.self.now.free = ap (λ (u : UnderWay). u.free) c.self.view_is in
+    let most : c.args.self.now.left ≡ c.self.inside.left = sym (ap (λ (u : UnderWay). u.left) c.self.view_is) in
+    let over : c.args.self.now.over ≡ None = sym (ap (λ (u : UnderWay). u.over) c.self.view_is) ∙ c.in_default.is in
+    let few : c.loop.left ≤ n = (let g = (going_of s c.args.machine.now n c.args.self.now over way).few in omega (arith, c.loop.invariant.few, most, g)) in
+    let h = c.loop.invariant.checked s n way in
+    let less : c.pass-left.result < c.loop.left = omega (arith, c.if-left-eq0.false, c.pass-left.ensures.most) in
+    let F : Option Stop → Type 0 = λ o. ChecksOne c.self.inside.free c.pass-left.new.machine o c.look_at_step.new.machine c.look_at_step.new.kept c.loop.self-inside.origins c.look_at_step.new.origins c.loop.self-inside.report c.look_at_step.new.report in
+    stop_processes c.self.inside.free s c.loop.machine c.pass-left.new.machine n c.loop.left c.pass-left.result c.loop.self-inside.origins c.loop.self-inside.report few h c.pass-left.ensures.passes less
+    c.look_at_step.new.machine c.in-Some-2.stop c.look_at_step.new.kept c.look_at_step.new.origins c.look_at_step.new.report (subst F c.in-Some-2.is c.in_ok-stop.ensures.ok)
+
+pub returns-clause-processes : goal.returns-clause-processes
+returns-clause-processes c s n way =
+    let free : c.self.inside.free ≡ c.args.self.now.free = ap (λ (u : UnderWay). u.free) c.self.view_is in
+    let most : c.args.self.now.left ≡ c.self.inside.left = sym (ap (λ (u : UnderWay). u.left) c.self.view_is) in
+    let over : c.args.self.now.over ≡ None = sym (ap (λ (u : UnderWay). u.over) c.self.view_is) ∙ c.in_default.is in
+    let few : c.loop.left ≤ n = (let g = (going_of s c.args.machine.now n c.args.self.now over way).few in omega (arith, c.loop.invariant.few, most, g)) in
+    let h = c.loop.invariant.checked s n way in
+    let none : 0 ≡ c.loop.left = omega (arith, c.loop.invariant.few, c.loop-test.false) in
+    all_processes c.self.inside.free s c.loop.machine c.loop.machine n c.loop.left 0 c.loop.self-inside.origins c.loop.self-inside.report few h steps.here none
+
+-- ---- up to the first finding that is not listed yet
+
+pub returns-in-Some-clause-first : goal.returns-in-Some-clause-first
+returns-in-Some-clause-first c pausing s n way =
+    let over : c.args.self.now.over ≡ Some c.in-Some.code = sym (ap (λ (u : UnderWay). u.over) c.self.view_is) ∙ c.in-Some.is in
+    first_ended s c.args.machine.now n c.in-Some.code c.args.self.now _ over refl way
+
+pub returns-then-left-eq0-clause-first : goal.returns-then-left-eq0-clause-first
+returns-then-left-eq0-clause-first c pausing s n way =
+    let free : c.self.inside.free ≡ c.args.self.now.free = ap (λ (u : UnderWay). u.free) c.self.view_is in
+    let most : c.args.self.now.left ≡ c.self.inside.left = sym (ap (λ (u : UnderWay). u.left) c.self.view_is) in
+    let over : c.args.self.now.over ≡ None = sym (ap (λ (u : UnderWay). u.over) c.self.view_is) ∙ c.in_default.is in
+    let few : c.loop.left ≤ n = (let g = (going_of s c.args.machine.now n c.args.self.now over way).few in omega (arith, c.loop.invariant.few, most, g)) in
+    let h = c.loop.invariant.checked s n way in
+    let all : c.pass-left.result ≡ c.loop.left = omega (arith, c.if-left-eq0.true, c.pass-left.ensures.most) in
+    first_whole c.self.inside.free s c.loop.machine c.pass-left.new.machine n c.loop.left c.pass-left.result c.loop.self-inside.origins c.loop.self-inside.report few h c.pass-left.ensures.passes
+    c.args.self.now _ (sym free) c.loop.invariant.longer (c.loop.invariant.no_more pausing) all refl
+
+pub returns-in-Some-2-clause-first : goal.returns-in-Some-2-clause-first
+returns-in-Some-2-clause-first c pausing s n way =
+    let free : c.self.inside.free ≡ c.args.self.now.free = ap (λ (u : UnderWay). u.free) c.self.view_is in
+    let most : c.args.self.now.left ≡ c.self.inside.left = sym (ap (λ (u : UnderWay). u.left) c.self.view_is) in
+    let over : c.args.self.now.over ≡ None = sym (ap (λ (u : UnderWay). u.over) c.self.view_is) ∙ c.in_default.is in
+    let few : c.loop.left ≤ n = (let g = (going_of s c.args.machine.now n c.args.self.now over way).few in omega (arith, c.loop.invariant.few, most, g)) in
+    let h = c.loop.invariant.checked s n way in
+    let less : c.pass-left.result < c.loop.left = omega (arith, c.if-left-eq0.false, c.pass-left.ensures.most) in
+    let F : Option Stop → Type 0 = λ o. ChecksOne c.self.inside.free c.pass-left.new.machine o c.look_at_step.new.machine c.look_at_step.new.kept c.loop.self-inside.origins c.look_at_step.new.origins c.loop.self-inside.report c.look_at_step.new.report in
+    first_stopped c.self.inside.free s c.loop.machine c.pass-left.new.machine n c.loop.left c.pass-left.result c.loop.self-inside.origins c.loop.self-inside.report few h c.pass-left.ensures.passes
+    c.args.self.now _ (sym free) c.loop.invariant.longer (c.loop.invariant.no_more pausing) less
+    c.look_at_step.new.machine c.in-Some-2.stop c.look_at_step.new.kept c.look_at_step.new.origins (subst F c.in-Some-2.is c.in_ok-stop.ensures.ok)
+
+pub returns-then-listed-clause-first : goal.returns-then-listed-clause-first
+returns-then-listed-clause-first c pausing s n way =
+    let free : c.self.inside.free ≡ c.args.self.now.free = ap (λ (u : UnderWay). u.free) c.self.view_is in
+    let most : c.args.self.now.left ≡ c.self.inside.left = sym (ap (λ (u : UnderWay). u.left) c.self.view_is) in
+    let over : c.args.self.now.over ≡ None = sym (ap (λ (u : UnderWay). u.over) c.self.view_is) ∙ c.in_default.is in
+    let few : c.loop.left ≤ n = (let g = (going_of s c.args.machine.now n c.args.self.now over way).few in omega (arith, c.loop.invariant.few, most, g)) in
+    let h = c.loop.invariant.checked s n way in
+    let less : c.pass-left.result < c.loop.left = omega (arith, c.if-left-eq0.false, c.pass-left.ensures.most) in
+    let F : Option Stop → Type 0 = λ o. ChecksOne c.self.inside.free c.pass-left.new.machine o c.look_at_step.new.machine c.look_at_step.new.kept c.loop.self-inside.origins c.look_at_step.new.origins c.loop.self-inside.report c.look_at_step.new.report in
+    let more = ? in
+    first_listed c.self.inside.free s c.loop.machine c.pass-left.new.machine n c.loop.left c.pass-left.result c.loop.self-inside.origins c.loop.self-inside.report few h c.pass-left.ensures.passes
+    c.args.self.now _ (sym free) c.loop.invariant.longer (c.loop.invariant.no_more pausing) less
+    c.look_at_step.new.machine c.look_at_step.new.kept c.look_at_step.new.origins (subst F c.in_default-2.is c.in_ok-stop.ensures.ok) refl more
+
+pub returns-clause-first : goal.returns-clause-first
+returns-clause-first c pausing s n way =
+    let free : c.self.inside.free ≡ c.args.self.now.free = ap (λ (u : UnderWay). u.free) c.self.view_is in
+    let most : c.args.self.now.left ≡ c.self.inside.left = sym (ap (λ (u : UnderWay). u.left) c.self.view_is) in
+    let over : c.args.self.now.over ≡ None = sym (ap (λ (u : UnderWay). u.over) c.self.view_is) ∙ c.in_default.is in
+    let few : c.loop.left ≤ n = (let g = (going_of s c.args.machine.now n c.args.self.now over way).few in omega (arith, c.loop.invariant.few, most, g)) in
+    let h = c.loop.invariant.checked s n way in
+    let none : 0 ≡ c.loop.left = omega (arith, c.loop.invariant.few, c.loop-test.false) in
+    first_whole c.self.inside.free s c.loop.machine c.loop.machine n c.loop.left 0 c.loop.self-inside.origins c.loop.self-inside.report few h steps.here
+    c.args.self.now _ (sym free) c.loop.invariant.longer (c.loop.invariant.no_more pausing) none refl

@@ -1,16 +1,14 @@
--- Which calls may change the arena, and the findings about calls: blocks freed twice, calls that failed, and division
--- errors.
+-- Which calls may change the arena, and the findings about calls: calls that failed, and division errors.
 -- Source: MS-DOS Programmer's Reference, "System Calls" (CF and AX); LIM EMS 4.0, section 3 (AH is the status); XMS 3.0
 -- (AX, and BL the error).
 use Rattle.std.specs.Prelude.{ℕ, ◌+◌, ◌==◌, ◌&&◌, ◌||◌, not, Bool, true, false, if◌then◌else◌, List, [], ◌∷◌, Option, Some, None}
 use Rattle.dm_ins.specs.declared.operand.ByteRegister.TheVariants.{Ah, Al, Bl}
 use Rattle.dm_cpu.specs.declared.cpu.Cpu.{Cpu}
 use Rattle.dm_cpu.specs.Cpu.{byte_of}
-use Rattle.dm_blocks.specs.declared.header.Header.{Header}
 use Rattle.dm_findings.specs.declared.calls.Call.{Call}
 use Rattle.dm_findings.specs.declared.calls.Call.TheVariants.{DivideError, Terminate, Dos, ExpandedMemory, Multiplex, ExtendedMemory, Interrupt}
 use Rattle.dm_findings.specs.declared.finding.Finding.{Finding}
-use Rattle.dm_findings.specs.declared.finding.Finding.TheVariants.{FreedTwice, Refused, NotAllocated, Short, DivisionError, NotServed}
+use Rattle.dm_findings.specs.declared.finding.Finding.TheVariants.{Refused, NotAllocated, Short, DivisionError, NotServed}
 
 -- ---- calls that write headers
 
@@ -47,20 +45,6 @@ stays (ExpandedMemory number) = false
 stays Multiplex = false
 stays (ExtendedMemory number) = false
 stays (Interrupt number) = false
-
--- ---- a block that is freed twice
-
--- whether one of the headers is that of the block at the segment, and the block is free (owner 0)
-abbrev pub is_free_at : List Header → ℕ → Bool
-is_free_at [] segment = false
-is_free_at (b ∷ headers) segment = ((b.segment + 1 == segment) && (b.owner == 0)) || is_free_at headers segment
-
--- the finding that a call of 49h succeeded for the block at segment ES, which was free before; none for any other call.
--- c and d are the registers before and after the call, `headers` the arena before it
-abbrev pub freed_twice : Cpu → Cpu → Option Call → List Header → List Finding
-freed_twice c d (Some (Dos number)) headers =
-    if (number == 0x49) && not d.flags.carry && is_free_at headers c.es then FreedTwice c.es ∷ [] else []
-freed_twice c d _ headers = []
 
 -- ---- refusals, by the registers before and after a call
 

@@ -1,13 +1,10 @@
-//! Which calls may change the arena, and the findings about calls: blocks freed twice, calls that failed, and division
-//! errors (MS-DOS Programmer's Reference, "System Calls"; LIM EMS 4.0, section 3; XMS 3.0). Each function `put_..`
+//! Which calls may change the arena, and the findings about calls: calls that failed, and division errors (MS-DOS Programmer's Reference, "System Calls"; LIM EMS 4.0, section 3; XMS 3.0). Each function `put_..`
 //! appends its findings to `out`; an `Err` is a failed allocation.
 
-ghost use Rattle.std.specs.Prelude.{◌≡◌, ◌++◌, map, OnOk};
-ghost use Rattle.dm_checker.specs.Calls.{is_arena, is_ending, is_starting, arranges, stays, is_free_at, freed_twice, refusal, refused_by_dos, refused_by_status, refused_by_error, is_console, is_system, is_served, call_findings};
-ghost use Rattle.dm_checker.specs.Watching.{header_of};
+ghost use Rattle.std.specs.Prelude.{◌≡◌, ◌++◌, OnOk};
+ghost use Rattle.dm_calls.specs.Calls.{is_arena, is_ending, is_starting, arranges, stays, refusal, refused_by_dos, refused_by_status, refused_by_error, is_console, is_system, is_served, call_findings};
 
-use crate::put::put;
-use crate::watch::Watched;
+use crate::appending::put;
 use dm_cpu::Cpu;
 use dm_findings::{Call, Finding};
 use dm_ins::ByteRegister;
@@ -21,7 +18,7 @@ fn is_arena(number: u8) -> bool
 }
 
 /// Whether INT 21h has a function with this number that ends a process: 00h, 31h or 4Ch.
-fn is_ending(number: u8) -> bool
+pub(crate) fn is_ending(number: u8) -> bool
     ensures { result ≡ is_ending number }
 {
     number == 0x00 || number == 0x31 || number == 0x4C
@@ -29,14 +26,14 @@ fn is_ending(number: u8) -> bool
 
 /// Whether the call of INT 21h with this number and these registers may start a process: 4Bh, but not with AL = 3.
 /// (With any other AL but 0 it fails.)
-fn is_starting(cpu: &Cpu, number: u8) -> bool
+pub(crate) fn is_starting(cpu: &Cpu, number: u8) -> bool
     ensures { result ≡ is_starting cpu.now number }
 {
     number == 0x4B && cpu.byte(ByteRegister::Al) != 3
 }
 
 /// Whether a call is one that may write headers: a call of the arena, or a start or an end of a process.
-pub(crate) fn arranges(cpu: &Cpu, call: Option<Call>) -> bool
+pub fn arranges(cpu: &Cpu, call: Option<Call>) -> bool
     ensures { result ≡ arranges cpu.now call }
 {
     match call {
@@ -49,45 +46,13 @@ pub(crate) fn arranges(cpu: &Cpu, call: Option<Call>) -> bool
 }
 
 /// Whether a call is function 31h of INT 21h, by which a process ends and stays resident.
-pub(crate) fn stays(call: Call) -> bool
+pub fn stays(call: Call) -> bool
     ensures { result ≡ stays call }
 {
     match call {
         Call::Dos(number) => number == 0x31,
         _ => false,
     }
-}
-
-/// Whether one of the headers is that of the block at `segment`, and the block is free.
-fn is_free_at(headers: &[Watched], segment: u16) -> bool
-    ensures { result ≡ is_free_at (map header_of headers.now) segment }
-{
-    for watched in headers {
-        if watched.header.segment as u32 + 1 == segment as u32 && watched.header.owner == 0 {
-            return true;
-        }
-    }
-    false
-}
-
-/// Appends that a block was freed twice, if the call was 49h, succeeded, and the block at ES was free before. `before`
-/// and `after` are the registers before and after the call, `headers` the arena before it.
-pub(crate) fn put_freed_twice(
-    out: &mut Vec<Finding>,
-    before: &Cpu,
-    after: &Cpu,
-    call: Option<Call>,
-    headers: &[Watched],
-) -> Result<(), AllocError>
-    ensures { OnOk result (out.new.items ≡ out.old.items ++ freed_twice before.now after.now call (map header_of headers.now)) }
-{
-    let Some(Call::Dos(number)) = call else {
-        return Ok(());
-    };
-    if number == 0x49 && !after.flags.carry && is_free_at(headers, before.es) {
-        return put(out, Finding::FreedTwice(before.es));
-    }
-    Ok(())
 }
 
 /// The finding that a call failed with this code: an error if the call frees or resizes what is not allocated
@@ -192,7 +157,7 @@ fn is_served(number: u8) -> bool
 /// Appends what is found of a call, by the registers before and after it: that it failed, that it is interrupt 0, by
 /// which a division error ends the process, or an interrupt that is not served. Of INT 21h, only functions 48h, 49h,
 /// 4Ah, 4Bh and 58h are looked at, and those that are not served.
-pub(crate) fn put_of_call(
+pub fn put_of_call(
     out: &mut Vec<Finding>,
     before: &Cpu,
     after: &Cpu,
