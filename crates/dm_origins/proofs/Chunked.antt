@@ -35,8 +35,8 @@ none_freed m n =
     let ms : List Step = replicate m None in
     let ps : List Step = replicate n None in
     ext_get_or None (freed_by ms ps) ps (length-freed_by ms ps) (λ p less.
-        (let inside : p < length ps = omega (arith, less, length-freed_by ms ps) in
-        at-freed_by ms ps p inside ∙ ap₂ (λ (x y : Step). option_or x y) (none_at m (p / 256)) (none_at n p) ∙ sym (none_at n p)))
+    (let inside : p < length ps = omega (arith, less, length-freed_by ms ps) in
+    at-freed_by ms ps p inside ∙ ap₂ (λ (x y : Step). option_or x y) (none_at m (p / 256)) (none_at n p) ∙ sym (none_at n p)))
 
 -- ---- the paragraphs of a chunk
 
@@ -92,13 +92,13 @@ pub unmarked : (ms ps qs : List Step) (c : ℕ) (o : Origin) → c < length ms �
 unmarked ms ps qs c o fits was written =
     let ns : List Step = set ms c None in
     ext_get_or None (freed_by ns qs) (freed_by ms ps) (length-freed_by ns qs ∙ written.count ∙ sym (length-freed_by ms ps)) (λ p less.
-        (let over : p < length qs = omega (arith, less, length-freed_by ns qs) in
-        let inside : p < length ps = omega (arith, over, written.count) in
-        let w = within (c * 256) (c * 256 + 256) p in
-        let here : w ≡ true → get_or ms (p / 256) None ≡ Some o = λ e. ap (λ (i : ℕ). get_or ms i None) (in_chunk c (c * 256) (c * 256 + 256) p (omega arith) (omega arith) e) ∙ was in
-        at-freed_by ns qs p over
-        ∙ unmarked_case w (get_or ms (p / 256) None) (get_or ns (p / 256) None) (get_or ps p None) (get_or qs p None) o (written.at p inside) here (mark_in ms c p None fits) (mark_out ms c p None)
-        ∙ sym (at-freed_by ms ps p inside)))
+    (let over : p < length qs = omega (arith, less, length-freed_by ns qs) in
+    let inside : p < length ps = omega (arith, over, written.count) in
+    let w = within (c * 256) (c * 256 + 256) p in
+    let here : w ≡ true → get_or ms (p / 256) None ≡ Some o = λ e. ap (λ (i : ℕ). get_or ms i None) (in_chunk c (c * 256) (c * 256 + 256) p (omega arith) (omega arith) e) ∙ was in
+    at-freed_by ns qs p over
+    ∙ unmarked_case w (get_or ms (p / 256) None) (get_or ns (p / 256) None) (get_or ps p None) (get_or qs p None) o (written.at p inside) here (mark_in ms c p None fits) (mark_out ms c p None)
+    ∙ sym (at-freed_by ms ps p inside)))
 
 -- ---- paragraphs of a chunk that has no mark
 

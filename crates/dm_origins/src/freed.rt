@@ -60,13 +60,7 @@ fn same_until(headers: &[Header], at: usize, last: usize) -> usize
 
 /// Sets the origin of a run of paragraphs from `at` on, up to `last` at most, if they were not free in the list `old`.
 /// Returns the paragraph after it.
-fn free_run(
-    freed: &mut Chunks,
-    old: &[Header],
-    at: usize,
-    last: usize,
-    origin: Origin,
-) -> usize
+fn free_run(freed: &mut Chunks, old: &[Header], at: usize, last: usize, origin: Origin) -> usize
     requires count { length freed.old ≡ 0x10000 }
     requires order { at ≤ last }
     requires fits { last < 0x10000 }
@@ -127,13 +121,7 @@ fn number_near(old: &[Header], near: usize, segment: u16) -> usize
 
 /// Does what [`free_block`] does; it asks the block number `near` of the list `old` first, in which most blocks lie that
 /// were free.
-fn free_near(
-    freed: &mut Chunks,
-    old: &[Header],
-    near: usize,
-    block: &Header,
-    origin: Origin,
-)
+fn free_near(freed: &mut Chunks, old: &[Header], near: usize, block: &Header, origin: Origin)
     requires { length freed.old ≡ 0x10000 }
     ensures { Frees (λ p. covers p block.now && not (is_free_in old.now p)) origin freed.old freed.new }
 {

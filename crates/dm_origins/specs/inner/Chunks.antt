@@ -1,5 +1,5 @@
 -- The origins of paragraphs, kept in chunks of 256.
-use Rattle.std.specs.Prelude.{ℕ, ◌/◌, List, slice_index_or, Option, None}
+use Rattle.std.specs.Prelude.{◌/◌, List, slice_index_or, Option, None}
 use Rattle.std.specs.Option.{option_or}
 use Rattle.dm_findings.specs.declared.finding.Origin.{Origin}
 use Rattle.dm_origins.specs.Origins.{each_from}

@@ -1,4 +1,4 @@
-use Rattle.std.proofs.Common.{◌≡◌, ℕ, ◌+◌, ◌*◌, List, Option, subst, sym, arith}
+use Rattle.std.proofs.Common.{List, Option, subst, arith}
 use Rattle.dm_findings.specs.declared.finding.Origin.{Origin}
 use Rattle.dm_origins.specs.inner.Chunks.{freed_by}
 use Rattle.dm_origins.specs.inner.Freed.{within, Frees}

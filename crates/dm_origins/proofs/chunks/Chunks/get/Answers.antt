@@ -1,4 +1,4 @@
-use Rattle.std.proofs.Common.{◌≡◌, ℕ, ◌/◌, ◌<◌, ◌≤◌, List, Option, None, length, get_or, sym, ◌∙◌, ap, ap₂, arith}
+use Rattle.std.proofs.Common.{◌≡◌, ◌/◌, ◌<◌, ◌≤◌, List, Option, None, length, get_or, sym, ◌∙◌, ap, ap₂, arith}
 use Rattle.std.specs.Option.{option_or}
 use Rattle.std.proofs.Math.ListN.{get_or-eq_default}
 use Rattle.std.proofs.lemmas.List.{get_or_default}
@@ -7,8 +7,8 @@ use Rattle.dm_origins.specs.inner.Chunks.{freed_by}
 use Rattle.dm_origins.proofs.Chunked.{length-freed_by, at-freed_by}
 use Rattle.dm_origins.proofs.chunks.Chunks.get.Goals as goal
 
-pub returns-then-paragraph-ge-len : goal.returns-then-paragraph-ge-len
-returns-then-paragraph-ge-len c =
+pub returns-then-paragraph-len : goal.returns-then-paragraph-len
+returns-then-paragraph-len c =
     let p = c.args.paragraph in
     let ms = c.self.inside.marks.items in
     let ps = c.self.inside.each.items in
