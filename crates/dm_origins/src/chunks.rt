@@ -19,8 +19,8 @@ const CHUNKS: usize = 256;
 
 /// Of each paragraph below 10000h, the last step that freed it; None if there is none.
 ///
-/// Where a step was the last that freed each paragraph of a chunk, the chunk is marked with it, and what `each` holds of
-/// these paragraphs means nothing. Contracts see the list of what is kept of each paragraph.
+/// A chunk that one step freed as a whole is marked with it: what `each` holds of its paragraphs then means nothing.
+/// Contracts see a list with an entry for each paragraph.
 #[derive(Drop)]
 pub(crate) struct Chunks {
     marks: Vec<Option<Origin>>,
@@ -62,7 +62,7 @@ fn write(each: &mut [Option<Origin>], first: usize, end: usize, origin: Origin)
     }
 }
 
-/// Takes the mark of a chunk away, if it has one: each of its paragraphs then has that origin by itself.
+/// Takes the mark of a chunk away, if it has one, and writes its origin to each of the chunk's paragraphs.
 fn unmark(marks: &mut [Option<Origin>], each: &mut [Option<Origin>], chunk: usize)
     requires marks { length marks.old ≡ 256 }
     requires each { length each.old ≡ 0x10000 }
