@@ -5,7 +5,7 @@ use Rattle.std.proofs.lemmas.Bool.{cases_eq}
 use Rattle.std.proofs.lemmas.List.{ext_get_or, get_or-set_same, get_or-set_other}
 use Rattle.dm_origins.specs.Origins.{each_from}
 
-length_each : {A : Type 0} (f : ℕ → A → A) (i : ℕ) (xs : List A) → length (each_from f i xs) ≡ length xs
+pub length_each : {A : Type 0} (f : ℕ → A → A) (i : ℕ) (xs : List A) → length (each_from f i xs) ≡ length xs
 unfolding each_from
 length_each f i [] = refl
 length_each f i (x ∷ xs) = ap suc (length_each f (i + 1) xs)
@@ -18,12 +18,13 @@ get_each f i (x ∷ xs) (suc k) d less =
     let place : i + 1 + k ≡ i + suc k = omega arith in
     get_each f (i + 1) xs k d (omega arith) ∙ ap (λ (n : ℕ). f n (get_or xs k d)) place
 
+pub at_each : {A : Type 0} (f : ℕ → A → A) (xs : List A) (k : ℕ) (d : A) → k < length xs → get_or (each_from f 0 xs) k d ≡ f k (get_or xs k d)
+at_each f xs k d less = (let place : 0 + k ≡ k = omega arith in get_each f 0 xs k d less ∙ ap (λ (n : ℕ). f n (get_or xs k d)) place)
+
 -- a list whose elements are those changed
 pub is_each : {A : Type 0} (f : ℕ → A → A) (xs ys : List A) (d : A) → length ys ≡ length xs → ((k : ℕ) → k < length xs → get_or ys k d ≡ f k (get_or xs k d)) → ys ≡ each_from f 0 xs
 is_each f xs ys d size at = ext_get_or d ys (each_from f 0 xs) (size ∙ sym (length_each f 0 xs)) (λ k less.
-    (let within : k < length xs = omega (arith, size, less) in
-    let place : k ≡ 0 + k = omega arith in
-    at k within ∙ ap (λ (n : ℕ). f n (get_or xs k d)) place ∙ sym (get_each f 0 xs k d within)))
+    (let within : k < length xs = omega (arith, size, less) in at k within ∙ sym (at_each f xs k d within)))
 
 -- ---- one element more
 

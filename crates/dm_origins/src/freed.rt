@@ -4,6 +4,7 @@ ghost use Rattle.std.specs.Prelude.{◌≡◌, ◌+◌, ◌<◌, ◌≤◌, ◌&
 ghost use Rattle.dm_origins.specs.Origins.{each_from, covers, is_free_in, freed_in};
 ghost use Rattle.dm_origins.specs.inner.Freed.{within, Frees};
 
+use crate::chunks::Chunks;
 use dm_blocks::Header;
 use dm_findings::Origin;
 
@@ -57,41 +58,25 @@ fn same_until(headers: &[Header], at: usize, last: usize) -> usize
     end
 }
 
-/// Sets the origin of the paragraphs from `first` up to but not including `end`.
-fn set_all(freed: &mut [Option<Origin>], first: usize, end: usize, origin: Origin)
-    requires order { first ≤ end }
-    requires fits { end ≤ length freed.old }
-    ensures { Frees (within first end) origin freed.old freed.new }
-{
-    for paragraph in first..end {
-        freed[paragraph] = Some(origin);
-    }
-}
-
 /// Sets the origin of a run of paragraphs from `at` on, up to `last` at most, if they were not free in the list `old`.
 /// Returns the paragraph after it.
-fn free_run(
-    freed: &mut [Option<Origin>],
-    old: &[Header],
-    at: usize,
-    last: usize,
-    origin: Origin,
-) -> usize
+fn free_run(freed: &mut Chunks, old: &[Header], at: usize, last: usize, origin: Origin) -> usize
+    requires count { length freed.old ≡ 0x10000 }
     requires order { at ≤ last }
-    requires fits { last < length freed.old }
+    requires fits { last < 0x10000 }
     ensures more { at < result }
     ensures most { result ≤ last + 1 }
     ensures frees { Frees (λ p. within at result p && not (is_free_in old.now p)) origin freed.old freed.new }
 {
     let end = same_until(old, at, last) + 1;
     if !is_free_in(old, at) {
-        set_all(freed, at, end, origin);
+        freed.set(at, end, origin);
     }
     end
 }
 
 /// Sets the origin of the paragraphs of a block, if it is free, that were not free in the list `old`.
-fn free_block(freed: &mut [Option<Origin>], old: &[Header], block: &Header, origin: Origin)
+fn free_block(freed: &mut Chunks, old: &[Header], block: &Header, origin: Origin)
     requires { length freed.old ≡ 0x10000 }
     ensures { Frees (λ p. covers p block.now && not (is_free_in old.now p)) origin freed.old freed.new }
 {
@@ -136,13 +121,7 @@ fn number_near(old: &[Header], near: usize, segment: u16) -> usize
 
 /// Does what [`free_block`] does; it asks the block number `near` of the list `old` first, in which most blocks lie that
 /// were free.
-fn free_near(
-    freed: &mut [Option<Origin>],
-    old: &[Header],
-    near: usize,
-    block: &Header,
-    origin: Origin,
-)
+fn free_near(freed: &mut Chunks, old: &[Header], near: usize, block: &Header, origin: Origin)
     requires { length freed.old ≡ 0x10000 }
     ensures { Frees (λ p. covers p block.now && not (is_free_in old.now p)) origin freed.old freed.new }
 {
@@ -153,7 +132,7 @@ fn free_near(
 }
 
 /// Sets the origin of the paragraphs that are free in the list `new`, and were not in the list `old`.
-pub(crate) fn free_all(freed: &mut [Option<Origin>], old: &[Header], new: &[Header], origin: Origin)
+pub(crate) fn free_all(freed: &mut Chunks, old: &[Header], new: &[Header], origin: Origin)
     requires { length freed.old ≡ 0x10000 }
     ensures { freed.new ≡ each_from (freed_in old.now new.now origin) 0 freed.old }
 {

@@ -2,6 +2,7 @@
 //! and memory of the arena; and which processes ran.
 #![tactic(auto)]
 
+mod chunks;
 mod freed;
 mod handles;
 mod origins;

@@ -6,6 +6,7 @@ ghost use Rattle.dm_origins.specs.Origins.{known_first, with_handles, with_block
 ghost use Rattle.dm_origins.specs.declared.handles.Since.TheVariants.{Unused};
 ghost use Rattle.dm_processes.specs.Processes.{with_end};
 
+use crate::chunks::Chunks;
 use crate::freed::free_all;
 use crate::handles::{Since, look_at_blocks, look_at_handles};
 use dm_blocks::Header;
@@ -17,9 +18,6 @@ use dm_xms::Xms;
 use std::alloc::{AllocError, Global};
 use std::marker::Model;
 
-/// How many paragraphs are looked at.
-const PARAGRAPHS: usize = 0x1_0000;
-
 /// Of each handle of expanded and of extended memory, whether it is in use and which step allocated it; of each paragraph
 /// below 10000h, which step was the last that freed it; and the processes that ran.
 ///
@@ -28,49 +26,32 @@ const PARAGRAPHS: usize = 0x1_0000;
 pub struct Origins {
     handles: [Since; 64],
     blocks: [Since; 64],
-    freed: Vec<Option<Origin>>,
+    freed: Chunks,
     processes: Vec<Process>,
 }
 
 impl Model for Origins {
-    ghost use Rattle.std.specs.Prelude.{◌≡◌, vec_len};
+    ghost use Rattle.std.specs.Prelude.{◌≡◌, length};
     ghost use Rattle.dm_origins.specs.Origins.{Known};
 
     ghost Value = { Known };
 
-    ghost view = { λ r. record { handles = r.handles; blocks = r.blocks; freed = r.freed.items; processes = r.processes.items } };
+    ghost view = { λ r. record { handles = r.handles; blocks = r.blocks; freed = r.freed; processes = r.processes.items } };
 
-    ghost invariant = { λ r. vec_len r.freed ≡ 0x10000 };
-}
-
-/// The origins of all paragraphs before any was freed. An `Err` is a failed allocation.
-fn never_freed(alloc: Global) -> Result<Vec<Option<Origin>>, AllocError>
-    ensures { IfOk result (λ freed. freed.items ≡ replicate 0x10000 None) }
-{
-    let mut freed = Vec::new(alloc);
-    for paragraph in 0..PARAGRAPHS {
-        let _ = paragraph;
-        freed.push(None)?;
-    }
-    Ok(freed)
+    ghost invariant = { λ r. length r.freed ≡ 0x10000 };
 }
 
 impl Origins {
     /// What is known before a run: which handles are in use, and the process that is present. An `Err` is a failed allocation.
     #[tactic(auto, unfolding(crate::specs::Origins::nothing_known))]
-    pub fn new(
-        alloc: Global,
-        ems: &Ems,
-        xms: &Xms,
-        present: Process,
-    ) -> Result<Origins, AllocError>
+    pub fn new(alloc: Global, ems: &Ems, xms: &Xms, present: Process) -> Result<Origins, AllocError>
         ensures { IfOk result (λ origins. origins ≡ known_first ems.now xms.now present) }
     {
         let mut handles = [Since::Unused; 64];
         look_at_handles(&mut handles, ems, None);
         let mut blocks = [Since::Unused; 64];
         look_at_blocks(&mut blocks, xms, None);
-        let freed = never_freed(alloc)?;
+        let freed = Chunks::never_freed(alloc)?;
         let mut processes = Vec::new(alloc);
         processes.push(present)?;
         Ok(Origins {
@@ -129,10 +110,7 @@ impl Origins {
     fn of_paragraph(&self, paragraph: usize) -> Option<Origin>
         ensures { result ≡ of_paragraph self.now paragraph }
     {
-        match self.freed.get(paragraph) {
-            Some(origin) => *origin,
-            None => None,
-        }
+        self.freed.get(paragraph)
     }
 
     /// The step that allocated what a program left or holds; None if none did, or if it is no handle.
