@@ -1,0 +1,3 @@
+pub mod ArenaRows
+pub mod ArenaLists
+pub mod NumberedRows

@@ -1,0 +1,7 @@
+pub mod Rows
+pub mod Arena
+pub mod Pages
+pub mod Extended
+pub mod Details
+pub mod Findings
+pub mod inner
