@@ -26,5 +26,5 @@ pub use operation::{
     Condition, FlagOperation, LoopOperation, MoveOperation, Operation, StringOperation,
     TransferOperation,
 };
-pub use repetitions::repeat_upwards;
+pub use repetitions::repeat_together;
 pub use strings::{Comparing, Loading, Moving, Scanning, Storing, StringWork, repeat_string};
