@@ -19,7 +19,7 @@ TYPES = {**NUMBERS, "Handle": "mezguld", "Stopped": "mezguld_stopped", "Register
 # The meaning of each letter of `_PARAMETERS` in the Python module; `p` is a pointer that is followed by a count.
 LETTERS = {
     "m": "mezguld *", "h": "mezguld **", "s": "mezguld_stopped *", "r": "mezguld_cpu *", "c": "const mezguld_cpu *", "w": "size_t *", "q": "uint64_t *",
-    "n": "size_t", "I": "uint32_t", "B": "uint32_t", "Q": "uint64_t", "H": "uint16_t",
+    "n": "size_t", "I": "uint32_t", "B": "uint32_t", "Q": "uint64_t", "H": "uint16_t", "e": "mezguld_list_end *", "d": "uint32_t *",
 }
 # What C calls a status and a reason to stop, which are numbers of the exports; an export that returns a number that is no status; and the type that C has
 # for bytes, `void` for data and `char` for texts.
@@ -29,10 +29,12 @@ NAMED = {
     ("Stopped", "why"): STOP_TYPE, ("Awaited", "kind"): KIND_TYPE, ("FoundRecord", "kind"): "mezguld_finding_kind", ("Act", "how"): "mezguld_how",
 }
 # The exceptions of the Python module whose status has another name in the header, and the statuses that it raises nothing for: its own calls meet neither
-# an event of no kind, NULL, bad variables nor, at last, a buffer that is too small.
-RENAMED, UNRAISED = {"COMMAND_SYNTAX": "SYNTAX", "BREAKPOINTS_FULL": "FULL"}, ("OK", "TOO_SMALL", "BAD_EVENT", "NULL_POINTER", "BAD_VARIABLES")
+# an event of no kind, NULL, bad variables, a finding that is not listed nor, at last, a buffer that is too small.
+RENAMED, UNRAISED = {"COMMAND_SYNTAX": "SYNTAX", "BREAKPOINTS_FULL": "FULL"}, ("OK", "TOO_SMALL", "BAD_EVENT", "NULL_POINTER", "BAD_VARIABLES", "NO_FINDING")
 # The status of the exports that C never sees, since lib/mezguld.c makes each handle; and those that lib/mezguld.c returns by itself.
 INNER, OUTER = ("IN_USE",), ("NULL_POINTER", "BAD_VARIABLES")
+# The structs that the Python module has as classes of its own, not as a table's records.
+WRITTEN_OUT = ("mezguld", "mezguld_stopped", "mezguld_cpu", "mezguld_point", "mezguld_event")
 # The functions that take a `const mezguld *`; and those of the header whose parameters are not those of the export but for `const`: they make or free a machine.
 READERS = (
     "steps", "registers", "read", "read_linear", "output", "output_count", "input_left", "answer", "copy", "blocks", "page_handles", "windows", "extended_blocks",
@@ -143,7 +145,8 @@ class Header:
             self.structs[name] = found
         enums = {name: {word: int(value) for word, value in ENUMERATOR.findall(it)} for it, name in re.findall(r"typedef enum \w+ \{([^}]*)\} (\w+);", text)}
         self.statuses, self.stops, self.kinds = enums.get(STATUS_TYPE, {}), enums.get(STOP_TYPE, {}), enums.get(KIND_TYPE, {})
-        self.found_kinds, self.hows = enums.get("mezguld_finding_kind", {}), enums.get("mezguld_how", {})
+        self.found_kinds = {name.removeprefix("FOUND_"): value for name, value in enums.get("mezguld_finding_kind", {}).items()}
+        self.hows = enums.get("mezguld_how", {})
 
 
 def shown(parameters):
@@ -234,6 +237,12 @@ def status_faults(header, tables, numbers):
             yield f"the status {name} is {wanted.get(name, 'missing')} in the header and {given.get(name, 'missing')} in the Python module"
 
 
+def record_fields(text):
+    """The fields of a record of the Python module, as C declares them."""
+    found = [re.fullmatch(r"(\d*)(\w+) (\w+)", it).groups() for it in text.split(", ")]
+    return [({"B": "uint8_t", "H": "uint16_t", "I": "uint32_t", "Q": "uint64_t"}.get(kind, kind), f"{word}[{count}]" if count else word) for count, kind, word in found]
+
+
 def python_faults(header):
     """The faults of the Python module's tables of parameters and of exceptions, of its stops and of the fields of its registers."""
     tables, classes, numbers = {}, {}, {}
@@ -257,9 +266,13 @@ def python_faults(header):
     stops = {it.targets[0].id: it.value.value for it in classes["Stop"] if isinstance(it, ast.Assign)}
     if stops != header.stops:
         yield "the stops of the Python module are not those of the header"
-    kinds = {it.targets[0].id: it.value.value for it in classes["Kind"] if isinstance(it, ast.Assign)}
-    if kinds != header.kinds:
-        yield "the kinds of events of the Python module are not those of the header"
+    for name, wanted, what in (("Kind", header.kinds, "events"), ("FindingKind", header.found_kinds, "findings"), ("How", header.hows, "acts")):
+        if {it.targets[0].id: it.value.value for it in classes[name] if isinstance(it, ast.Assign)} != wanted:
+            yield f"the kinds of {what} of the Python module are not those of the header"
+    records = {name: record_fields(text) for name, text in ast.literal_eval(tables["_RECORDS"]).items()}
+    for name in {*TYPES.values()} - {*NUMBERS.values(), *WRITTEN_OUT}:
+        if records.get(name) != [("uint32_t" if kind in NAMED.values() else kind, word) for kind, word in header.structs.get(name, [])]:
+            yield f"the record {name} of the Python module is not that of the header"
     registers = [it.target.id for it in classes["Registers"] if isinstance(it, ast.AnnAssign)]
     if registers != [name for _, name in header.structs.get("mezguld_cpu", [])]:
         yield "the registers of the Python module are not those of the header"
