@@ -37,7 +37,8 @@ def main() -> None:
         handles, windows = machine.expanded()
         for handle in handles:
             for page in range(handle.pages):
-                print(f"handle {handle.number}, page {page}: {machine.read_page(handle.number, page, 0, 2).hex(' ').upper()}")
+                data = machine.read_page(handle.number, page, 0, 2)
+                print(f"handle {handle.number}, page {page}: {data[0]:02X} {data[1]:02X}")
         for number, window in enumerate(windows):
             if window is not None:
                 print(f"window {number}: handle {window.handle}, page {window.page}")

@@ -600,7 +600,7 @@ _SIZES: dict[str, Any] = {"B": ctypes.c_uint8, "H": ctypes.c_uint16, "I": ctypes
 _STRUCTURES: dict[str, Any] = {}
 for _struct, _members in _RECORDS.items():
     _pairs = [_member.split(" ") for _member in _members.split(", ")]
-    _STRUCTURES[_struct] = type(_struct, (ctypes.Structure,), {"_fields_": [(_word, (_SIZES | _STRUCTURES)[_size]) for _size, _word in _pairs]})
+    _STRUCTURES[_struct] = type(_struct, (ctypes.Structure,), {"_fields_": [(_word, {**_SIZES, **_STRUCTURES}[_size]) for _size, _word in _pairs]})
 del _struct, _members, _pairs
 
 

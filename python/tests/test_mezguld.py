@@ -544,7 +544,7 @@ class Refusals(unittest.TestCase):
         self.assertRaises(ValueError, started(END).read, 65_536, 0, 1)
 
 
-def refused(kind: type[mezguld.Error], call: object, *arguments: object) -> bool:
+def refused(kind: type, call: object, *arguments: object) -> bool:
     """Whether a call raises this, and nothing else."""
     try:
         call(*arguments)
