@@ -4,4 +4,5 @@ pub mod Pages
 pub mod Extended
 pub mod Details
 pub mod Findings
+pub mod Laws
 pub mod inner

@@ -6,10 +6,12 @@ mod arena;
 mod details;
 mod extended;
 mod findings;
+mod laws;
 mod pages;
 
 pub use arena::{ArenaBlock, list_arena};
 pub use details::{Contents, Details};
 pub use extended::{ExtendedBlock, UpperBlock, list_extended, list_uppers};
 pub use findings::{Act, FoundRecord, Place, list_findings};
+pub use laws::the_arena_has_one_list;
 pub use pages::{PageHandle, Window, list_handles, list_windows};
