@@ -1,4 +1,4 @@
-//! The exports of the library for hosts: each calls a function of `dm_calls` on the machine of a handle, or one of `dm_asm`.
+//! The exports of the library for hosts: each calls a function of `dm_host_calls` on the machine of a handle, or one of `dm_asm`.
 #![tactic(auto)]
 
 mod copies;
