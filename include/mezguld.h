@@ -89,7 +89,11 @@ typedef enum mezguld_status {
     MEZGULD_INPUT_CLOSED = 22,      /* no more input may come: mezguld_open_input opens it */
     MEZGULD_BAD_EVENT = 23,         /* the kind of an event is no mezguld_kind */
     MEZGULD_NULL_POINTER = 24,      /* a pointer is NULL, and what it should point to is needed */
-    MEZGULD_BAD_VARIABLES = 25      /* a variable is empty, or the last one is not closed by a zero byte */
+    MEZGULD_BAD_VARIABLES = 25,     /* a variable is empty, or the last one is not closed by a zero byte */
+    MEZGULD_NO_HANDLE = 26,         /* the handle is not in use */
+    MEZGULD_NO_PAGE = 27,           /* the handle has no page of this number */
+    MEZGULD_PAST_END = 28,          /* not all of the bytes are in the page or block */
+    MEZGULD_NO_FINDING = 29         /* the report lists no finding of this number */
 } mezguld_status;
 
 /* Why a run stopped. After all but EXITED another run goes on from there, and tries again what could not be done. */
@@ -140,6 +144,128 @@ typedef struct mezguld_event {
     uint8_t number, ah;
 } mezguld_event;
 
+/* A header of the DOS memory arena (a memory control block): its own segment, one below that of its block; the owner of the
+ * block, 0 if it is free, 8 for DOS, otherwise the segment of a program's prefix; the size of the block in paragraphs; its
+ * signature, 5Ah (`Z`) in the last header of its list, otherwise 4Dh (`M`); and its list: 0 for the first one, 1 for that of
+ * upper memory where the first does not lead to it. */
+typedef struct mezguld_block {
+    uint16_t segment, owner, size;
+    uint8_t signature, list;
+} mezguld_block;
+
+/* How the lists of headers end: whole (`destroyed` is 0), or at the segment `at`, where a header has to be and none can. */
+typedef struct mezguld_list_end {
+    uint16_t destroyed, at;
+} mezguld_list_end;
+
+/* A handle of expanded memory in use: its number; how many pages of 16 KiB it has, which are numbered from 0; whether the
+ * windows are saved under it (1, otherwise 0); and its name, eight zeros if it has none. */
+typedef struct mezguld_page_handle {
+    uint16_t number, pages;
+    uint32_t saved;
+    uint8_t name[8];
+} mezguld_page_handle;
+
+/* What a window of the page frame shows: nothing (`shows` is 0), or this page of this handle. */
+typedef struct mezguld_window {
+    uint16_t shows, handle, page;
+} mezguld_window;
+
+/* The block of a handle of extended memory: the linear address of its first byte, how often it is locked, the handle, and
+ * the size of the block in KiB. */
+typedef struct mezguld_extended_block {
+    uint64_t address;
+    uint32_t locks;
+    uint16_t handle, kib;
+} mezguld_extended_block;
+
+/* An upper memory block of the extended memory driver: its segment, and its size in paragraphs. */
+typedef struct mezguld_upper_block {
+    uint16_t segment, size;
+} mezguld_upper_block;
+
+/* The kinds of findings, each with the members of `details` that count for it. `dm check --json` has the same words. */
+typedef enum mezguld_finding_kind {
+    MEZGULD_FOUND_OVERWRITTEN = 0,      /* `header`, `old_contents`, `new_contents` */
+    MEZGULD_FOUND_MAPPED_AWAY = 1,      /* `header` */
+    MEZGULD_FOUND_DESTROYED = 2,        /* `header` */
+    MEZGULD_FOUND_WHOLE = 3,            /* none */
+    MEZGULD_FOUND_FREED_TWICE = 4,      /* `block` */
+    MEZGULD_FOUND_REFUSED = 5,          /* `code` */
+    MEZGULD_FOUND_NOT_ALLOCATED = 6,    /* `code` */
+    MEZGULD_FOUND_DIVISION_ERROR = 7,   /* none */
+    MEZGULD_FOUND_SHORT = 8,            /* `code`, `wanted`, `available` */
+    MEZGULD_FOUND_NOT_SERVED = 9,       /* none */
+    MEZGULD_FOUND_FREE_READ = 10,       /* `block`, `segment`, `offset` */
+    MEZGULD_FOUND_FREE_WRITTEN = 11,    /* `block`, `segment`, `offset` */
+    MEZGULD_FOUND_STACK_FREED = 12,     /* `block` */
+    MEZGULD_FOUND_WINDOW_LOST = 13,     /* `window`, `segment`, `offset` */
+    MEZGULD_FOUND_ROM_WRITTEN = 14,     /* `segment`, `offset` */
+    MEZGULD_FOUND_NOTHING_WRITTEN = 15, /* `segment`, `offset` */
+    MEZGULD_FOUND_TAIL_WRITTEN = 16,    /* `header`, `byte` */
+    MEZGULD_FOUND_OTHER_FREED = 17,     /* `block`, `owner` */
+    MEZGULD_FOUND_NOT_RESIZED = 18,     /* `wanted` */
+    MEZGULD_FOUND_HANDLE_KEPT = 19,     /* `handle`, `pages`, `saved`; this and the next ones: left by a program that has ended
+                                         * (an error), or held by one that stays resident (a note) */
+    MEZGULD_FOUND_WINDOW_KEPT = 20,     /* `window` */
+    MEZGULD_FOUND_BLOCK_KEPT = 21,      /* `handle`, `kib`, `locked` */
+    MEZGULD_FOUND_UPPER_KEPT = 22,      /* `block` */
+    MEZGULD_FOUND_AREA_KEPT = 23,       /* none: the high memory area */
+    MEZGULD_FOUND_LINE_KEPT = 24        /* none: address line A20, which is on */
+} mezguld_finding_kind;
+
+/* How a step was performed, and the members of a mezguld_act that count then. */
+typedef enum mezguld_how {
+    MEZGULD_INSTRUCTION = 0, /* an instruction, which ends before the offset `next` */
+    MEZGULD_INTERRUPT = 1,   /* a call by `interrupt` */
+    MEZGULD_FUNCTION = 2,    /* a call by `interrupt` with `function` in AH */
+    MEZGULD_FAR_CALL = 3     /* a far call of the extended memory driver with `function` in AH */
+} mezguld_how;
+
+/* What was performed in a step. The members that do not count are 0. */
+typedef struct mezguld_act {
+    mezguld_how how;
+    uint16_t next;
+    uint8_t interrupt, function;
+} mezguld_act;
+
+/* A place in the code of a program: CS:IP of an instruction; if `before` is 1, the address after it. */
+typedef struct mezguld_place {
+    uint16_t cs, ip, before;
+} mezguld_place;
+
+/* Bytes 0 to 4 of a header of the arena. */
+typedef struct mezguld_contents {
+    uint16_t signature, owner, size;
+} mezguld_contents;
+
+/* What a finding is about. The members that do not count for its kind are 0. */
+typedef struct mezguld_details {
+    mezguld_contents old_contents, new_contents; /* those of a header before the step and after it */
+    uint16_t header, byte;    /* the segment of a header, and which byte of it */
+    uint16_t block, owner;    /* the segment of a block, and of the program that owns it */
+    uint16_t segment, offset; /* the address of the first byte that an instruction touches there */
+    uint16_t window;          /* a window of the page frame, 0 to 3 */
+    uint16_t handle;          /* a handle */
+    uint16_t pages, saved;    /* how many pages it has, and whether the windows are saved under it (1 or 0) */
+    uint16_t kib, locked;     /* the size of its block in KiB, and whether that is locked (1 or 0) */
+    uint16_t code;            /* the error code of a call */
+    uint16_t wanted, available; /* the paragraphs that a call wants, and those that there are */
+} mezguld_details;
+
+/* A finding of a checked run. */
+typedef struct mezguld_finding {
+    uint64_t step;        /* the number of the step; the first step of a machine is 1 */
+    uint64_t more, last;  /* how many findings after it repeat it, and the step of the last that does, or its own */
+    uint64_t origin_step; /* the step that freed the memory that it is about, or allocated what is left or held; 0 if not known */
+    mezguld_finding_kind kind;
+    uint32_t is_error;    /* 1 for an error, 0 for a note */
+    mezguld_place at, origin_at; /* where the step was performed, and where that of `origin_step` was */
+    mezguld_act act;      /* what was performed */
+    uint16_t process;     /* the process that performed it: the segment of its prefix */
+    mezguld_details details;
+} mezguld_finding;
+
 /* The sizes of the types, as the library has them. */
 #if defined(__cplusplus) && __cplusplus >= 201103L
 #define MEZGULD_HAS_SIZE(type, size) static_assert(sizeof(type) == (size), #type " has another size in the library")
@@ -156,6 +282,19 @@ MEZGULD_HAS_SIZE(mezguld_cpu, 28);
 MEZGULD_HAS_SIZE(mezguld_point, 4);
 MEZGULD_HAS_SIZE(mezguld_kind, 4);
 MEZGULD_HAS_SIZE(mezguld_event, 20);
+MEZGULD_HAS_SIZE(mezguld_block, 8);
+MEZGULD_HAS_SIZE(mezguld_list_end, 4);
+MEZGULD_HAS_SIZE(mezguld_page_handle, 16);
+MEZGULD_HAS_SIZE(mezguld_window, 6);
+MEZGULD_HAS_SIZE(mezguld_extended_block, 16);
+MEZGULD_HAS_SIZE(mezguld_upper_block, 4);
+MEZGULD_HAS_SIZE(mezguld_finding_kind, 4);
+MEZGULD_HAS_SIZE(mezguld_how, 4);
+MEZGULD_HAS_SIZE(mezguld_act, 8);
+MEZGULD_HAS_SIZE(mezguld_place, 6);
+MEZGULD_HAS_SIZE(mezguld_contents, 6);
+MEZGULD_HAS_SIZE(mezguld_details, 42);
+MEZGULD_HAS_SIZE(mezguld_finding, 104);
 
 #undef MEZGULD_HAS_SIZE
 
@@ -243,6 +382,50 @@ MEZGULD_CALL mezguld_status mezguld_read_linear(const mezguld *machine, uint32_t
  * NO_MACHINE, NOT_LOADED. */
 MEZGULD_CALL mezguld_status mezguld_write_linear(mezguld *machine, uint32_t address, const void *bytes, size_t count);
 
+/* Copies the headers of the DOS memory arena, in the order of their lists, into a buffer: those of the first list, and then,
+ * if upper memory belongs to the arena and the first list is whole and does not lead there, those of the second one. Writes
+ * how many they are into `*wanted`, and how the lists end into `*end`. (A list is what the program's memory spells: of one that
+ * is destroyed, the headers are those before the place where it breaks.)
+ * NO_MACHINE, NOT_LOADED, OUT_OF_MEMORY, TOO_SMALL (then `*wanted` and `*end` alone are written). */
+MEZGULD_CALL mezguld_status mezguld_blocks(const mezguld *machine, mezguld_block *buffer, size_t room, size_t *wanted,
+                                           mezguld_list_end *end);
+
+/* Copies the handles of expanded memory in use, by rising number (handle 0 is always in use), into a buffer, and writes how
+ * many they are, at most 64, into `*wanted`.
+ * NO_MACHINE, NOT_LOADED, OUT_OF_MEMORY, TOO_SMALL (then `*wanted` alone is written). */
+MEZGULD_CALL mezguld_status mezguld_page_handles(const mezguld *machine, mezguld_page_handle *buffer, size_t room,
+                                                 size_t *wanted);
+
+/* Copies what the four windows of the page frame show, from segment E000h up, into a buffer, and writes 4 into `*wanted`.
+ * NO_MACHINE, NOT_LOADED, TOO_SMALL (then `*wanted` alone is written). */
+MEZGULD_CALL mezguld_status mezguld_windows(const mezguld *machine, mezguld_window *buffer, size_t room, size_t *wanted);
+
+/* Copies the blocks of the handles of extended memory in use, by rising handle, into a buffer, and writes how many they are,
+ * at most 64, into `*wanted`.
+ * NO_MACHINE, NOT_LOADED, OUT_OF_MEMORY, TOO_SMALL (then `*wanted` alone is written). */
+MEZGULD_CALL mezguld_status mezguld_extended_blocks(const mezguld *machine, mezguld_extended_block *buffer, size_t room,
+                                                    size_t *wanted);
+
+/* Copies the upper memory blocks of the extended memory driver, by rising segment, into a buffer, and writes how many they
+ * are, at most 64, into `*wanted`.
+ * NO_MACHINE, NOT_LOADED, OUT_OF_MEMORY, TOO_SMALL (then `*wanted` alone is written). */
+MEZGULD_CALL mezguld_status mezguld_upper_blocks(const mezguld *machine, mezguld_upper_block *buffer, size_t room,
+                                                 size_t *wanted);
+
+/* Writes whether address line A20 is on into `*a20`, and whether the high memory area is taken into `*used`: 1 or 0.
+ * NO_MACHINE, NOT_LOADED. */
+MEZGULD_CALL mezguld_status mezguld_high_memory(const mezguld *machine, uint32_t *a20, uint32_t *used);
+
+/* Fills the buffer with bytes of a page of expanded memory, whether a window shows it or not: of logical page `page` of a
+ * handle, from byte `offset` of it on. A page has 16,384 bytes. NO_MACHINE, NOT_LOADED, NO_HANDLE, NO_PAGE, PAST_END. */
+MEZGULD_CALL mezguld_status mezguld_read_page(const mezguld *machine, uint16_t handle, uint16_t page, size_t offset,
+                                              void *buffer, size_t count);
+
+/* Fills the buffer with bytes of the block of a handle of extended memory, from byte `offset` of it on. A block of n KiB has
+ * 1,024 n bytes. NO_MACHINE, NOT_LOADED, NO_HANDLE, PAST_END. */
+MEZGULD_CALL mezguld_status mezguld_read_block(const mezguld *machine, uint16_t handle, size_t offset, void *buffer,
+                                               size_t count);
+
 /* Copies what the program wrote to the console, from byte `from` of it on (0: all; past the end: nothing), into a buffer,
  * and writes the count into `*wanted`. So the output since the last call is got with the count of all before it as `from`.
  * NO_MACHINE, NOT_LOADED, TOO_SMALL (then `*wanted` alone is written). */
@@ -273,14 +456,29 @@ MEZGULD_CALL mezguld_status mezguld_input_left(const mezguld *machine, size_t *l
  * may be done, whole or in part. */
 MEZGULD_CALL mezguld_status mezguld_command(mezguld *machine, const char *line, size_t line_count, size_t *wanted);
 
-/* Makes at most so many steps, as mezguld_run, under the memory checker, keeps the text of its report, with the line about
- * the stop, as the answer, and writes the text's count into `*wanted`. NO_MACHINE, NOT_LOADED, OUT_OF_MEMORY. After the
+/* Makes at most so many steps, as mezguld_run, under the memory checker, keeps its report (see mezguld_findings), and the text
+ * of that with the line about the stop as the answer, and writes the text's count into `*wanted`. NO_MACHINE, NOT_LOADED, OUT_OF_MEMORY. After the
  * last one any part of the run was made, none or all of it included. */
 MEZGULD_CALL mezguld_status mezguld_check(mezguld *machine, uint64_t steps, mezguld_stopped *stopped, size_t *wanted);
 
 /* Copies the answer of the last command or checked run that had one into a buffer, and writes its count into `*wanted`.
  * NO_MACHINE, TOO_SMALL (then `*wanted` alone is written). */
 MEZGULD_CALL mezguld_status mezguld_answer(const mezguld *machine, char *buffer, size_t room, size_t *wanted);
+
+/* Copies the findings that the report of the last mezguld_check lists (none before the first one), in the order in which they
+ * happened, into a buffer, and writes how many they are, at most 200, into `*wanted`. Another call than mezguld_check, also a
+ * debugger command, changes nothing of them. NO_MACHINE, OUT_OF_MEMORY, TOO_SMALL (then `*wanted` alone is written). */
+MEZGULD_CALL mezguld_status mezguld_findings(const mezguld *machine, mezguld_finding *buffer, size_t room, size_t *wanted);
+
+/* Writes how many errors and how many notes that report has, repetitions included, into `*errors` and `*notes`, and how many
+ * findings it neither lists nor counts as repetitions, since it lists 100 of their kind, into `*unlisted`. NO_MACHINE. */
+MEZGULD_CALL mezguld_status mezguld_finding_counts(const mezguld *machine, uint64_t *errors, uint64_t *notes,
+                                                   uint64_t *unlisted);
+
+/* Copies the line of finding `k` of that report, from 0, with its line feed, into a buffer, and writes its count into
+ * `*wanted`. NO_MACHINE, NO_FINDING, OUT_OF_MEMORY, TOO_SMALL (then `*wanted` alone is written). */
+MEZGULD_CALL mezguld_status mezguld_finding_line(const mezguld *machine, size_t k, char *buffer, size_t room,
+                                                 size_t *wanted);
 
 /* Assembles a text to the bytes of a COM program, and writes their count into `*wanted`. LINE_SYNTAX and LINE_TWICE at the
  * first line with either, TOO_LONG, LINE_UNKNOWN and LINE_RANGE at the first line with either (with these four the line's
@@ -322,6 +520,10 @@ static inline const char *mezguld_status_text(mezguld_status status)
     case MEZGULD_BAD_EVENT: return "the kind of an event is none";
     case MEZGULD_NULL_POINTER: return "a pointer is NULL";
     case MEZGULD_BAD_VARIABLES: return "a variable is empty, or the last one is not closed by a zero byte";
+    case MEZGULD_NO_HANDLE: return "the handle is not in use";
+    case MEZGULD_NO_PAGE: return "the handle has no page of this number";
+    case MEZGULD_PAST_END: return "not all of the bytes are in the page or block";
+    case MEZGULD_NO_FINDING: return "the report lists no finding of this number";
     }
     return "unknown status";
 }

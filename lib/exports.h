@@ -48,6 +48,17 @@ mezguld_status dm_c_input_left(mezguld *machine, size_t *left);
 mezguld_status dm_c_command(mezguld *machine, const char *line, size_t line_count, size_t *wanted);
 mezguld_status dm_c_check(mezguld *machine, uint64_t steps, mezguld_stopped *stopped, size_t *wanted);
 mezguld_status dm_c_answer(mezguld *machine, char *buffer, size_t room, size_t *wanted);
+mezguld_status dm_c_blocks(mezguld *machine, mezguld_block *buffer, size_t room, size_t *wanted, mezguld_list_end *end);
+mezguld_status dm_c_page_handles(mezguld *machine, mezguld_page_handle *buffer, size_t room, size_t *wanted);
+mezguld_status dm_c_windows(mezguld *machine, mezguld_window *buffer, size_t room, size_t *wanted);
+mezguld_status dm_c_extended_blocks(mezguld *machine, mezguld_extended_block *buffer, size_t room, size_t *wanted);
+mezguld_status dm_c_upper_blocks(mezguld *machine, mezguld_upper_block *buffer, size_t room, size_t *wanted);
+mezguld_status dm_c_high_memory(mezguld *machine, uint32_t *a20, uint32_t *used);
+mezguld_status dm_c_read_page(mezguld *machine, uint16_t handle, uint16_t page, size_t offset, void *buffer, size_t count);
+mezguld_status dm_c_read_block(mezguld *machine, uint16_t handle, size_t offset, void *buffer, size_t count);
+mezguld_status dm_c_findings(mezguld *machine, mezguld_finding *buffer, size_t room, size_t *wanted);
+mezguld_status dm_c_finding_counts(mezguld *machine, uint64_t *errors, uint64_t *notes, uint64_t *unlisted);
+mezguld_status dm_c_finding_line(mezguld *machine, size_t k, char *buffer, size_t room, size_t *wanted);
 mezguld_status dm_c_assemble(const char *text, size_t text_count, void *buffer, size_t room, size_t *wanted,
                              size_t *line);
 mezguld_status dm_c_disassemble(const void *program, size_t program_count, char *buffer, size_t room, size_t *wanted);

@@ -225,6 +225,89 @@ mezguld_status mezguld_write_linear(mezguld *machine, uint32_t address, const vo
     return dm_c_write_linear(machine, address, bytes_at(bytes), count);
 }
 
+mezguld_status mezguld_blocks(const mezguld *machine, mezguld_block *buffer, size_t room, size_t *wanted,
+                              mezguld_list_end *end)
+{
+    size_t unwanted;
+    mezguld_list_end endless;
+    if (machine == NULL)
+        return MEZGULD_NO_MACHINE;
+    if (is_missing(buffer, room))
+        return MEZGULD_NULL_POINTER;
+    return dm_c_blocks(handle_of(machine), room_at(buffer), room, wanted == NULL ? &unwanted : wanted,
+                       end == NULL ? &endless : end);
+}
+
+mezguld_status mezguld_page_handles(const mezguld *machine, mezguld_page_handle *buffer, size_t room,
+                                    size_t *wanted)
+{
+    size_t unwanted;
+    if (machine == NULL)
+        return MEZGULD_NO_MACHINE;
+    if (is_missing(buffer, room))
+        return MEZGULD_NULL_POINTER;
+    return dm_c_page_handles(handle_of(machine), room_at(buffer), room, wanted == NULL ? &unwanted : wanted);
+}
+
+mezguld_status mezguld_windows(const mezguld *machine, mezguld_window *buffer, size_t room, size_t *wanted)
+{
+    size_t unwanted;
+    if (machine == NULL)
+        return MEZGULD_NO_MACHINE;
+    if (is_missing(buffer, room))
+        return MEZGULD_NULL_POINTER;
+    return dm_c_windows(handle_of(machine), room_at(buffer), room, wanted == NULL ? &unwanted : wanted);
+}
+
+mezguld_status mezguld_extended_blocks(const mezguld *machine, mezguld_extended_block *buffer, size_t room,
+                                       size_t *wanted)
+{
+    size_t unwanted;
+    if (machine == NULL)
+        return MEZGULD_NO_MACHINE;
+    if (is_missing(buffer, room))
+        return MEZGULD_NULL_POINTER;
+    return dm_c_extended_blocks(handle_of(machine), room_at(buffer), room, wanted == NULL ? &unwanted : wanted);
+}
+
+mezguld_status mezguld_upper_blocks(const mezguld *machine, mezguld_upper_block *buffer, size_t room,
+                                    size_t *wanted)
+{
+    size_t unwanted;
+    if (machine == NULL)
+        return MEZGULD_NO_MACHINE;
+    if (is_missing(buffer, room))
+        return MEZGULD_NULL_POINTER;
+    return dm_c_upper_blocks(handle_of(machine), room_at(buffer), room, wanted == NULL ? &unwanted : wanted);
+}
+
+mezguld_status mezguld_high_memory(const mezguld *machine, uint32_t *a20, uint32_t *used)
+{
+    uint32_t unwanted, unused;
+    if (machine == NULL)
+        return MEZGULD_NO_MACHINE;
+    return dm_c_high_memory(handle_of(machine), a20 == NULL ? &unwanted : a20, used == NULL ? &unused : used);
+}
+
+mezguld_status mezguld_read_page(const mezguld *machine, uint16_t handle, uint16_t page, size_t offset, void *buffer,
+                                 size_t count)
+{
+    if (machine == NULL)
+        return MEZGULD_NO_MACHINE;
+    if (is_missing(buffer, count))
+        return MEZGULD_NULL_POINTER;
+    return dm_c_read_page(handle_of(machine), handle, page, offset, room_at(buffer), count);
+}
+
+mezguld_status mezguld_read_block(const mezguld *machine, uint16_t handle, size_t offset, void *buffer, size_t count)
+{
+    if (machine == NULL)
+        return MEZGULD_NO_MACHINE;
+    if (is_missing(buffer, count))
+        return MEZGULD_NULL_POINTER;
+    return dm_c_read_block(handle_of(machine), handle, offset, room_at(buffer), count);
+}
+
 mezguld_status mezguld_output(const mezguld *machine, size_t from, void *buffer, size_t room, size_t *wanted)
 {
     size_t unwanted;
@@ -297,6 +380,35 @@ mezguld_status mezguld_answer(const mezguld *machine, char *buffer, size_t room,
     if (is_missing(buffer, room))
         return MEZGULD_NULL_POINTER;
     return dm_c_answer(handle_of(machine), room_at(buffer), room, wanted == NULL ? &unwanted : wanted);
+}
+
+mezguld_status mezguld_findings(const mezguld *machine, mezguld_finding *buffer, size_t room, size_t *wanted)
+{
+    size_t unwanted;
+    if (machine == NULL)
+        return MEZGULD_NO_MACHINE;
+    if (is_missing(buffer, room))
+        return MEZGULD_NULL_POINTER;
+    return dm_c_findings(handle_of(machine), room_at(buffer), room, wanted == NULL ? &unwanted : wanted);
+}
+
+mezguld_status mezguld_finding_counts(const mezguld *machine, uint64_t *errors, uint64_t *notes, uint64_t *unlisted)
+{
+    uint64_t unwanted, unneeded, unused;
+    if (machine == NULL)
+        return MEZGULD_NO_MACHINE;
+    return dm_c_finding_counts(handle_of(machine), errors == NULL ? &unwanted : errors, notes == NULL ? &unneeded : notes,
+                               unlisted == NULL ? &unused : unlisted);
+}
+
+mezguld_status mezguld_finding_line(const mezguld *machine, size_t k, char *buffer, size_t room, size_t *wanted)
+{
+    size_t unwanted;
+    if (machine == NULL)
+        return MEZGULD_NO_MACHINE;
+    if (is_missing(buffer, room))
+        return MEZGULD_NULL_POINTER;
+    return dm_c_finding_line(handle_of(machine), k, room_at(buffer), room, wanted == NULL ? &unwanted : wanted);
 }
 
 mezguld_status mezguld_assemble(const char *text, size_t text_count, void *buffer, size_t room, size_t *wanted,

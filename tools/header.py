@@ -1,4 +1,5 @@
-"""Compares lib/exports.h with the exports of crates/dm_c, include/mezguld.h with both, and python/mezguld/__init__.py with that header.
+"""Compares lib/exports.h with the exports of crates/dm_c, include/mezguld.h with both and with the records of the crates below, and
+python/mezguld/__init__.py with that header.
 
 (That lib/mezguld.c has the functions of include/mezguld.h, and calls the exports as lib/exports.h declares them, is the C compiler's to see.)"""
 import ast
@@ -7,25 +8,38 @@ import os
 import re
 
 ROOT = os.path.dirname(os.path.dirname(os.path.abspath(__file__)))
+# The crate of the exports, and those that have the records and statuses which C gets.
+CRATES = ("dm_c", "dm_host_calls", "dm_inventory")
 # The C type of a number, and of each type of the exports.
 NUMBERS = {"u8": "uint8_t", "u16": "uint16_t", "u32": "uint32_t", "u64": "uint64_t", "usize": "size_t"}
-TYPES = {**NUMBERS, "Handle": "mezguld", "Stopped": "mezguld_stopped", "Registers": "mezguld_cpu", "Point": "mezguld_point", "Awaited": "mezguld_event"}
+TYPES = {**NUMBERS, "Handle": "mezguld", "Stopped": "mezguld_stopped", "Registers": "mezguld_cpu", "Point": "mezguld_point", "Awaited": "mezguld_event",
+         "ArenaBlock": "mezguld_block", "ListEnd": "mezguld_list_end", "PageHandle": "mezguld_page_handle", "Window": "mezguld_window",
+         "ExtendedBlock": "mezguld_extended_block", "UpperBlock": "mezguld_upper_block", "Act": "mezguld_act", "Place": "mezguld_place",
+         "Contents": "mezguld_contents", "Details": "mezguld_details", "FoundRecord": "mezguld_finding"}
 # The meaning of each letter of `_PARAMETERS` in the Python module; `p` is a pointer that is followed by a count.
 LETTERS = {
     "m": "mezguld *", "h": "mezguld **", "s": "mezguld_stopped *", "r": "mezguld_cpu *", "c": "const mezguld_cpu *", "w": "size_t *", "q": "uint64_t *",
-    "n": "size_t", "I": "uint32_t", "B": "uint32_t", "Q": "uint64_t", "H": "uint16_t",
+    "n": "size_t", "I": "uint32_t", "B": "uint32_t", "Q": "uint64_t", "H": "uint16_t", "e": "mezguld_list_end *", "d": "uint32_t *",
 }
 # What C calls a status and a reason to stop, which are numbers of the exports; an export that returns a number that is no status; and the type that C has
 # for bytes, `void` for data and `char` for texts.
-STATUS_TYPE, STOP_FIELD, NO_STATUS, BYTES = "mezguld_status", ("mezguld_stop", "why"), ("dm_c_version",), re.compile(r"\b(?:void|char) \*")
-KIND_FIELD = ("mezguld_kind", "kind")
+STATUS_TYPE, STOP_TYPE, KIND_TYPE, NO_STATUS, BYTES = "mezguld_status", "mezguld_stop", "mezguld_kind", ("dm_c_version",), re.compile(r"\b(?:void|char) \*")
+# The fields that are numbers in the crates and enumerations in C: the enumeration of each, by the struct.
+NAMED = {
+    ("Stopped", "why"): STOP_TYPE, ("Awaited", "kind"): KIND_TYPE, ("FoundRecord", "kind"): "mezguld_finding_kind", ("Act", "how"): "mezguld_how",
+}
 # The exceptions of the Python module whose status has another name in the header, and the statuses that it raises nothing for: its own calls meet neither
-# an event of no kind, NULL, bad variables nor, at last, a buffer that is too small.
-RENAMED, UNRAISED = {"COMMAND_SYNTAX": "SYNTAX", "BREAKPOINTS_FULL": "FULL"}, ("OK", "TOO_SMALL", "BAD_EVENT", "NULL_POINTER", "BAD_VARIABLES")
+# an event of no kind, NULL, bad variables, a finding that is not listed nor, at last, a buffer that is too small.
+RENAMED, UNRAISED = {"COMMAND_SYNTAX": "SYNTAX", "BREAKPOINTS_FULL": "FULL"}, ("OK", "TOO_SMALL", "BAD_EVENT", "NULL_POINTER", "BAD_VARIABLES", "NO_FINDING")
 # The status of the exports that C never sees, since lib/mezguld.c makes each handle; and those that lib/mezguld.c returns by itself.
 INNER, OUTER = ("IN_USE",), ("NULL_POINTER", "BAD_VARIABLES")
+# The structs that the Python module has as classes of its own, not as a table's records.
+WRITTEN_OUT = ("mezguld", "mezguld_stopped", "mezguld_cpu", "mezguld_point", "mezguld_event")
 # The functions that take a `const mezguld *`; and those of the header whose parameters are not those of the export but for `const`: they make or free a machine.
-READERS = ("steps", "registers", "read", "read_linear", "output", "output_count", "input_left", "answer", "copy")
+READERS = (
+    "steps", "registers", "read", "read_linear", "output", "output_count", "input_left", "answer", "copy", "blocks", "page_handles", "windows", "extended_blocks",
+    "upper_blocks", "high_memory", "read_page", "read_block", "findings", "finding_counts", "finding_line",
+)
 MAKERS = {
     "mezguld_new": {"machine": "mezguld **"}, "mezguld_copy": {"copy": "mezguld **"}, "mezguld_free": {},
 }
@@ -65,15 +79,16 @@ def c_parameters(name, kind):
 
 def type_and_name(words):
     """`const uint8_t *name` as its type and its name."""
-    found = re.fullmatch(r"(.*?)(\w+)", " ".join(words.split()))
+    found = re.fullmatch(r"(.*?)(\w+(?:\[\d+\])?)", " ".join(words.split()))
     return (found[1].strip().replace("* ", "*"), found[2]) if found else (words.strip(), "")
 
 
 class Exports:
-    """What the crate exports, as C would declare it."""
+    """What the crates export, as C would declare it."""
 
     def __init__(self):
-        code = {path: text_of(os.path.relpath(path, ROOT)) for path in sorted(glob.glob(f"{ROOT}/crates/dm_c/src/*.rt"))}
+        paths = [path for crate in CRATES for path in sorted(glob.glob(f"{ROOT}/crates/{crate}/src/*.rt"))]
+        code = {path: re.sub(r"//[^\n]*", "", text_of(os.path.relpath(path, ROOT))) for path in paths}
         whole = "\n".join(code.values())
         self.marked = len(re.findall(r"#\[unsafe\(no_mangle\)\]", whole))
         self.functions, self.structs = {}, {}
@@ -82,7 +97,7 @@ class Exports:
             given = [it for word, kind in pairs for it in c_parameters(word.strip(), " ".join(kind.split()))]
             self.functions[name] = (STATUS_TYPE if result == "u32" and name not in NO_STATUS else TYPES.get(result, result or "void"), given)
         for name, fields in STRUCT.findall(whole):
-            found = [declared_field(line) for line in fields.split(",") if line.strip()]
+            found = [declared_field(name, line) for line in fields.split(",") if line.strip()]
             self.structs[name] = [it for it in found if it]
         self.statuses = {name: int(value) for name, value in CONSTANT.findall(whole)}
         for path, text in code.items():
@@ -92,17 +107,17 @@ class Exports:
         self.stops.update({"EVENT": int(value) for value in EVENT.findall(whole)})
 
 
-def declared_field(line):
-    """A field of a struct of the crate, as C declares it, or None for a ghost one."""
-    found = re.fullmatch(r"(?:pub(?:\(crate\))? )?(\w+): (\*mut u8|\w+)", " ".join(line.split()))
+def declared_field(struct, line):
+    """A field of a struct of the crates, as C declares it, or None for a ghost one."""
+    found = re.fullmatch(r"(?:pub(?:\(crate\))? )?(\w+): (?:(\*mut u8|\w+)|\[(\w+); (\d+)\])", " ".join(line.split()))
     if not found:
         return None
-    if (found[2], found[1]) == ("u32", STOP_FIELD[1]):
-        return STOP_FIELD
-    if (found[2], found[1]) == ("u32", KIND_FIELD[1]):
-        return KIND_FIELD
-    pointer = found[2] in ("*mut u8", "Inside")
-    return ("void *" if pointer else TYPES.get(found[2], found[2]), found[1])
+    name, kind, item, count = found.groups()
+    if item:
+        return (TYPES.get(item, item), f"{name}[{count}]")
+    if (struct, name) in NAMED:
+        return (NAMED[struct, name], name)
+    return ("void *" if kind in ("*mut u8", "Inside") else TYPES.get(kind, kind), name)
 
 
 class Header:
@@ -129,7 +144,9 @@ class Header:
                     found += [(kind, first), *[(kind, word.strip()) for word in words[1:]]]
             self.structs[name] = found
         enums = {name: {word: int(value) for word, value in ENUMERATOR.findall(it)} for it, name in re.findall(r"typedef enum \w+ \{([^}]*)\} (\w+);", text)}
-        self.statuses, self.stops, self.kinds = enums.get(STATUS_TYPE, {}), enums.get(STOP_FIELD[0], {}), enums.get(KIND_FIELD[0], {})
+        self.statuses, self.stops, self.kinds = enums.get(STATUS_TYPE, {}), enums.get(STOP_TYPE, {}), enums.get(KIND_TYPE, {})
+        self.found_kinds = {name.removeprefix("FOUND_"): value for name, value in enums.get("mezguld_finding_kind", {}).items()}
+        self.hows = enums.get("mezguld_how", {})
 
 
 def shown(parameters):
@@ -220,6 +237,12 @@ def status_faults(header, tables, numbers):
             yield f"the status {name} is {wanted.get(name, 'missing')} in the header and {given.get(name, 'missing')} in the Python module"
 
 
+def record_fields(text):
+    """The fields of a record of the Python module, as C declares them."""
+    found = [re.fullmatch(r"(\d*)(\w+) (\w+)", it).groups() for it in text.split(", ")]
+    return [({"B": "uint8_t", "H": "uint16_t", "I": "uint32_t", "Q": "uint64_t"}.get(kind, kind), f"{word}[{count}]" if count else word) for count, kind, word in found]
+
+
 def python_faults(header):
     """The faults of the Python module's tables of parameters and of exceptions, of its stops and of the fields of its registers."""
     tables, classes, numbers = {}, {}, {}
@@ -243,9 +266,13 @@ def python_faults(header):
     stops = {it.targets[0].id: it.value.value for it in classes["Stop"] if isinstance(it, ast.Assign)}
     if stops != header.stops:
         yield "the stops of the Python module are not those of the header"
-    kinds = {it.targets[0].id: it.value.value for it in classes["Kind"] if isinstance(it, ast.Assign)}
-    if kinds != header.kinds:
-        yield "the kinds of events of the Python module are not those of the header"
+    for name, wanted, what in (("Kind", header.kinds, "events"), ("FindingKind", header.found_kinds, "findings"), ("How", header.hows, "acts")):
+        if {it.targets[0].id: it.value.value for it in classes[name] if isinstance(it, ast.Assign)} != wanted:
+            yield f"the kinds of {what} of the Python module are not those of the header"
+    records = {name: record_fields(text) for name, text in ast.literal_eval(tables["_RECORDS"]).items()}
+    for name in {*TYPES.values()} - {*NUMBERS.values(), *WRITTEN_OUT}:
+        if records.get(name) != [("uint32_t" if kind in NAMED.values() else kind, word) for kind, word in header.structs.get(name, [])]:
+            yield f"the record {name} of the Python module is not that of the header"
     registers = [it.target.id for it in classes["Registers"] if isinstance(it, ast.AnnAssign)]
     if registers != [name for _, name in header.structs.get("mezguld_cpu", [])]:
         yield "the registers of the Python module are not those of the header"

@@ -29,10 +29,10 @@ import time
 from typing import Any, Callable, Iterable, NamedTuple, NoReturn
 
 __all__ = [
-    "Block", "Blocks", "Ended", "Error", "Event", "Expanded", "Extended", "ExtendedBlock", "Finding", "Findings", "Instruction", "Kind", "Machine", "PageHandle", "Registers", "Stop",
-    "Stopped", "UpperBlock", "Window", "assemble", "disassemble", "findings",
+    "Act", "Block", "Blocks", "Contents", "Details", "Ended", "Error", "Event", "Expanded", "Extended", "ExtendedBlock", "Finding", "FindingKind", "Findings", "How",
+    "Instruction", "Kind", "Machine", "Origin", "PageHandle", "Place", "Registers", "Stop", "Stopped", "UpperBlock", "Window", "assemble", "disassemble",
     "BadFormat", "BadName", "BreakpointsFull", "CommandSyntax", "InputClosed", "LineRange", "LineRefused", "LineSyntax", "LineTwice", "LineUnknown", "NameTwice",
-    "NoMachine", "NotFound", "NotLoaded", "OutOfMemory", "Short", "Started", "TailTooLong", "TooLarge", "TooLong", "VariablesTooLong", "__version__",
+    "NoHandle", "NoMachine", "NoPage", "NotFound", "NotLoaded", "OutOfMemory", "PastEnd", "Short", "Started", "TailTooLong", "TooLarge", "TooLong", "VariablesTooLong", "__version__",
 ]
 
 __version__ = "2.0.0"
@@ -144,6 +144,24 @@ class InputClosed(Error):
     text = "the console's input is closed; open_input opens it"
 
 
+class NoHandle(Error, LookupError):
+    """The handle is not in use."""
+
+    text = "the handle is not in use"
+
+
+class NoPage(Error, LookupError):
+    """The handle has no page of this number."""
+
+    text = "the handle has no page of this number"
+
+
+class PastEnd(Error, ValueError):
+    """Not all of the bytes are in the page or block."""
+
+    text = "not all of the bytes are in the page or block"
+
+
 class LineRefused(Error, ValueError):
     """A line of an assembly text is wrong; `line` counts from 1."""
 
@@ -191,6 +209,7 @@ _OK, _TOO_SMALL = 0, 4
 _REFUSALS = {
     1: NoMachine, 3: OutOfMemory, 5: TooLarge, 6: VariablesTooLong, 7: BadName, 8: NameTwice, 9: Started, 10: TailTooLong,
     11: NotFound, 12: BadFormat, 13: Short, 14: NotLoaded, 15: CommandSyntax, 16: BreakpointsFull, 21: TooLong, 22: InputClosed,
+    26: NoHandle, 27: NoPage, 28: PastEnd,
 }
 _LINES = {17: LineSyntax, 18: LineUnknown, 19: LineRange, 20: LineTwice}
 for _status, _kind in (*_REFUSALS.items(), *_LINES.items()):
@@ -312,16 +331,18 @@ class Registers(NamedTuple):
 
 
 class Block(NamedTuple):
-    """A header of the DOS memory arena: its segment, whether it is signed `Z` as the last of its list, the owner's segment (0: free), and the
-    size in paragraphs of 16 bytes. Its segments print in hexadecimal."""
+    """A header of the DOS memory arena: its segment, whether it is signed `Z` as the last of its list, the owner (0: free; 8: DOS; else the segment of a
+    program's prefix), the size in paragraphs of 16 bytes, and its list: 0 for the first one, 1 for that of upper memory where the first does not lead to it.
+    Its segments print in hexadecimal."""
 
     segment: int
     last: bool
     owner: int
     size: int
+    list: int = 0
 
     def __repr__(self) -> str:
-        return f"Block(segment=0x{self.segment:04X}, last={self.last}, owner=0x{self.owner:04X}, size={self.size})"
+        return f"Block(segment=0x{self.segment:04X}, last={self.last}, owner=0x{self.owner:04X}, size={self.size}, list={self.list})"
 
 
 class Blocks(list):
@@ -336,11 +357,13 @@ class Blocks(list):
 
 
 class PageHandle(NamedTuple):
-    """A handle of expanded memory: its number, how many pages of 16 KiB it has, and its name of eight bytes."""
+    """A handle of expanded memory: its number, how many pages of 16 KiB it has (they are counted from 0), its name of eight bytes, and whether the windows
+    are saved under it."""
 
     number: int
     pages: int
     name: bytes
+    saved: bool = False
 
 
 class Window(NamedTuple):
@@ -401,23 +424,128 @@ class Instruction(NamedTuple):
         return f"Instruction(segment=0x{self.segment:04X}, offset=0x{self.offset:04X}, data={self.data!r}, text={self.text!r})"
 
 
-class Finding(NamedTuple):
-    """A finding of a checked run: `error` or `note`, the step, the place of the instruction or call (`before` it, where only the address after a call is
-    known), the instruction or call, and what was found; `more` is how often it came again, and `last` the step of the last time."""
+class FindingKind(enum.Enum):
+    """The kinds of findings; `dm check --json` has the same words."""
 
-    kind: str
+    OVERWRITTEN = 0
+    MAPPED_AWAY = 1
+    DESTROYED = 2
+    WHOLE = 3
+    FREED_TWICE = 4
+    REFUSED = 5
+    NOT_ALLOCATED = 6
+    DIVISION_ERROR = 7
+    SHORT = 8
+    NOT_SERVED = 9
+    FREE_READ = 10
+    FREE_WRITTEN = 11
+    STACK_FREED = 12
+    WINDOW_LOST = 13
+    ROM_WRITTEN = 14
+    NOTHING_WRITTEN = 15
+    TAIL_WRITTEN = 16
+    OTHER_FREED = 17
+    NOT_RESIZED = 18
+    HANDLE_KEPT = 19
+    WINDOW_KEPT = 20
+    BLOCK_KEPT = 21
+    UPPER_KEPT = 22
+    AREA_KEPT = 23
+    LINE_KEPT = 24
+
+
+class How(enum.Enum):
+    """How a step was performed: as an instruction, as a call by an interrupt, by an interrupt with the number of a function in AH, or by a far call of the
+    extended memory driver with that of a function."""
+
+    INSTRUCTION = 0
+    INTERRUPT = 1
+    FUNCTION = 2
+    FAR_CALL = 3
+
+
+class Act(NamedTuple):
+    """What was performed in a step: how, the offset after it (of an instruction), and the numbers of the interrupt and of the function that it has. What it
+    does not have is `None`."""
+
+    how: How
+    next: int | None = None
+    interrupt: int | None = None
+    function: int | None = None
+
+
+class Place(NamedTuple):
+    """A place in the code of a program: CS:IP of an instruction, or the address after it (`before`), where only that is known. It prints in hexadecimal."""
+
+    cs: int
+    ip: int
+    before: bool = False
+
+    def __repr__(self) -> str:
+        return f"Place(cs=0x{self.cs:04X}, ip=0x{self.ip:04X}, before={self.before})"
+
+
+class Origin(NamedTuple):
+    """The step that freed the memory that a finding is about, or allocated what a program has left or holds, and its place."""
+
     step: int
-    segment: int
-    offset: int
-    before: bool
-    act: str
-    text: str
+    at: Place
+
+
+class Contents(NamedTuple):
+    """Bytes 0 to 4 of a header of the arena: signature, owner, and size in paragraphs."""
+
+    signature: int
+    owner: int
+    size: int
+
+
+class Details(NamedTuple):
+    """What a finding is about, by the names of `dm check --json` (`old` and `new` there are `old_contents` and `new_contents` here). What its kind does not have
+    is `None`, and is not printed."""
+
+    old_contents: Contents | None = None
+    new_contents: Contents | None = None
+    header: int | None = None
+    byte: int | None = None
+    block: int | None = None
+    owner: int | None = None
+    segment: int | None = None
+    offset: int | None = None
+    window: int | None = None
+    handle: int | None = None
+    pages: int | None = None
+    saved: bool | None = None
+    kib: int | None = None
+    locked: bool | None = None
+    code: int | None = None
+    wanted: int | None = None
+    available: int | None = None
+
+    def __repr__(self) -> str:
+        return f"Details({', '.join(f'{name}={it!r}' for name, it in zip(self._fields, self) if it is not None)})"
+
+
+class Finding(NamedTuple):
+    """A finding of a checked run: its kind, whether it is an error (else a note), the step, the process (the segment of its prefix), the place of the step,
+    what was performed, what the finding is about, the step that freed or allocated that (`None` where it is not known), how often it came again (`more`), the
+    step of the last time, and its line in the report."""
+
+    kind: FindingKind
+    is_error: bool
+    step: int
+    process: int
+    at: Place
+    act: Act
+    details: Details
+    origin: Origin | None
     more: int
     last: int
+    line: str
 
 
 class Findings(list):
-    """The findings of a report that are listed, in their order; `errors` and `notes` count all, and `unlisted` those that are left out."""
+    """The findings that a report lists, in the order in which they happened; `errors` and `notes` count all, and `unlisted` those that are left out."""
 
     def __init__(self, found: Iterable[Finding] = (), errors: int = 0, notes: int = 0, unlisted: int = 0) -> None:
         super().__init__(found)
@@ -425,30 +553,6 @@ class Findings(list):
 
     def __repr__(self) -> str:
         return f"Findings({super().__repr__()}, errors={self.errors}, notes={self.notes}, unlisted={self.unlisted})"
-
-
-_FINDING = re.compile(r"(error|note): step (\d+), (before )?([0-9A-F]{4}):([0-9A-F]{4}) (.*?): (.*)")
-_AGAIN = re.compile(r"again: step (\d+), (before )?([0-9A-F]{4}):([0-9A-F]{4}) (.*?): (.*): (\d+) more, the last at step (\d+)")
-_COUNTS, _UNLISTED = re.compile(r"errors: (\d+), notes: (\d+)"), re.compile(r"not listed: (\d+) findings?")
-
-
-def findings(report: str) -> Findings:
-    """The findings of a report, which `Machine.check` returns beside the stop. Lines of another form are passed over."""
-    listed = Findings()
-    for line in report.splitlines():
-        found, again, counts, unlisted = (it.fullmatch(line) for it in (_FINDING, _AGAIN, _COUNTS, _UNLISTED))
-        if found:
-            kind, step, before, segment, offset, act, text = found.groups()
-            listed.append(Finding(kind, int(step), int(segment, 16), int(offset, 16), before is not None, act, text, 0, int(step)))
-        elif again:
-            step, before, segment, offset, act, text, more, last = again.groups()
-            same = int(step), int(segment, 16), int(offset, 16), before is not None, act, text
-            listed[:] = [it._replace(more=int(more), last=int(last)) if it[1:7] == same else it for it in listed]
-        elif counts:
-            listed.errors, listed.notes = int(counts[1]), int(counts[2])
-        elif unlisted:
-            listed.unlisted = int(unlisted[1])
-    return listed
 
 
 # ---- the library
@@ -471,6 +575,68 @@ class _Event(ctypes.Structure):
         ("kind", ctypes.c_uint32), ("address", ctypes.c_uint32), ("length", ctypes.c_uint32), ("segment", ctypes.c_uint16), ("offset", ctypes.c_uint16),
         ("number", ctypes.c_uint8), ("ah", ctypes.c_uint8),
     ]
+
+
+# The records of the library: a number has the letter of its size, behind how many there are.
+_RECORDS = {
+    "mezguld_block": "H segment, H owner, H size, B signature, B list",
+    "mezguld_list_end": "H destroyed, H at",
+    "mezguld_page_handle": "H number, H pages, I saved, 8B name",
+    "mezguld_window": "H shows, H handle, H page",
+    "mezguld_extended_block": "Q address, I locks, H handle, H kib",
+    "mezguld_upper_block": "H segment, H size",
+    "mezguld_act": "I how, H next, B interrupt, B function",
+    "mezguld_place": "H cs, H ip, H before",
+    "mezguld_contents": "H signature, H owner, H size",
+    "mezguld_details": (
+        "mezguld_contents old_contents, mezguld_contents new_contents, H header, H byte, H block, H owner, H segment, H offset, H window, H handle, H pages, H saved, "
+        "H kib, H locked, H code, H wanted, H available"
+    ),
+    "mezguld_finding": (
+        "Q step, Q more, Q last, Q origin_step, I kind, I is_error, mezguld_place at, mezguld_place origin_at, mezguld_act act, H process, mezguld_details details"
+    ),
+}
+_SIZES: dict[str, Any] = {"B": ctypes.c_uint8, "H": ctypes.c_uint16, "I": ctypes.c_uint32, "Q": ctypes.c_uint64, "8B": ctypes.c_uint8 * 8}
+_STRUCTURES: dict[str, Any] = {}
+for _struct, _members in _RECORDS.items():
+    _pairs = [_member.split(" ") for _member in _members.split(", ")]
+    _STRUCTURES[_struct] = type(_struct, (ctypes.Structure,), {"_fields_": [(_word, {**_SIZES, **_STRUCTURES}[_size]) for _size, _word in _pairs]})
+del _struct, _members, _pairs
+
+
+# The details that a finding of each kind has.
+_DETAILS = {
+    FindingKind.OVERWRITTEN: "header old_contents new_contents", FindingKind.MAPPED_AWAY: "header", FindingKind.DESTROYED: "header",
+    FindingKind.FREED_TWICE: "block", FindingKind.REFUSED: "code", FindingKind.NOT_ALLOCATED: "code", FindingKind.SHORT: "code wanted available",
+    FindingKind.FREE_READ: "block segment offset", FindingKind.FREE_WRITTEN: "block segment offset", FindingKind.STACK_FREED: "block",
+    FindingKind.WINDOW_LOST: "window segment offset", FindingKind.ROM_WRITTEN: "segment offset", FindingKind.NOTHING_WRITTEN: "segment offset",
+    FindingKind.TAIL_WRITTEN: "header byte", FindingKind.OTHER_FREED: "block owner", FindingKind.NOT_RESIZED: "wanted",
+    FindingKind.HANDLE_KEPT: "handle pages saved", FindingKind.WINDOW_KEPT: "window", FindingKind.BLOCK_KEPT: "handle kib locked",
+    FindingKind.UPPER_KEPT: "block",
+}
+# What an act has that was performed in each of these ways.
+_ACTS = {How.INSTRUCTION: "next", How.INTERRUPT: "interrupt", How.FUNCTION: "interrupt function", How.FAR_CALL: "function"}
+
+
+def _detail(record: Any, name: str) -> Any:
+    it = getattr(record, name)
+    if name in ("old_contents", "new_contents"):
+        return Contents(it.signature, it.owner, it.size)
+    return bool(it) if name in ("saved", "locked") else it
+
+
+def _place(record: Any) -> Place:
+    return Place(record.cs, record.ip, bool(record.before))
+
+
+def _finding(record: Any, line: str) -> Finding:
+    kind, how = FindingKind(record.kind), How(record.act.how)
+    return Finding(
+        kind, bool(record.is_error), record.step, record.process, _place(record.at),
+        Act(how, **{name: getattr(record.act, name) for name in _ACTS[how].split()}),
+        Details(**{name: _detail(record.details, name) for name in _DETAILS.get(kind, "").split()}),
+        Origin(record.origin_step, _place(record.origin_at)) if record.origin_step else None, record.more, record.last, line,
+    )
 
 
 _NAME = "libmezguld.so"
@@ -515,6 +681,17 @@ _PARAMETERS = {
     "mezguld_command": "m pn w",
     "mezguld_check": "m Q s w",
     "mezguld_answer": "m pn w",
+    "mezguld_blocks": "m pn w e",
+    "mezguld_page_handles": "m pn w",
+    "mezguld_windows": "m pn w",
+    "mezguld_extended_blocks": "m pn w",
+    "mezguld_upper_blocks": "m pn w",
+    "mezguld_high_memory": "m d d",
+    "mezguld_read_page": "m HH n pn",
+    "mezguld_read_block": "m H n pn",
+    "mezguld_findings": "m pn w",
+    "mezguld_finding_counts": "m q q q",
+    "mezguld_finding_line": "m n pn w",
     "mezguld_free": "m",
     "mezguld_assemble": "pn pn w w",
     "mezguld_disassemble": "pn pn w",
@@ -522,7 +699,7 @@ _PARAMETERS = {
 _TYPES = {
     "m": ctypes.c_void_p, "h": ctypes.POINTER(ctypes.c_void_p), "s": ctypes.POINTER(_Stopped), "r": ctypes.POINTER(_Registers), "c": ctypes.POINTER(_Registers), "p": ctypes.c_void_p, "n": ctypes.c_size_t,
     "w": ctypes.POINTER(ctypes.c_size_t), "q": ctypes.POINTER(ctypes.c_uint64), "I": ctypes.c_uint32, "Q": ctypes.c_uint64, "H": ctypes.c_uint16,
-    "B": ctypes.c_uint32,
+    "B": ctypes.c_uint32, "e": ctypes.POINTER(_STRUCTURES["mezguld_list_end"]), "d": ctypes.POINTER(ctypes.c_uint32),
 }
 
 
@@ -556,8 +733,8 @@ except ImportError as _error:
 # ---- what calls are given. (ctypes cuts a number that is too large for its type, so each is tested before.)
 
 _MOST_STEPS = 2**64 - 1
-# A segment has this many bytes.
-_MOST_BYTES = 0x10000
+# A segment has this many bytes, a page of expanded memory this many, and a block of extended memory at most so many.
+_MOST_BYTES, _PAGE, _MOST_BLOCK = 0x10000, 0x4000, 0xFFFF * 1024
 
 
 def _number(number: int, most: int, what: str) -> int:
@@ -973,7 +1150,7 @@ class Machine:
 
     def check(self, steps: int) -> tuple[Stopped, str]:
         """Makes at most so many steps, as `run`, under the memory checker, and returns the text of its report, with the line about the stop,
-        beside the stop. `findings` reads the report.
+        beside the stop. `findings` gives what it has found as tuples with names.
 
         `NotLoaded`; `OutOfMemory`, after which any part of the run was made. Ctrl-C comes at once, but the run is made to its end, since a report is of a
         whole run. Later calls wait for that; `close` does not, and the machine is freed then.
@@ -992,40 +1169,82 @@ class Machine:
 
         return _served(work, steps, self._left)
 
+    def findings(self) -> Findings:
+        """The findings of the last `check`, with the numbers of its errors and notes; none before the first. No other call changes them. `OutOfMemory`."""
+        counts = [ctypes.c_uint64() for _ in range(3)]
+        with self._held():
+            self._call(_library.mezguld_finding_counts, *counts)
+            records = self._records(_library.mezguld_findings, "mezguld_finding")
+            lines = [self._finding_line(number) for number in range(len(records))]
+        return Findings(map(_finding, records, lines), *(count.value for count in counts))
+
+    def _finding_line(self, number: int) -> str:
+        """The line of a finding in the report."""
+        line = _taken(lambda buffer, room, wanted: _library.mezguld_finding_line(self._handle, number, buffer, room, wanted), 160)
+        return line.decode("latin-1").rstrip("\n")
+
+    def _records(self, function: Callable[..., int], name: str, *last: object) -> list[Any]:
+        """The records that a call copies to an array: `last` are its arguments behind the count that it wants."""
+        room, wanted = 64, ctypes.c_size_t()
+        with self._held():
+            while True:
+                array = (_STRUCTURES[name] * (room + 1))()
+                status = function(self._handle, array, room, wanted, *last)
+                if status != _TOO_SMALL:
+                    _check(status)
+                    return list(array[: wanted.value])
+                room = wanted.value
+
     def blocks(self) -> Blocks:
         """The headers of the DOS memory arena, in their order: those of the first list, then those of the list in upper memory, if there is one
         that is not linked. Of a destroyed list they are those before the bad header, and `destroyed` is its segment. `NotLoaded`."""
-        blocks = Blocks()
-        for line in self.command("M").decode("ascii").splitlines():
-            words = line.split()
-            if words[0] == "destroyed":
-                blocks.destroyed = int(words[-1], 16)
-            elif len(words) == 4:
-                segment, signature, owner, size = words
-                blocks.append(Block(int(segment, 16), signature == "Z", int(owner, 16), int(size, 16)))
-        return blocks
-
-    def _listed(self, line: str) -> list[list[str]]:
-        """The words of each line of an answer."""
-        return [line.split() for line in self.command(line).decode("latin-1").splitlines()]
+        end = _STRUCTURES["mezguld_list_end"]()
+        records = self._records(_library.mezguld_blocks, "mezguld_block", end)
+        return Blocks((Block(it.segment, it.signature == ord("Z"), it.owner, it.size, it.list) for it in records), end.at if end.destroyed else None)
 
     def expanded(self) -> Expanded:
         """Expanded memory: its handles, and what its windows show. `NotLoaded`."""
-        handles: list[PageHandle] = []
-        windows: list[Window | None] = []
-        for words in self._listed("P"):
-            if words[0] != "window":
-                handles.append(PageHandle(int(words[0], 16), int(words[1], 16), bytes.fromhex(words[2])))
-            else:
-                windows.append(Window(int(words[2], 16), int(words[3], 16)) if len(words) == 4 else None)
-        return Expanded(handles, windows)
+        with self._held():
+            handles = self._records(_library.mezguld_page_handles, "mezguld_page_handle")
+            windows = self._records(_library.mezguld_windows, "mezguld_window")
+        return Expanded(
+            [PageHandle(it.number, it.pages, bytes(it.name), bool(it.saved)) for it in handles],
+            [Window(it.handle, it.page) if it.shows else None for it in windows],
+        )
 
     def extended(self) -> Extended:
         """Extended memory: its blocks, upper memory blocks, the A20 line and the high memory area. `NotLoaded`."""
-        *rows, last = self._listed("X")
-        blocks = [ExtendedBlock(*(int(word, 16) for word in words)) for words in rows if words[0] != "upper"]
-        upper = [UpperBlock(int(words[1], 16), int(words[2], 16)) for words in rows if words[0] == "upper"]
-        return Extended(blocks, upper, last[1] == "on", last[3] == "used")
+        a20, used = ctypes.c_uint32(), ctypes.c_uint32()
+        with self._held():
+            blocks = self._records(_library.mezguld_extended_blocks, "mezguld_extended_block")
+            upper = self._records(_library.mezguld_upper_blocks, "mezguld_upper_block")
+            self._call(_library.mezguld_high_memory, a20, used)
+        return Extended(
+            [ExtendedBlock(it.handle, it.address, it.kib, it.locks) for it in blocks],
+            [UpperBlock(it.segment, it.size) for it in upper], bool(a20.value), bool(used.value),
+        )
+
+    def read_page(self, handle: int, page: int, offset: int = 0, count: int | None = None) -> bytes:
+        """Bytes of a logical page of a handle of expanded memory, whether a window shows it or not: so many from byte `offset` of it on, or all up to the end
+        of its 16,384. `NotLoaded`, `NoHandle`, `NoPage`, `PastEnd`."""
+        handle, page = _number(handle, 0xFFFF, "the handle"), _number(page, 0xFFFF, "the page")
+        offset = _number(offset, _MOST_STEPS, "the offset")
+        count = max(_PAGE - offset, 0) if count is None else _number(count, _PAGE, "the count")
+        buffer = ctypes.create_string_buffer(count + 1)
+        self._call(_library.mezguld_read_page, handle, page, offset, buffer, count)
+        return buffer.raw[:count]
+
+    def read_block(self, handle: int, offset: int = 0, count: int | None = None) -> bytes:
+        """Bytes of the block of a handle of extended memory: so many from byte `offset` of it on, or all up to its end. `NotLoaded`, `NoHandle`, `PastEnd`."""
+        handle, offset = _number(handle, 0xFFFF, "the handle"), _number(offset, _MOST_STEPS, "the offset")
+        count = None if count is None else _number(count, _MOST_BLOCK, "the count")
+        with self._held():
+            if count is None:
+                sizes = [it.kib * 1024 for it in self.extended().blocks if it.handle == handle]
+                count = max(sum(sizes) - offset, 0)
+            buffer = ctypes.create_string_buffer(count + 1)
+            self._call(_library.mezguld_read_block, handle, offset, buffer, count)
+            return buffer.raw[:count]
 
     def code(self, segment: int, offset: int, count: int = 8) -> list[Instruction]:
         """So many instructions, at most 4,096, from segment:offset on; offsets wrap in their segment. `NotLoaded`."""

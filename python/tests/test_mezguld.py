@@ -16,7 +16,9 @@ from unittest import mock
 ROOT = os.path.dirname(os.path.dirname(os.path.dirname(os.path.abspath(__file__))))
 sys.path.insert(0, os.path.join(ROOT, "python"))
 import mezguld  # noqa: E402
-from mezguld import Block, Ended, Event, Machine, Stop, Stopped  # noqa: E402
+from mezguld import (  # noqa: E402
+    Act, Block, Contents, Details, Ended, Event, FindingKind, How, Machine, Origin, Place, Stop, Stopped,
+)
 
 # Prints what it reads until there is no input.
 ECHO = "next: MOV AH,8\nINT 21h\nMOV DL,AL\nMOV AH,2\nINT 21h\nJMP next\n"
@@ -272,35 +274,60 @@ class Memory(unittest.TestCase):
 
     def test_segments_print_in_hexadecimal(self) -> None:
         with started(END) as machine:
-            self.assertEqual(repr(machine.blocks()[0]), "Block(segment=0x0100, last=False, owner=0x0103, size=1)")
+            self.assertEqual(repr(machine.blocks()[0]), "Block(segment=0x0100, last=False, owner=0x0103, size=1, list=0)")
             self.assertEqual(str(machine.registers)[:31], "Registers(ax=0x0000, bx=0x0000,")
             self.assertIn("sp=0xFFFE", f"{machine.registers}")
 
 
 class Reports(unittest.TestCase):
-    """What a report of the checker says, as findings."""
+    """What the checker has found."""
 
     def test_of_a_run(self) -> None:
         # Writes over the header at 0102h, calls 48h three times at one place, and ends.
         text = "MOV AX,102h\nMOV ES,AX\nES MOV BYTE [0],0\nMOV CX,3\nnext: MOV AH,48h\nMOV BX,1\nINT 21h\nLOOP next\nHLT\n"
         with started(text) as machine:
+            self.assertEqual((machine.findings(), machine.findings().errors), ([], 0))
             stopped, report = machine.check(1000)
-        found = mezguld.findings(report)
+            found = machine.findings()
+            machine.command("R")
+            with copy.copy(machine) as other:
+                self.assertEqual((other.findings(), machine.findings()), (found, found))
+            self.assertEqual(machine.check(1)[0].why, Stop.HALTED)
+            self.assertEqual((machine.findings(), machine.findings().notes), ([], 0))
         self.assertEqual(stopped.why, Stop.HALTED)
         self.assertEqual((found.errors, found.notes, found.unlisted, len(found)), (2, 3, 0, 3))
-        self.assertEqual([(it.kind, it.step, it.segment, it.offset, it.before) for it in found[:2]], [("error", 3, 0x0103, 0x0105, False)] * 2)
-        self.assertEqual([it.act for it in found[:2]], ["ES MOV BYTE [00000h],000h"] * 2)
-        self.assertEqual([it.text for it in found[:2]], ["header at 0102 overwritten: 5A 0103 9EFD became 00 0103 9EFD", "arena destroyed at 0102"])
-        self.assertEqual((found[2].kind, found[2].more, found[2].text), ("note", 2, "refused with code 07h, no valid block list"))
-        self.assertGreater(found[2].last, found[2].step)
+        place, act = Place(0x0103, 0x0105), Act(How.INSTRUCTION, next=0x010B)
+        old, new = Contents(0x5A, 0x0103, 0x9EFD), Contents(0, 0x0103, 0x9EFD)
+        self.assertEqual(found[0][:10], (FindingKind.OVERWRITTEN, True, 3, 0x0103, place, act, Details(old, new, header=0x0102), None, 0, 3))
+        self.assertEqual(found[1][:10], (FindingKind.DESTROYED, True, 3, 0x0103, place, act, Details(header=0x0102), None, 0, 3))
+        act = Act(How.FUNCTION, interrupt=0x21, function=0x48)
+        self.assertEqual(found[2][:10], (FindingKind.REFUSED, False, 8, 0x0103, Place(0x0103, 0x0113), act, Details(code=7), None, 2, 18))
+        self.assertEqual([it.line for it in found], report.splitlines()[:3])
+        self.assertEqual(found[1].line, "error: step 3, 0103:0105 ES MOV BYTE [00000h],000h: arena destroyed at 0102")
+        self.assertEqual(f"{found[0].details}", f"Details(old_contents={old}, new_contents={new}, header=258)")
+        self.assertEqual(repr(found[0].at), "Place(cs=0x0103, ip=0x0105, before=False)")
 
-    def test_of_other_texts(self) -> None:
-        for text in ("", "\n", "no report", "error: step x", "again: step 5, 0103:0100 NOP: x: 1 more, the last at step 9"):
-            self.assertEqual(mezguld.findings(text), [])
-        found = mezguld.findings("not listed: 1 finding\nerrors: 101, notes: 0\n")
-        self.assertEqual((found, found.errors, found.notes, found.unlisted), ([], 101, 0, 1))
-        found = mezguld.findings("note: step 7, before 0103:0109 call of the driver: refused with code A0h\nerrors: 0, notes: 1\n")
-        self.assertEqual(found, [("note", 7, 0x0103, 0x0109, True, "call of the driver", "refused with code A0h", 0, 7)])
+    def test_who_freed_and_who_allocated(self) -> None:
+        # Keeps 512 bytes with its stack, allocates a paragraph and frees it, reads it, and ends with a page of expanded memory.
+        text = """MOV SP,200h\nMOV BX,20h\nMOV AH,4Ah\nINT 21h\nMOV BX,1\nMOV AH,48h\nINT 21h\nMOV ES,AX\nMOV AH,49h\nINT 21h\nES MOV AL,[0]
+            MOV BX,1\nMOV AH,43h\nINT 67h\nMOV AX,4C00h\nINT 21h\n"""
+        with started(text) as machine:
+            machine.check(1000)
+            read, kept = machine.findings()
+        self.assertEqual((read.kind, read.step, read.at), (FindingKind.FREE_READ, 14, Place(0x0103, 0x0117)))
+        self.assertEqual((read.details, read.origin), (Details(block=0x0124, segment=0x0124, offset=0), Origin(13, Place(0x0103, 0x0115))))
+        # (The call of 43h is step 18: MOV, MOV and INT are before it.)
+        self.assertEqual((kept.kind, kept.is_error, kept.origin), (FindingKind.HANDLE_KEPT, True, Origin(18, Place(0x0103, 0x0120))))
+        self.assertEqual(kept.details, Details(handle=1, pages=1, saved=False))
+
+    def test_of_many(self) -> None:
+        # 120 calls of a function that is not served, each at its own place: 100 are listed.
+        with started("MOV AH,0EEh\nINT 21h\n" * 120 + END) as machine:
+            machine.check(1000)
+            found = machine.findings()
+        self.assertEqual((len(found), found.errors, found.notes, found.unlisted), (100, 0, 120, 20))
+        self.assertEqual([(it.step, it.at.ip) for it in found], [(3 + 3 * at, 0x0102 + 4 * at) for at in range(100)])
+        self.assertEqual({(it.kind, it.act, it.details) for it in found}, {(FindingKind.REFUSED, Act(How.FUNCTION, None, 0x21, 0xEE), Details(code=1))})
 
 
 # Allocates two pages, names their handle and maps the second one into window 1; allocates 16 KiB and 8 paragraphs by the driver of extended memory.
@@ -329,13 +356,48 @@ driver: DW 0,0
 """
 
 
+# Allocates two pages, writes to the second one through window 0, saves the windows, and maps the first one there; allocates 2 KiB by the driver of extended
+# memory, and moves six bytes to byte 8 of them.
+MOVES = """MOV BX,2
+MOV AH,43h
+INT 67h
+MOV BX,1
+MOV AX,4400h
+INT 67h
+MOV AX,0E000h
+MOV ES,AX
+ES MOV WORD [6],4241h
+MOV AH,47h
+INT 67h
+MOV BX,0
+MOV AX,4400h
+INT 67h
+MOV AX,4310h
+INT 2Fh
+MOV [driver],BX
+MOV WORD [driver+2],ES
+MOV AH,9
+MOV DX,2
+CALL FAR [driver]
+MOV WORD [move+6],text
+MOV WORD [move+8],DS
+MOV AH,0Bh
+MOV SI,move
+CALL FAR [driver]
+HLT
+text: DB 'string'
+driver: DW 0,0
+move: DW 6,0,0,0,0,1,8,0
+"""
+
+
 class Drivers(unittest.TestCase):
     def test_expanded_memory(self) -> None:
         with started(DRIVERS) as machine:
             nobody = mezguld.PageHandle(0, 0, bytes(8))
             self.assertEqual(machine.expanded(), ([nobody], [None] * 4))
             self.assertEqual(machine.run(1000).why, Stop.HALTED)
-            self.assertEqual(machine.expanded(), ([nobody, (1, 2, b"EIGHT<<<")], [None, (1, 1), None, None]))
+            self.assertEqual(machine.expanded(), ([nobody, (1, 2, b"EIGHT<<<", False)], [None, (1, 1), None, None]))
 
     def test_extended_memory(self) -> None:
         with started(DRIVERS) as machine:
@@ -346,6 +408,60 @@ class Drivers(unittest.TestCase):
             self.assertGreaterEqual(found.blocks[0].address, 0x110000)
             self.assertEqual((found.upper, found.a20, found.high_memory_area), ([(0xD000, 8)], False, False))
             self.assertEqual(repr(found.upper[0]), "UpperBlock(segment=0xD000, size=8)")
+
+    def test_bytes_by_handle(self) -> None:
+        with started(MOVES) as machine:
+            self.assertRaises(mezguld.NoPage, machine.read_page, 0, 0)
+            self.assertRaises(mezguld.NoHandle, machine.read_page, 1, 0)
+            self.assertRaises(mezguld.NoHandle, machine.read_block, 1)
+            self.assertEqual(machine.run(1000).why, Stop.HALTED)
+            # Page 1 was written to through window 0, which shows page 0 since, and whose windows are saved.
+            self.assertEqual(machine.expanded(), ([(0, 0, bytes(8), False), (1, 2, bytes(8), True)], [(1, 0), None, None, None]))
+            self.assertEqual((machine.read_page(1, 1, 5, 4), machine.read_page(1, 0)), (b"\0AB\0", bytes(0x4000)))
+            page = bytearray(0x4000)
+            page[6:8] = b"AB"
+            self.assertEqual((machine.read_page(1, 1), machine.read_page(1, 1, 0x3FFF), machine.read_page(1, 1, 0x4000)), (page, b"\0", b""))
+            # What is written by linear addresses is seen.
+            machine.write(0xE000, 0x3FFF, b"x")
+            self.assertEqual((machine.read_page(1, 0, 0x3FFE), machine.read_page(1, 0, 0, 0)), (b"\0x", b""))
+            self.assertEqual((machine.read_block(1, 6, 10), len(machine.read_block(1)), machine.read_block(1, 2048)), (b"\0\0string\0\0", 2048, b""))
+            self.assertEqual(machine.read_block(1), bytes(8) + b"string" + bytes(2034))
+            for call, arguments in (
+                (machine.read_page, (1, 1, 0x4001)), (machine.read_page, (1, 1, 1, 0x4000)), (machine.read_page, (1, 0, 2**64 - 1, 1)),
+                (machine.read_block, (1, 2049)), (machine.read_block, (1, 2047, 2)), (machine.read_block, (1, 2**64 - 1, 1)),
+            ):
+                self.assertRaises(mezguld.PastEnd, call, *arguments)
+            self.assertRaises(mezguld.NoPage, machine.read_page, 1, 2)
+            for handle in (2, 64, 0xFFFF):
+                self.assertRaises(mezguld.NoHandle, machine.read_page, handle, 0)
+                self.assertRaises(mezguld.NoHandle, machine.read_block, handle)
+            self.assertRaises(mezguld.NoHandle, machine.read_block, 0)
+
+    def test_upper_list(self) -> None:
+        # The first list ends below 9FFFh, whose block goes up to D000h, where the second list ends.
+        with Machine(upper=True) as machine:
+            machine.add("MAIN.COM", mezguld.assemble(END))
+            machine.load("MAIN.COM")
+            blocks = machine.blocks()
+            self.assertEqual([it.segment for it in blocks if it.list == 1], [0x9FFF, 0xD000])
+            self.assertEqual([it[1:4] for it in blocks if it.list == 1], [(False, 8, 0x3000), (True, 0, 0x0FFF)])
+            self.assertEqual([it.list for it in blocks if it.last], [0, 1])
+            machine.write(0xD000, 0, b"?")
+            self.assertEqual((machine.blocks(), machine.blocks().destroyed), (blocks[:-1], 0xD000))
+            machine.write(0x0102, 0, b"?")
+            self.assertEqual((machine.blocks(), machine.blocks().destroyed), (blocks[:1], 0x0102))
+
+    def test_many_blocks(self) -> None:
+        # More headers than a call gives at once: each but the last is followed by the next one after a block of no paragraph.
+        with started(END) as machine:
+            for at in range(1000):
+                machine.write(0x2000 + at, 0, b"M\0\0\0\0")
+            machine.write(0x23E8, 0, b"Z\0\0\0\0")
+            first = machine.blocks()[1]
+            machine.write(first.segment, 3, (0x2000 - first.segment - 1).to_bytes(2, "little"))
+            machine.write(first.segment, 0, b"M")
+            blocks = machine.blocks()
+            self.assertEqual((len(blocks), blocks.destroyed, blocks[-1]), (1003, None, Block(0x23E8, True, 0, 0)))
 
     def test_code(self) -> None:
         with started("MOV AX,4C07h\nINT 21h\nDB 0Fh\n") as machine:
@@ -428,6 +544,15 @@ class Refusals(unittest.TestCase):
         self.assertRaises(ValueError, started(END).read, 65_536, 0, 1)
 
 
+def refused(kind: type, call: object, *arguments: object) -> bool:
+    """Whether a call raises this, and nothing else."""
+    try:
+        call(*arguments)
+    except kind:
+        return True
+    return False
+
+
 # A call of each method and property of a machine but `close`. Each can be made over a loaded machine.
 CALLS = {
     "run": lambda machine: machine.run(3),
@@ -454,6 +579,9 @@ CALLS = {
     "vector": lambda machine: machine.vector(0x67),
     "expanded": lambda machine: machine.expanded(),
     "extended": lambda machine: machine.extended(),
+    "read_page": lambda machine: refused(mezguld.NoPage, machine.read_page, 0, 0),
+    "read_block": lambda machine: refused(mezguld.NoHandle, machine.read_block, 1),
+    "findings": lambda machine: machine.findings(),
     "code": lambda machine: machine.code(0x0103, 0x0100, 3),
     "add": lambda machine: machine.add("LATE.COM", b"x"),
     "load": lambda machine: machine.load("MAIN.COM"),
@@ -619,6 +747,31 @@ class WrongArguments(unittest.TestCase):
                 self.refuses(ValueError, machine.output, number)
             for other in self.NO_NUMBERS:
                 self.refuses(TypeError, machine.output, other)
+
+    def test_handles(self) -> None:
+        with started(END) as machine:
+            for number in (*self.NUMBERS, 0x10000):
+                self.refuses(ValueError, machine.read_page, number, 0)
+                self.refuses(ValueError, machine.read_page, 0, number)
+                self.refuses(ValueError, machine.read_page, 0, 0, 0, number)
+                self.refuses(ValueError, machine.read_block, number)
+            for number in self.NUMBERS:
+                self.refuses(ValueError, machine.read_page, 0, 0, number)
+                self.refuses(ValueError, machine.read_block, 1, number)
+                self.refuses(ValueError, machine.read_block, 1, 0, number)
+            for number in (0x4001, 2**31, 2**62):
+                self.refuses(ValueError, machine.read_page, 0, 0, 0, number)
+            for number in (0xFFFF * 1024 + 1, 2**32, 2**62):
+                self.refuses(ValueError, machine.read_block, 1, 0, number)
+            for other in self.NO_NUMBERS:
+                self.refuses(TypeError, machine.read_page, other, 0)
+                self.refuses(TypeError, machine.read_page, 0, other)
+                self.refuses(TypeError, machine.read_page, 0, 0, other)
+                self.refuses(TypeError, machine.read_block, other)
+                self.refuses(TypeError, machine.read_block, 1, other)
+                if other is not None:
+                    self.refuses(TypeError, machine.read_page, 0, 0, 0, other)
+                    self.refuses(TypeError, machine.read_block, 1, 0, other)
 
     def test_more_is_a_truth_value(self) -> None:
         machine = Machine()

@@ -42,6 +42,10 @@ static void expect_all(mezguld *machine, mezguld_status status)
     EXPECT(mezguld_input_left(machine, &count) == status);
     EXPECT(mezguld_command(machine, "R", 1, &count) == status);
     EXPECT(mezguld_check(machine, 1, &stopped, &count) == status);
+    EXPECT(mezguld_blocks(machine, NULL, 0, &count, NULL) == status && mezguld_page_handles(machine, NULL, 0, &count) == status);
+    EXPECT(mezguld_windows(machine, NULL, 0, &count) == status && mezguld_extended_blocks(machine, NULL, 0, &count) == status);
+    EXPECT(mezguld_upper_blocks(machine, NULL, 0, &count) == status && mezguld_high_memory(machine, NULL, NULL) == status);
+    EXPECT(mezguld_read_page(machine, 0, 0, 0, bytes, 1) == status && mezguld_read_block(machine, 1, 0, bytes, 1) == status);
 }
 
 /* A new machine with a program loaded that prints what it reads, and the input "ab". */
@@ -140,6 +144,78 @@ static void give_null(mezguld *machine)
     EXPECT(mezguld_new(&machine, 0, 0, NULL, 1, 0) == MEZGULD_NULL_POINTER && machine == NULL);
 }
 
+/* What a machine holds: without and with room, and with NULL for each pointer. The loaded program has made no step: the arena has the blocks of its
+ * environment and its prefix, the link block and a block of upper memory; handle 0 of expanded memory is in use; nothing else is. */
+static void list_all(mezguld *machine)
+{
+    mezguld_block blocks[5];
+    mezguld_list_end end = {7, 7};
+    mezguld_page_handle handles[2];
+    mezguld_window windows[5];
+    mezguld_extended_block block;
+    mezguld_upper_block upper;
+    mezguld_finding finding;
+    uint32_t a20 = 7, used = 7;
+    uint64_t errors = 7, notes = 7, unlisted = 7;
+    size_t count = 7;
+    char bytes[8] = "";
+    memset(windows, 0x77, sizeof windows);
+    memset(handles, 0x77, sizeof handles);
+    EXPECT(mezguld_blocks(machine, NULL, 1, &count, &end) == MEZGULD_NULL_POINTER && count == 7 && end.at == 7);
+    EXPECT(mezguld_blocks(machine, NULL, 0, NULL, NULL) == MEZGULD_TOO_SMALL && mezguld_blocks(machine, blocks, 3, &count, &end) == MEZGULD_TOO_SMALL);
+    EXPECT(count == 4 && end.destroyed == 0 && end.at == 0 && mezguld_blocks(machine, blocks, 5, &count, NULL) == MEZGULD_OK && count == 4);
+    EXPECT(blocks[0].segment == 0x100 && blocks[0].signature == 'M' && blocks[0].owner == blocks[1].owner && blocks[1].segment + 1 == blocks[1].owner);
+    EXPECT(blocks[1].signature == 'Z' && blocks[1].list == 0 && blocks[2].segment == 0x9FFF && blocks[2].list == 1 && blocks[2].owner == 8);
+    EXPECT(blocks[3].segment == 0xD000 && blocks[3].size == 0xFFF && blocks[3].signature == 'Z' && blocks[3].owner == 0);
+    EXPECT(mezguld_page_handles(machine, NULL, 1, &count) == MEZGULD_NULL_POINTER && mezguld_page_handles(machine, NULL, 0, NULL) == MEZGULD_TOO_SMALL);
+    EXPECT(mezguld_page_handles(machine, handles, 0, &count) == MEZGULD_TOO_SMALL && count == 1 && handles[0].number == 0x7777);
+    EXPECT(mezguld_page_handles(machine, handles, 2, &count) == MEZGULD_OK && handles[0].number == 0 && handles[0].pages == 0 && handles[0].saved == 0);
+    EXPECT(memcmp(handles[0].name, "\0\0\0\0\0\0\0", 8) == 0 && handles[1].number == 0x7777);
+    EXPECT(mezguld_windows(machine, NULL, 1, &count) == MEZGULD_NULL_POINTER && mezguld_windows(machine, windows, 3, &count) == MEZGULD_TOO_SMALL && count == 4);
+    EXPECT(windows[0].shows == 0x7777 && mezguld_windows(machine, windows, 5, NULL) == MEZGULD_OK && windows[3].shows == 0 && windows[4].shows == 0x7777);
+    EXPECT(mezguld_extended_blocks(machine, NULL, 1, &count) == MEZGULD_NULL_POINTER && mezguld_extended_blocks(machine, NULL, 0, NULL) == MEZGULD_OK);
+    EXPECT(mezguld_extended_blocks(machine, &block, 1, &count) == MEZGULD_OK && count == 0);
+    EXPECT(mezguld_upper_blocks(machine, NULL, 1, &count) == MEZGULD_NULL_POINTER && mezguld_upper_blocks(machine, NULL, 0, NULL) == MEZGULD_OK);
+    EXPECT(mezguld_upper_blocks(machine, &upper, 1, &count) == MEZGULD_OK && count == 0);
+    EXPECT(mezguld_high_memory(machine, NULL, NULL) == MEZGULD_OK && mezguld_high_memory(machine, &a20, &used) == MEZGULD_OK && a20 == 0 && used == 0);
+    EXPECT(mezguld_read_page(machine, 0, 0, 0, NULL, 1) == MEZGULD_NULL_POINTER && mezguld_read_page(machine, 0, 0, 0, NULL, 0) == MEZGULD_NO_PAGE);
+    EXPECT(mezguld_read_page(machine, 1, 0, 0, bytes, 1) == MEZGULD_NO_HANDLE && mezguld_read_page(machine, 64, 0, 0, bytes, 1) == MEZGULD_NO_HANDLE);
+    EXPECT(mezguld_read_block(machine, 1, 0, NULL, 1) == MEZGULD_NULL_POINTER && mezguld_read_block(machine, 1, 0, NULL, 0) == MEZGULD_NO_HANDLE);
+    EXPECT(mezguld_read_block(machine, 0, 0, bytes, 1) == MEZGULD_NO_HANDLE && mezguld_read_block(machine, 65, 0, bytes, 1) == MEZGULD_NO_HANDLE);
+    EXPECT(mezguld_findings(machine, NULL, 1, &count) == MEZGULD_NULL_POINTER && mezguld_findings(machine, NULL, 0, NULL) == MEZGULD_OK);
+    EXPECT(mezguld_findings(machine, &finding, 1, &count) == MEZGULD_OK && count == 0 && mezguld_finding_counts(machine, NULL, NULL, NULL) == MEZGULD_OK);
+    EXPECT(mezguld_finding_counts(machine, &errors, &notes, &unlisted) == MEZGULD_OK && errors == 0 && notes == 0 && unlisted == 0);
+    EXPECT(mezguld_finding_line(machine, 0, NULL, 1, &count) == MEZGULD_NULL_POINTER && mezguld_finding_line(machine, 0, NULL, 0, NULL) == MEZGULD_NO_FINDING);
+    EXPECT(mezguld_finding_line(machine, (size_t)-1, bytes, 8, &count) == MEZGULD_NO_FINDING && bytes[0] == 0);
+}
+
+/* A checked run of a program that allocates a page, divides by 0 (AX / 0) and so ends: an error at the division, and one for the handle that is left. */
+static void find(void)
+{
+    static const char text[] = "MOV BX,1\nMOV AH,43h\nINT 67h\nMOV BL,0\nDIV BL";
+    mezguld *machine, *copy;
+    mezguld_stopped stopped;
+    mezguld_finding found[3];
+    uint64_t errors, notes;
+    size_t count, length;
+    uint8_t program[32];
+    char line[160];
+    EXPECT(mezguld_assemble(text, sizeof text - 1, program, sizeof program, &count, NULL) == MEZGULD_OK && mezguld_new(&machine, 1, 0, NULL, 0, 0) == MEZGULD_OK);
+    EXPECT(mezguld_add(machine, "A", 1, program, count) == MEZGULD_OK && mezguld_load(machine, "A", 1, NULL, 0, NULL, 0) == MEZGULD_OK);
+    EXPECT(mezguld_check(machine, 100, &stopped, &count) == MEZGULD_OK && stopped.why == MEZGULD_EXITED && mezguld_copy(machine, &copy) == MEZGULD_OK);
+    EXPECT(mezguld_findings(machine, found, 1, &count) == MEZGULD_TOO_SMALL && count == 2 && mezguld_findings(copy, found, 3, &count) == MEZGULD_OK && count == 2);
+    EXPECT(mezguld_finding_counts(machine, &errors, &notes, NULL) == MEZGULD_OK && errors == 2 && notes == 0);
+    EXPECT(found[0].kind == MEZGULD_FOUND_DIVISION_ERROR && found[0].is_error == 1 && found[0].act.how == MEZGULD_INTERRUPT && found[0].act.interrupt == 0);
+    EXPECT(found[1].kind == MEZGULD_FOUND_HANDLE_KEPT && found[1].details.handle == 1 && found[1].details.pages == 1 && found[1].details.saved == 0);
+    /* 43h is step 4, after two instructions and INT, which is at offset 105h. */
+    EXPECT(found[1].origin_step == 4 && found[1].origin_at.ip == 0x105 && found[1].origin_at.before == 0 && found[1].origin_at.cs == found[1].process);
+    EXPECT(found[0].more == 0 && found[0].last == found[0].step && found[0].origin_step == 0);
+    EXPECT(mezguld_finding_line(machine, 0, line, 7, &length) == MEZGULD_TOO_SMALL && length > 7 && mezguld_finding_line(machine, 0, line, 160, &count) == MEZGULD_OK);
+    EXPECT(count == length && memcmp(line, "error: ", 7) == 0 && line[count - 1] == '\n' && mezguld_finding_line(machine, 2, line, 160, NULL) == MEZGULD_NO_FINDING);
+    mezguld_free(machine);
+    mezguld_free(copy);
+}
+
 /* Linear addresses: A20 is off at the start, so that 100000h is 0 again; F0000h is the ROM, and past 10FFEFh there is nothing. */
 static void read_and_write(mezguld *machine)
 {
@@ -169,7 +245,11 @@ int main(void)
     expect_all(NULL, MEZGULD_NO_MACHINE);
     EXPECT(mezguld_copy(NULL, &copy) == MEZGULD_NO_MACHINE && copy == NULL);
     mezguld_free(NULL);
+    EXPECT(mezguld_findings(NULL, NULL, 0, &count) == MEZGULD_NO_MACHINE && mezguld_finding_counts(NULL, NULL, NULL, NULL) == MEZGULD_NO_MACHINE);
+    EXPECT(mezguld_finding_line(NULL, 0, NULL, 0, &count) == MEZGULD_NO_MACHINE && mezguld_answer(NULL, NULL, 0, &count) == MEZGULD_NO_MACHINE);
+    find();
     machine = load();
+    list_all(machine);
     give_null(machine);
     look(machine);
     read_and_write(machine);
@@ -181,7 +261,7 @@ int main(void)
     mezguld_free(machine);
     EXPECT(mezguld_output_count(copy, &count) == MEZGULD_OK && count == 5);
     mezguld_free(copy);
-    for (int status = MEZGULD_OK; status <= MEZGULD_BAD_VARIABLES; status++)
+    for (int status = MEZGULD_OK; status <= MEZGULD_NO_FINDING; status++)
         EXPECT(status == 2 || strcmp(mezguld_status_text((mezguld_status)status), "unknown status") != 0);
     puts("as expected");
     return 0;

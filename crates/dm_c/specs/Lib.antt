@@ -1,6 +1,5 @@
 pub mod Held
 pub mod Statuses
 pub mod Calls
-pub mod Machines
-pub mod Events
+pub mod Handles
 pub mod Texts

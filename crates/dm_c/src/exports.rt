@@ -1,20 +1,20 @@
 //! The exports on the handle of a machine, which `include/mezguld.h` declares for C. Each returns a status: 0 for
-//! success, otherwise why not, as `values.rt` numbers it. But for `dm_c_new` and `dm_c_free`, the status is 1 if
+//! success, otherwise why not, as `dm_host_calls` numbers it. But for `dm_c_new` and `dm_c_free`, the status is 1 if
 //! the handle holds no machine, and nothing changes then. For all that need a loaded program, it is 14 if there is
 //! none (3 if an allocation for the points of `dm_c_run_until` fails before), and nothing changes then.
 ghost use Rattle.std.specs.Prelude.{◌≡◌, ◌<◌, true, false, nat_lt};
 ghost use Rattle.dm_c.specs.Statuses.{version_number};
 ghost use Rattle.dm_c.specs.Calls.{IsCall, IsNone};
-ghost use Rattle.dm_c.specs.Events.{EventsTo};
-ghost use Rattle.dm_c.specs.Machines.{Makes, CopiesTo, AddsTo, LoadsTo, RunsTo, RunsUntilTo, StepsTo, RegistersTo, SetsRegistersTo, ReadsTo, WritesTo, ReadsLinearTo, WritesLinearTo, OutputTo, OutputCountTo, SetsMoreTo, SuppliesTo, InputLeftTo, CommandsTo, ChecksTo, AnswersTo};
+ghost use Rattle.dm_c.specs.Handles.{Makes, CopiesTo};
+ghost use Rattle.dm_host_calls.specs.Events.{EventsTo};
+ghost use Rattle.dm_host_calls.specs.Machines.{AddsTo, LoadsTo, RunsTo, RunsUntilTo, StepsTo, RegistersTo, SetsRegistersTo, ReadsTo, WritesTo, ReadsLinearTo, WritesLinearTo, OutputTo, OutputCountTo, SetsMoreTo, SuppliesTo, InputLeftTo, CommandsTo, ChecksTo, AnswersTo};
 
-use crate::events::Awaited;
+use crate::copies;
 use crate::handle::Handle;
-use crate::machines;
-use crate::values::{
-    IN_USE, NO_MACHINE, OK, OUT_OF_MEMORY, Point, Registers, Stopped, give, status_of,
-};
 use dm_host::Host;
+use dm_host_calls::{
+    Awaited, IN_USE, NO_MACHINE, OK, OUT_OF_MEMORY, Point, Registers, Stopped, give, status_of,
+};
 use dm_machine::Sizes;
 use std::alloc::Global;
 
@@ -70,7 +70,7 @@ pub extern "C" fn dm_c_copy(alloc: Global, machine: &mut Handle, copy: &mut Hand
     let Some(host) = machine.take(alloc) else {
         return NO_MACHINE;
     };
-    let status = machines::copy(alloc, &host, copy);
+    let status = copies::copy(alloc, &host, copy);
     machine.put(host);
     status
 }
@@ -93,7 +93,7 @@ pub extern "C" fn dm_c_add(alloc: Global, machine: &mut Handle, name: &[u8], pro
     let Some(mut host) = machine.take(alloc) else {
         return NO_MACHINE;
     };
-    let status = machines::add(alloc, &mut host, name, program);
+    let status = dm_host_calls::add(alloc, &mut host, name, program);
     machine.put(host);
     status
 }
@@ -113,7 +113,7 @@ pub extern "C" fn dm_c_load(
     let Some(mut host) = machine.take(alloc) else {
         return NO_MACHINE;
     };
-    let status = machines::load(alloc, &mut host, name, tail, input);
+    let status = dm_host_calls::load(alloc, &mut host, name, tail, input);
     machine.put(host);
     status
 }
@@ -131,7 +131,7 @@ pub extern "C" fn dm_c_run(
     let Some(mut host) = machine.take(alloc) else {
         return NO_MACHINE;
     };
-    let status = machines::run(&mut host, steps, stopped);
+    let status = dm_host_calls::run(&mut host, steps, stopped);
     machine.put(host);
     status
 }
@@ -151,7 +151,7 @@ pub extern "C" fn dm_c_run_until(
     let Some(mut host) = machine.take(alloc) else {
         return NO_MACHINE;
     };
-    let status = machines::run_until(alloc, &mut host, steps, points, stopped);
+    let status = dm_host_calls::run_until(alloc, &mut host, steps, points, stopped);
     machine.put(host);
     status
 }
@@ -173,7 +173,7 @@ pub extern "C" fn dm_c_run_to(
     let Some(mut host) = machine.take(alloc) else {
         return NO_MACHINE;
     };
-    let status = machines::run_to(alloc, &mut host, steps, events, stopped, place);
+    let status = dm_host_calls::run_to(alloc, &mut host, steps, events, stopped, place);
     machine.put(host);
     status
 }
@@ -187,7 +187,7 @@ pub extern "C" fn dm_c_steps(alloc: Global, machine: &mut Handle, steps: &mut u6
     let Some(host) = machine.take(alloc) else {
         return NO_MACHINE;
     };
-    let status = machines::steps(&host, steps);
+    let status = dm_host_calls::steps(&host, steps);
     machine.put(host);
     status
 }
@@ -204,7 +204,7 @@ pub extern "C" fn dm_c_registers(
     let Some(host) = machine.take(alloc) else {
         return NO_MACHINE;
     };
-    let status = machines::registers(&host, registers);
+    let status = dm_host_calls::registers(&host, registers);
     machine.put(host);
     status
 }
@@ -222,7 +222,7 @@ pub extern "C" fn dm_c_set_registers(
     let Some(mut host) = machine.take(alloc) else {
         return NO_MACHINE;
     };
-    let status = machines::set_registers(&mut host, *registers);
+    let status = dm_host_calls::set_registers(&mut host, *registers);
     machine.put(host);
     status
 }
@@ -242,7 +242,7 @@ pub extern "C" fn dm_c_read(
     let Some(host) = machine.take(alloc) else {
         return NO_MACHINE;
     };
-    let status = machines::read(&host, segment, offset, buffer);
+    let status = dm_host_calls::read(&host, segment, offset, buffer);
     machine.put(host);
     status
 }
@@ -262,7 +262,7 @@ pub extern "C" fn dm_c_write(
     let Some(mut host) = machine.take(alloc) else {
         return NO_MACHINE;
     };
-    let status = machines::write(&mut host, segment, offset, bytes);
+    let status = dm_host_calls::write(&mut host, segment, offset, bytes);
     machine.put(host);
     status
 }
@@ -282,7 +282,7 @@ pub extern "C" fn dm_c_read_linear(
     let Some(host) = machine.take(alloc) else {
         return NO_MACHINE;
     };
-    let status = machines::read_linear(&host, address, buffer);
+    let status = dm_host_calls::read_linear(&host, address, buffer);
     machine.put(host);
     status
 }
@@ -301,7 +301,7 @@ pub extern "C" fn dm_c_write_linear(
     let Some(mut host) = machine.take(alloc) else {
         return NO_MACHINE;
     };
-    let status = machines::write_linear(&mut host, address, bytes);
+    let status = dm_host_calls::write_linear(&mut host, address, bytes);
     machine.put(host);
     status
 }
@@ -322,7 +322,7 @@ pub extern "C" fn dm_c_output(
     let Some(host) = machine.take(alloc) else {
         return NO_MACHINE;
     };
-    let status = machines::output(&host, from, buffer, wanted);
+    let status = dm_host_calls::output(&host, from, buffer, wanted);
     machine.put(host);
     status
 }
@@ -335,7 +335,7 @@ pub extern "C" fn dm_c_output_count(alloc: Global, machine: &mut Handle, count: 
     let Some(host) = machine.take(alloc) else {
         return NO_MACHINE;
     };
-    let status = machines::output_count(&host, count);
+    let status = dm_host_calls::output_count(&host, count);
     machine.put(host);
     status
 }
@@ -349,7 +349,7 @@ pub extern "C" fn dm_c_open_input(alloc: Global, machine: &mut Handle) -> u32
     let Some(mut host) = machine.take(alloc) else {
         return NO_MACHINE;
     };
-    let status = machines::open_input(&mut host);
+    let status = dm_host_calls::open_input(&mut host);
     machine.put(host);
     status
 }
@@ -362,7 +362,7 @@ pub extern "C" fn dm_c_close_input(alloc: Global, machine: &mut Handle) -> u32
     let Some(mut host) = machine.take(alloc) else {
         return NO_MACHINE;
     };
-    let status = machines::close_input(&mut host);
+    let status = dm_host_calls::close_input(&mut host);
     machine.put(host);
     status
 }
@@ -376,7 +376,7 @@ pub extern "C" fn dm_c_supply(alloc: Global, machine: &mut Handle, bytes: &[u8])
     let Some(mut host) = machine.take(alloc) else {
         return NO_MACHINE;
     };
-    let status = machines::supply(&mut host, bytes);
+    let status = dm_host_calls::supply(&mut host, bytes);
     machine.put(host);
     status
 }
@@ -389,7 +389,7 @@ pub extern "C" fn dm_c_input_left(alloc: Global, machine: &mut Handle, left: &mu
     let Some(host) = machine.take(alloc) else {
         return NO_MACHINE;
     };
-    let status = machines::input_left(&host, left);
+    let status = dm_host_calls::input_left(&host, left);
     machine.put(host);
     status
 }
@@ -409,7 +409,7 @@ pub extern "C" fn dm_c_command(
     let Some(mut host) = machine.take(alloc) else {
         return NO_MACHINE;
     };
-    let status = machines::command(alloc, &mut host, line, wanted);
+    let status = dm_host_calls::command(alloc, &mut host, line, wanted);
     machine.put(host);
     status
 }
@@ -430,7 +430,7 @@ pub extern "C" fn dm_c_check(
     let Some(mut host) = machine.take(alloc) else {
         return NO_MACHINE;
     };
-    let status = machines::check(alloc, &mut host, steps, stopped, wanted);
+    let status = dm_host_calls::check(alloc, &mut host, steps, stopped, wanted);
     machine.put(host);
     status
 }

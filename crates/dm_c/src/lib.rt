@@ -1,16 +1,14 @@
-//! The exports of the library for hosts: each calls a function of `dm_host` or `dm_asm`, on the machine of a handle.
+//! The exports of the library for hosts: each calls a function of `dm_host_calls` on the machine of a handle, or one of `dm_asm`.
 #![tactic(auto)]
 
-mod events;
+mod copies;
 mod exports;
 mod handle;
 mod inside;
+mod lists;
 mod loose;
-mod machines;
 mod texts;
-mod values;
 
-pub use events::Awaited;
 pub use exports::{
     dm_c_add, dm_c_answer, dm_c_check, dm_c_close_input, dm_c_command, dm_c_copy, dm_c_free,
     dm_c_input_left, dm_c_load, dm_c_new, dm_c_open_input, dm_c_output, dm_c_output_count,
@@ -19,6 +17,10 @@ pub use exports::{
 };
 pub use handle::Handle;
 pub use inside::Inside;
+pub use lists::{
+    dm_c_blocks, dm_c_extended_blocks, dm_c_finding_counts, dm_c_finding_line, dm_c_findings,
+    dm_c_high_memory, dm_c_page_handles, dm_c_read_block, dm_c_read_page, dm_c_upper_blocks,
+    dm_c_windows,
+};
 pub use loose::Loose;
 pub use texts::{dm_c_assemble, dm_c_disassemble};
-pub use values::{Point, Registers, Stopped};

@@ -3,8 +3,8 @@ ghost use Rattle.std.specs.Prelude.{◌≡◌};
 ghost use Rattle.dm_c.specs.Statuses.{text_status_of, wrong_line};
 ghost use Rattle.dm_c.specs.Texts.{AssemblesTo, DisassemblesTo};
 
-use crate::values::{OUT_OF_MEMORY, TOO_LONG, give};
 use dm_asm::{AssemblyRefusal, assemble, disassemble};
+use dm_host_calls::{OUT_OF_MEMORY, TOO_LONG, give};
 use std::alloc::Global;
 
 /// The largest number of bytes of a program that is disassembled.

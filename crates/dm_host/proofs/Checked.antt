@@ -23,7 +23,7 @@ pub as_part : (m u : State) (n : ℕ) (stop : Stop) → IsRun m n stop u → Run
 as_part m u n stop run = record { most = n; stop = stop; few = omega arith; run = run }
 
 pub whole : (s t : Debugged) (m u : State) (points : List Breakpoint) (n : ℕ) (stop : Stop) (text : List ℕ) (report : Reported) → s ≡ over m points → t ≡ over u points
-    → IsRun m n stop u → IsReport m n true stop u report → text ≡ report_text report ++ stopped_line stop u.memory u.cpu → IsChecked s n stop text t
+    → IsRun m n stop u → IsReport m n true stop u report → text ≡ report_text report ++ stopped_line stop u.memory u.cpu → IsChecked s n stop report text t
 whole s t m u points n stop text report before after run reported told =
-    subst (λ (x : Debugged). IsChecked x n stop text t) (sym before) (subst (λ (x : Debugged). IsChecked (over m points) n stop text x) (sym after)
-    (record { report = report; run = run; reported = reported; told = told; points = refl }))
+    subst (λ (x : Debugged). IsChecked x n stop report text t) (sym before) (subst (λ (x : Debugged). IsChecked (over m points) n stop report text x) (sym after)
+    (record { run = run; reported = reported; told = told; points = refl }))

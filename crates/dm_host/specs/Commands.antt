@@ -18,7 +18,7 @@ pub record IsCommanded (h : Hosted) (line : List ℕ) (g : Hosted) : Type 0 wher
   pub loaded : h.stage ≡ Loaded before
   pub read : command_of line ≡ Some command
   pub does : Does before command text after
-  pub is : g ≡ record { stage = Loaded after; answer = text }
+  pub is : g ≡ record h { stage = Loaded after; answer = text }
 
 -- the line's command was executed, or some first part of it or none, which led from session s to t
 abbrev pub IsDoneOrPart : Debugged → List ℕ → Debugged → Type 0

@@ -3,8 +3,10 @@ pub mod Hosts
 pub mod Loading
 pub mod Memory
 pub mod Linear
+pub mod ByHandle
 pub mod Input
 pub mod Commands
 pub mod Checking
+pub mod Findings
 pub mod Events
 pub mod inner

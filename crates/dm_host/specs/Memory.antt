@@ -11,7 +11,7 @@ byte_at_offset m segment k = peek m (linear m.a20 segment (k % 65536))
 abbrev pub bytes_at : Memory → ℕ → ℕ → ℕ → List ℕ
 bytes_at m segment offset n = values (byte_at_offset m segment) offset n
 
--- the buffer `new` is `old` with the bytes at its front, if they fit (true); otherwise it is `old` (false)
-abbrev pub Copies : List ℕ → List ℕ → List ℕ → Bool → Type 0
-Copies bytes old new true = (length bytes ≤ length old) × (new ≡ bytes ++ drop (length bytes) old)
-Copies bytes old new false = (length old < length bytes) × (new ≡ old)
+-- the buffer `new` is `old` with the items at its front, if they fit (true); otherwise it is `old` (false)
+abbrev pub Copies : {A : Type 0} → List A → List A → List A → Bool → Type 0
+Copies items old new true = (length items ≤ length old) × (new ≡ items ++ drop (length items) old)
+Copies items old new false = (length old < length items) × (new ≡ old)

@@ -6,6 +6,7 @@ ghost use Rattle.dm_host.specs.Checking.{Checks, IsUnchecked};
 ghost use Rattle.dm_host.specs.inner.Checking.{ChecksTo};
 
 use crate::host::{Host, Stage};
+use crate::kept::Kept;
 use crate::refusal::Refusal;
 use dm_checker::check;
 use dm_debug::Session;
@@ -30,32 +31,47 @@ fn text_of(
     Ok(text)
 }
 
-/// Makes at most `n` steps of the session's machine under the checker, and returns the session with the stop and the
-/// text of the report with the line about the stop; None in their place if an allocation failed, after none, some or all of the steps. The
-/// breakpoints of the session do not count, and stay.
-fn checked(alloc: Global, session: Session, n: u64) -> (Session, Option<(Stop, Vec<u8>)>)
-    ensures { ChecksTo session n (option_map (λ r. (r.0, r.1.items)) result.1) result.0 }
+/// What a host keeps of a checked run: its report, and the text of that with the line about the stop of a machine. An `Err`
+/// is a failed allocation.
+fn kept_of(
+    alloc: Global,
+    report: &Report,
+    stop: Stop,
+    machine: &Machine,
+) -> Result<(Kept, Vec<u8>), AllocError>
+    ensures report { IfOk result (λ r. r.0 ≡ report.now) }
+    ensures text { IfOk result (λ r. r.1.items ≡ report_text report.now ++ stopped_line stop machine.now.memory machine.now.cpu) }
+{
+    let text = text_of(alloc, report, stop, machine)?;
+    Ok((Kept::of(alloc, report)?, text))
+}
+
+/// Makes at most `n` steps of the session's machine under the checker, and returns the session with the stop, the report,
+/// and the text of the report with the line about the stop; None in their place if an allocation failed, after none, some
+/// or all of the steps. The breakpoints of the session do not count, and stay.
+fn checked(alloc: Global, session: Session, n: u64) -> (Session, Option<(Stop, Kept, Vec<u8>)>)
+    ensures { ChecksTo session n (option_map (λ r. (r.0, r.1, r.2.items)) result.1) result.0 }
 {
     let (mut machine, points) = session.into_parts();
     let Ok((stop, report)) = check(alloc, &mut machine, n, true) else {
         return (Session::from_parts(machine, points), None);
     };
-    let text = text_of(alloc, &report, stop, &machine);
+    let told = kept_of(alloc, &report, stop, &machine);
     let session = Session::from_parts(machine, points);
-    match text {
-        Ok(text) => (session, Some((stop, text))),
+    match told {
+        Ok((report, text)) => (session, Some((stop, report, text))),
         Err(_) => (session, None),
     }
 }
 
 impl Host {
-    /// Makes at most `n` steps under the memory checker, as `run` does without it, and keeps the text of the report, with
-    /// the line about the stop, as the answer. Returns the stop.
+    /// Makes at most `n` steps under the memory checker, as `run` does without it, and keeps the report, and the text of it
+    /// with the line about the stop as the answer. Returns the stop.
     ///
     /// # Errors
     ///
     /// `NotLoaded` exactly where no program is loaded; then nothing has changed. `Memory` if an allocation failed:
-    /// none, some or all of the steps were made, and the answer before stays.
+    /// none, some or all of the steps were made, and the answer and the report before stay.
     pub fn check(&mut self, alloc: Global, n: u64) -> Result<Stop, Refusal>
         ensures ok { IfOk result (λ stop. Checks self.old n stop self.new) }
         ensures err { IfErr result (λ e. IsUnchecked self.old n e self.new) }
@@ -68,10 +84,11 @@ impl Host {
         };
         let (session, found) = checked(alloc, session, n);
         self.stage = Stage::Loaded(session);
-        let Some((stop, text)) = found else {
+        let Some((stop, report, text)) = found else {
             return Err(Refusal::Memory);
         };
         self.answer = text;
+        self.report = report;
         Ok(stop)
     }
 }

@@ -40,11 +40,16 @@ fn copy_host(host: &Host, alloc: Global) -> Result<Host, AllocError>
 {
     let stage = copy_stage(&host.stage, alloc)?;
     let answer = Vec::from_slice(alloc, host.answer.as_slice())?;
-    Ok(Host { stage, answer })
+    let report = host.report.copy(alloc)?;
+    Ok(Host {
+        stage,
+        answer,
+        report,
+    })
 }
 
 impl Host {
-    /// Another host at the same stage, with the same machine, breakpoints and answer. The two share nothing: what one
+    /// Another host at the same stage, with the same machine, breakpoints, answer and report. The two share nothing: what one
     /// does, the other does not see.
     ///
     /// # Errors

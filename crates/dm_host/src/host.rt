@@ -1,9 +1,10 @@
-//! A host: a machine, the stage that it is at, and the answer of the last command.
+//! A host: a machine, the stage that it is at, the answer of the last command, and the report of the last checked run.
 ghost use Rattle.std.specs.Prelude.{◌≡◌, ◌≤◌, [], IfOk, IfErr, OnOk, length, option_map};
 ghost use Rattle.dm_pool.specs.Stored.{IsTooLarge};
 ghost use Rattle.dm_host.specs.Setups.{IsNewFault};
 ghost use Rattle.dm_host.specs.Hosts.{new_host, machine_of, Shows, IsNotLoaded};
 
+use crate::kept::Kept;
 use crate::refusal::Refusal;
 use crate::setup::Setup;
 use dm_debug::Session;
@@ -22,11 +23,13 @@ pub enum Stage {
     Spent,
 }
 
-/// A machine at its stage, and the answer of the last command or checked run that had one.
+/// A machine at its stage, the answer of the last command or checked run that had one, and the report of the last checked
+/// run that had one.
 #[derive(Drop)]
 pub struct Host {
     pub(crate) stage: Stage,
     pub(crate) answer: Vec<u8>,
+    pub(crate) report: Kept,
 }
 
 impl Model for Host {
@@ -34,7 +37,7 @@ impl Model for Host {
 
     ghost Value = { Hosted };
 
-    ghost view = { λ h. record { stage = h.stage; answer = h.answer.items } };
+    ghost view = { λ h. record { stage = h.stage; answer = h.answer.items; report = h.report } };
 }
 
 impl Host {
@@ -54,6 +57,7 @@ impl Host {
         Ok(Host {
             stage: Stage::Fresh(setup),
             answer: Vec::new(alloc),
+            report: Kept::new(alloc),
         })
     }
 

@@ -3,13 +3,17 @@
 #![tactic(auto)]
 
 mod answer;
+mod by_handle;
 mod checks;
 mod commands;
 mod copy;
 mod events;
+mod findings;
 mod host;
 mod input;
+mod kept;
 mod linear;
+mod lists;
 mod loading;
 mod memory;
 mod refusal;
@@ -17,6 +21,7 @@ mod runs;
 mod setup;
 
 pub use host::{Host, Stage};
+pub use kept::Kept;
 pub use memory::copy_all;
 pub use refusal::Refusal;
 pub use setup::Setup;

@@ -22,15 +22,15 @@ fn read_each(machine: &Machine, segment: u16, offset: u16, buffer: &mut [u8])
     }
 }
 
-/// Copies `bytes` to the front of a buffer that C passes and returns true, if they fit; otherwise returns false, and
+/// Copies `items` to the front of a buffer that C passes and returns true, if they fit; otherwise returns false, and
 /// the buffer stays.
-pub fn copy_all(bytes: &[u8], buffer: &mut [u8]) -> bool
-    ensures { Copies bytes.now buffer.old buffer.new result }
+pub fn copy_all<T: Copy>(items: &[T], buffer: &mut [T]) -> bool
+    ensures { Copies items.now buffer.old buffer.new result }
 {
-    if bytes.len() > buffer.len() {
+    if items.len() > buffer.len() {
         return false;
     }
-    buffer[..bytes.len()].copy_from_slice(bytes);
+    buffer[..items.len()].copy_from_slice(items);
     true
 }
 

@@ -47,4 +47,16 @@ pub enum Refusal {
     /// The console input of the program is closed: no more of it may come.
     #[error("input closed")]
     InputClosed,
+    /// The handle is not in use.
+    #[error("no handle")]
+    NoHandle,
+    /// The handle has no page of this number.
+    #[error("no page")]
+    NoPage,
+    /// Not all of the bytes are in the page or block.
+    #[error("past the end")]
+    PastEnd,
+    /// The report lists no finding of this number.
+    #[error("no finding")]
+    NoFinding,
 }

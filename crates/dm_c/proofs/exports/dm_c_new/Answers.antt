@@ -1,6 +1,6 @@
 use Rattle.std.proofs.Common.{refl, sym, ◌∙◌}
 use Rattle.dm_host.specs.declared.refusal.Refusal.TheVariants.{Memory}
-use Rattle.dm_c.specs.Machines.{in_use, refused}
+use Rattle.dm_c.specs.Handles.{in_use, refused}
 use Rattle.dm_c.proofs.Insides.{of_some}
 use Rattle.dm_c.proofs.Taken.{none_held}
 use Rattle.dm_c.proofs.exports.dm_c_new.Goals as goal

@@ -10,6 +10,7 @@ pub returns-clause-ok : goal.returns-clause-ok
 returns-clause-ok c = rw (← c.self.view_is) record {
   before = c.in-Loaded-replace.session;
   after = c.checked-session.result.0;
+  report = c.in-Some.report;
   text = c.in-Some.text.items;
   loaded = sym c.in-Loaded-replace.ensures.value;
   checked = rw c.in-Some.is at c.checked-session.ensures;

@@ -1,0 +1,91 @@
+//! The report of the last checked run, as a host keeps it.
+ghost use Rattle.std.specs.Prelude.{◌≡◌, IfOk};
+ghost use Rattle.dm_host.specs.Hosts.{no_report};
+
+use dm_findings::{Listed, Report};
+use std::alloc::{AllocError, Global};
+use std::marker::Model;
+
+/// A report: the findings that it lists, how many errors and notes there are in all, and how many findings are neither
+/// listed nor repeat one that is.
+#[derive(Drop)]
+pub struct Kept {
+    listed: Vec<Listed>,
+    errors: u64,
+    notes: u64,
+    unlisted: u64,
+}
+
+impl Model for Kept {
+    ghost use Rattle.dm_findings.specs.Report.{Reported};
+
+    ghost Value = { Reported };
+
+    ghost view = { λ k. record { listed = k.listed.items; errors = k.errors; notes = k.notes; unlisted = k.unlisted } };
+}
+
+impl Kept {
+    /// A report of no findings.
+    pub(crate) fn new(alloc: Global) -> Kept
+        ensures { result ≡ no_report }
+    {
+        Kept {
+            listed: Vec::new(alloc),
+            errors: 0,
+            notes: 0,
+            unlisted: 0,
+        }
+    }
+
+    /// The same report. `AllocError` if an allocation fails.
+    pub(crate) fn of(alloc: Global, report: &Report) -> Result<Kept, AllocError>
+        ensures { IfOk result (λ kept. kept ≡ report.now) }
+    {
+        Ok(Kept {
+            listed: Vec::from_slice(alloc, report.listed())?,
+            errors: report.errors(),
+            notes: report.notes(),
+            unlisted: report.unlisted(),
+        })
+    }
+
+    /// The same report once more. `AllocError` if an allocation fails.
+    pub(crate) fn copy(&self, alloc: Global) -> Result<Kept, AllocError>
+        ensures { IfOk result (λ kept. kept ≡ self.now) }
+    {
+        Ok(Kept {
+            listed: Vec::from_slice(alloc, self.listed.as_slice())?,
+            errors: self.errors,
+            notes: self.notes,
+            unlisted: self.unlisted,
+        })
+    }
+
+    /// The findings that are listed, in the order in which they happened.
+    pub fn listed(&self) -> &[Listed]
+        ensures { result.now ≡ self.now.listed }
+    {
+        self.listed.as_slice()
+    }
+
+    /// How many errors there are, listed or not.
+    pub fn errors(&self) -> u64
+        ensures { result ≡ self.now.errors }
+    {
+        self.errors
+    }
+
+    /// How many notes there are, listed or not.
+    pub fn notes(&self) -> u64
+        ensures { result ≡ self.now.notes }
+    {
+        self.notes
+    }
+
+    /// How many findings are neither listed nor repeat one that is.
+    pub fn unlisted(&self) -> u64
+        ensures { result ≡ self.now.unlisted }
+    {
+        self.unlisted
+    }
+}

@@ -1,0 +1,5 @@
+pub mod Statuses
+pub mod Calls
+pub mod Machines
+pub mod Events
+pub mod Lists

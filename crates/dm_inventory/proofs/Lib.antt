@@ -1,0 +1,4 @@
+pub mod ArenaRows
+pub mod ArenaLists
+pub mod NumberedRows
+pub mod ArenaOnce
