@@ -4,7 +4,7 @@
 ghost use Rattle.std.specs.Prelude.{◌≡◌, ◌++◌, OnOk};
 ghost use Rattle.dm_calls.specs.Calls.{is_arena, is_ending, is_starting, arranges, stays, refusal, refused_by_dos, refused_by_status, refused_by_error, is_console, is_system, is_served, call_findings};
 
-use crate::put::put;
+use crate::appending::put;
 use dm_cpu::Cpu;
 use dm_findings::{Call, Finding};
 use dm_ins::ByteRegister;
@@ -18,7 +18,7 @@ fn is_arena(number: u8) -> bool
 }
 
 /// Whether INT 21h has a function with this number that ends a process: 00h, 31h or 4Ch.
-pub fn is_ending(number: u8) -> bool
+pub(crate) fn is_ending(number: u8) -> bool
     ensures { result ≡ is_ending number }
 {
     number == 0x00 || number == 0x31 || number == 0x4C
@@ -26,7 +26,7 @@ pub fn is_ending(number: u8) -> bool
 
 /// Whether the call of INT 21h with this number and these registers may start a process: 4Bh, but not with AL = 3.
 /// (With any other AL but 0 it fails.)
-pub fn is_starting(cpu: &Cpu, number: u8) -> bool
+pub(crate) fn is_starting(cpu: &Cpu, number: u8) -> bool
     ensures { result ≡ is_starting cpu.now number }
 {
     number == 0x4B && cpu.byte(ByteRegister::Al) != 3

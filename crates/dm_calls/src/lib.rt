@@ -2,10 +2,10 @@
 //! ends a process, and what is found of it.
 #![tactic(auto)]
 
+mod appending;
 mod calls;
 mod courses;
-mod put;
 
-pub use calls::{arranges, is_ending, is_starting, put_of_call, stays};
+pub use appending::put;
+pub use calls::{arranges, put_of_call, stays};
 pub use courses::{ends_process, has_started};
-pub use put::put;
