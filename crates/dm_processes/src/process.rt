@@ -1,11 +1,11 @@
-//! A process that ran (MS-DOS Programmer's Reference, "Program Segment Prefix" and "Environment").
+//! A process that ran or runs (MS-DOS Programmer's Reference, "Program Segment Prefix" and "Environment").
 
 ghost use Rattle.std.specs.Prelude.{◌≡◌, ◌≤◌};
 ghost use Rattle.dm_processes.specs.Processes.{end_of_variables, name_at, name_of, name_text, process_at};
 
 use dm_space::Space;
 
-/// A process that ran.
+/// A process that ran, or runs.
 #[derive(Clone, Copy, Debug)]
 pub struct Process {
     /// The segment of its program segment prefix.
