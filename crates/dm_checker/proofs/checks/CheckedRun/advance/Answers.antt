@@ -1,6 +1,7 @@
-use Rattle.std.proofs.Common.{◌≡◌, ◌∙◌, ◌-◌, ◌<◌, ◌≤◌, Bool, Option, Some, None, refl, ap, sym, subst, arith}
+use Rattle.std.proofs.Common.{◌≡◌, ◌∙◌, ◌-◌, ◌<◌, ◌≤◌, Bool, true, false, List, length, Option, Some, None, refl, ap, sym, subst, arith}
 use Rattle.dm_state.specs.declared.stop.Stop.{Stop}
 use Rattle.dm_state.specs.declared.stop.Stop.TheVariants.{Steps as AllSteps}
+use Rattle.dm_findings.specs.declared.report.Listed.{Listed}
 use Rattle.dm_checker.specs.Checks.{IsReport}
 use Rattle.dm_checker.specs.Checking.{UnderWay, going}
 use Rattle.dm_checker.specs.inner.Steps.{ChecksOne}
@@ -8,6 +9,7 @@ use Rattle.dm_checker.specs.inner.Steps as steps
 use Rattle.dm_checker.proofs.Checking.{HasChecked, checked_all, at_err}
 use Rattle.dm_checker.proofs.Longer.{longer_on}
 use Rattle.dm_checker.proofs.Underway.{ended_of, ended_processes, first_ended, going_of, made_of, all_made, all_processes, first_whole, stopped, stop_processes, first_stopped, gone_on, first_listed, part_lost, listed_on}
+use Rattle.dm_checker.proofs.checks.CheckedRun.advance.Goals.{else-pausing-via-then-pausing+else-listed, else-pausing-via-else-pausing}
 use Rattle.dm_checker.proofs.checks.CheckedRun.advance.Goals as goal
 
 pub returns-in-Some-clause-ok : goal.returns-in-Some-clause-ok
@@ -105,13 +107,23 @@ loop-preserved c =
     let report = c.look_at_step.new.report in
     let F : Option Stop → Type 0 = λ o. ChecksOne c.self.inside.free u o v c.look_at_step.new.kept c.loop.self-inside.origins c.look_at_step.new.origins c.loop.self-inside.report report in
     let x = subst F c.in_default-2.is c.in_ok-stop.ensures.ok in
+    let entry : length c.listed-listed.result.now ≡ length c.args.self.now.report.listed
+    = ap (λ (l : List Listed). length l) c.listed-listed.ensures ∙ ap (λ (u : UnderWay). length u.report.listed) c.self.view_is in
+    let kept_few : c.args.pausing ≡ true → length report.listed ≤ length c.args.self.now.report.listed
+    = λ pausing. elim c.else-pausing.branch [
+      | else-pausing-via-then-pausing+else-listed w ↦
+          (let now : length w.listed.result.now ≡ length report.listed = ap (λ (l : List Listed). length l) w.listed.ensures in
+          let few_now = w.if-listed.false in
+          omega (arith, entry, now, few_now))
+      | else-pausing-via-else-pausing w ↦ absurd (let no = w.if-pausing.false in let both : true ≡ false = sym pausing ∙ no in cc)
+    ] in
     record {
       checked = λ s n way.
           let few : c.loop.left ≤ n = (let g = (going_of s c.args.machine.now n c.args.self.now over way).few in omega (arith, c.loop.invariant.few, most, g)) in
           gone_on c.self.inside.free s c.loop.machine u n c.loop.left c.pass-left.result c.loop.self-inside.origins c.loop.self-inside.report few (c.loop.invariant.checked s n way) c.pass-left.ensures.passes less
           v c.look_at_step.new.kept c.look_at_step.new.origins report x;
       few = omega (arith, c.loop.invariant.few, less);
-      no_more = ?;
+      no_more = λ pausing. kept_few pausing;
       longer =
           let s = c.requires.way.0 in
           let n = c.requires.way.1 in
@@ -215,7 +227,11 @@ returns-then-listed-clause-first c pausing s n way =
     let h = c.loop.invariant.checked s n way in
     let less : c.pass-left.result < c.loop.left = omega (arith, c.if-left-eq0.false, c.pass-left.ensures.most) in
     let F : Option Stop → Type 0 = λ o. ChecksOne c.self.inside.free c.pass-left.new.machine o c.look_at_step.new.machine c.look_at_step.new.kept c.loop.self-inside.origins c.look_at_step.new.origins c.loop.self-inside.report c.look_at_step.new.report in
-    let more = ? in
+    let entry : length c.listed-listed.result.now ≡ length c.args.self.now.report.listed
+    = ap (λ (l : List Listed). length l) c.listed-listed.ensures ∙ ap (λ (u : UnderWay). length u.report.listed) c.self.view_is in
+    let now : length c.listed.result.now ≡ length c.look_at_step.new.report.listed = ap (λ (l : List Listed). length l) c.listed.ensures in
+    let above = c.if-listed.true in
+    let more : length c.args.self.now.report.listed < length c.look_at_step.new.report.listed = omega (arith, entry, now, above) in
     first_listed c.self.inside.free s c.loop.machine c.pass-left.new.machine n c.loop.left c.pass-left.result c.loop.self-inside.origins c.loop.self-inside.report few h c.pass-left.ensures.passes
     c.args.self.now _ (sym free) c.loop.invariant.longer (c.loop.invariant.no_more pausing) less
     c.look_at_step.new.machine c.look_at_step.new.kept c.look_at_step.new.origins (subst F c.in_default-2.is c.in_ok-stop.ensures.ok) refl more
