@@ -106,8 +106,8 @@ fn lies_in(old: &[Header], near: usize, block: &Header) -> bool
     }
 }
 
-/// The number of the last of the blocks from number `near` on that rise up to the segment. Where a list is in the order of
-/// its segments, the block there begins at the segment or before it.
+/// The number of the last of the blocks from number `near` on that rise up to the segment. Where a list is in the order
+/// of its segments, the block there begins at the segment or before it.
 fn number_near(old: &[Header], near: usize, segment: u16) -> usize
     requires { near ≤ length old.now }
     ensures { result ≤ length old.now }
@@ -119,8 +119,8 @@ fn number_near(old: &[Header], near: usize, segment: u16) -> usize
     number
 }
 
-/// Does what [`free_block`] does; it asks the block number `near` of the list `old` first, in which most blocks lie that
-/// were free.
+/// Does what [`free_block`] does; it asks the block number `near` of the list `old` first, in which most blocks lie
+/// that were free.
 fn free_near(freed: &mut Chunks, old: &[Header], near: usize, block: &Header, origin: Origin)
     requires { length freed.old ≡ 0x10000 }
     ensures { Frees (λ p. covers p block.now && not (is_free_in old.now p)) origin freed.old freed.new }

@@ -42,7 +42,8 @@ impl Model for Origins {
 }
 
 impl Origins {
-    /// What is known before a run: which handles are in use, and the process that is present. An `Err` is a failed allocation.
+    /// What is known before a run: which handles are in use, and the process that is present. An `Err` is a failed
+    /// allocation.
     #[tactic(auto, unfolding(crate::specs::Origins::nothing_known))]
     pub fn new(alloc: Global, ems: &Ems, xms: &Xms, present: Process) -> Result<Origins, AllocError>
         ensures { IfOk result (λ origins. origins ≡ known_first ems.now xms.now present) }
@@ -62,22 +63,24 @@ impl Origins {
         })
     }
 
-    /// Looks at the handles of expanded memory after a call of its driver: the step allocated those that were not in use.
+    /// Looks at the handles of expanded memory after a call of its driver: the step allocated those that were not in
+    /// use.
     pub fn note_handles(&mut self, ems: &Ems, origin: Origin)
         ensures { self.new ≡ with_handles self.old ems.now (Some origin) }
     {
         look_at_handles(&mut self.handles, ems, Some(origin));
     }
 
-    /// Looks at the handles of extended memory after a call of its driver: the step allocated those that were not in use.
+    /// Looks at the handles of extended memory after a call of its driver: the step allocated those that were not in
+    /// use.
     pub fn note_blocks(&mut self, xms: &Xms, origin: Origin)
         ensures { self.new ≡ with_blocks self.old xms.now (Some origin) }
     {
         look_at_blocks(&mut self.blocks, xms, Some(origin));
     }
 
-    /// Looks at the blocks of the arena before and after a call: the step freed the paragraphs of free blocks that were in
-    /// no free block.
+    /// Looks at the blocks of the arena before and after a call: the step freed the paragraphs of free blocks that were
+    /// in no free block.
     pub fn note_freed(&mut self, old: &[Header], new: &[Header], origin: Origin)
         ensures { self.new ≡ with_freed self.old old.now new.now origin }
     {
@@ -124,8 +127,8 @@ impl Origins {
         }
     }
 
-    /// The step that freed the memory which a finding is about, or allocated what is left or held; None if no step of the
-    /// run did, or if the finding is about something else. `a20` is that before the finding's step.
+    /// The step that freed the memory which a finding is about, or allocated what is left or held; None if no step of
+    /// the run did, or if the finding is about something else. `a20` is that before the finding's step.
     pub fn origin_of(&self, a20: bool, finding: &Finding) -> Option<Origin>
         ensures { result ≡ origin_of self.now a20 finding.now }
     {
