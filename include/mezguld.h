@@ -457,8 +457,8 @@ MEZGULD_CALL mezguld_status mezguld_input_left(const mezguld *machine, size_t *l
 MEZGULD_CALL mezguld_status mezguld_command(mezguld *machine, const char *line, size_t line_count, size_t *wanted);
 
 /* Makes at most so many steps, as mezguld_run, under the memory checker, keeps its report (see mezguld_findings), and the text
- * of that with the line about the stop as the answer, and writes the text's count into `*wanted`. NO_MACHINE, NOT_LOADED, OUT_OF_MEMORY. After the
- * last one any part of the run was made, none or all of it included. */
+ * of that with the line about the stop as the answer, and writes the text's count into `*wanted`.
+ * NO_MACHINE, NOT_LOADED, OUT_OF_MEMORY. After the last one any part of the run was made, none or all of it included. */
 MEZGULD_CALL mezguld_status mezguld_check(mezguld *machine, uint64_t steps, mezguld_stopped *stopped, size_t *wanted);
 
 /* Copies the answer of the last command or checked run that had one into a buffer, and writes its count into `*wanted`.
