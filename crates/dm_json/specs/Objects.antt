@@ -9,7 +9,7 @@ use Rattle.dm_cpu.specs.Guest.{up}
 use Rattle.dm_state.specs.declared.stop.Stop.{Stop}
 use Rattle.dm_state.specs.declared.stop.Stop.TheVariants as stop
 use Rattle.dm_text.specs.Texts.{text_of}
-use Rattle.dm_views.specs.Digits.{two_digits, address_text}
+use Rattle.dm_views.specs.Digits.{address_text}
 use Rattle.dm_findings.specs.declared.calls.Call.{Call}
 use Rattle.dm_findings.specs.declared.calls.Call.TheVariants.{DivideError, Terminate, Dos, ExpandedMemory, Multiplex, ExtendedMemory, Interrupt}
 use Rattle.dm_findings.specs.declared.finding.Contents.{Contents}
