@@ -1,3 +1,3 @@
 pub mod Replying
 pub mod Telling
-pub mod Checking
+pub mod Ahead
