@@ -134,6 +134,18 @@ leads_stopped s t old new _ why text e able empty free (first.cut made before k 
       checks = with_text s t text new.report (report_of gs) (Some stop) told report (stops made before t k gs stop running other less found origins a at);
     })
 
+-- the same, by what is known of the steps and of the text
+pub told_on : (s t : State) (old new : UnderWay) (why : Option Stop) (steps : ℕ) (text : List ℕ) (r : Reported) → why ≡ None → old.report ≡ report_of [] → old.free ≡ true
+    → GoesToFirst s most_checked old t new why → r ≡ new.report → steps ≡ most_checked - new.left → text ≡ checked_text r None → LeadsAhead s steps text
+told_on s t old new why steps text r e empty free goes same made told =
+    subst (λ (i : ℕ). LeadsAhead s i text) (sym made) (leads_on s t old new why text e empty free goes (told ∙ ap (λ (x : Reported). checked_text x None) same))
+
+pub told_stopped : (s t : State) (old new : UnderWay) (o : Option Stop) (why : Stop) (steps : ℕ) (text : List ℕ) (r : Reported) → o ≡ Some why → why ≢ NoMemory → old.report ≡ report_of [] → old.free ≡ true
+    → GoesToFirst s most_checked old t new o → r ≡ new.report → steps ≡ most_checked → text ≡ checked_text r (Some why) → LeadsAhead s steps text
+told_stopped s t old new o why steps text r e able empty free goes same made told =
+    subst (λ (i : ℕ). LeadsAhead s i text) (sym made)
+    (leads_stopped s t old new o why text e able empty free goes (told ∙ ap (λ (x : Reported). checked_text x (Some why)) same ∙ ap (λ (x : Option Stop). checked_text new.report x) (sym e)))
+
 -- ---- the session
 
 -- a reply to the command, where what changed is known

@@ -1,11 +1,12 @@
 //! `monitor check`: steps up to the first in which the checker finds something.
 
-ghost use Rattle.std.specs.Prelude.{◌≡◌, ◌++◌, ℕ, true, IfOk, OnErr, OnOk};
+ghost use Rattle.std.specs.Prelude.{◌≡◌, ◌++◌, ◌↔◌, ℕ, true, IsTrue, IfOk, OnErr, OnOk};
 ghost use Rattle.dm_gdb.specs.Checking.{checked_text, end_line, findings_text, is_check, stopped_line};
 ghost use Rattle.dm_gdb.specs.Servers.{Replies};
 ghost use Rattle.dm_gdb.specs.inner.Checking.{LeadsAhead};
 ghost use Rattle.dm_requests.specs.declared.request.Request.TheVariants as request;
 ghost use Rattle.dm_state.specs.State.{HasProgram};
+ghost use Rattle.dm_state.specs.declared.stop.Stop.TheVariants as stop;
 
 use crate::replies::Reply;
 use crate::server::Server;
@@ -76,6 +77,29 @@ fn checked_text(alloc: Global, report: &Report, why: Option<Stop>) -> Result<Vec
     Ok(text)
 }
 
+/// Whether a run stopped for want of memory.
+fn wants_memory(why: Stop) -> bool
+    ensures { IsTrue result ↔ (why ≡ stop.Memory) }
+{
+    match why {
+        Stop::Memory => true,
+        _ => false,
+    }
+}
+
+/// Where the command ends after so many steps, by their report and why they ended. An `Err` is a failed allocation.
+fn told(
+    alloc: Global,
+    report: &Report,
+    why: Option<Stop>,
+    steps: u64,
+) -> Result<Ahead, AllocError>
+    ensures { IfOk result (λ ahead. (ahead.steps ≡ steps) × (ahead.text.items ≡ checked_text report.now why)) }
+{
+    let text = checked_text(alloc, report, why)?;
+    Ok(Ahead { steps, text })
+}
+
 /// Makes the steps to where the command ends. An `Err` is a failed allocation, or one that the machine wants for the
 /// console's output.
 fn look_ahead(alloc: Global, machine: &mut Machine) -> Result<Ahead, AllocError>
@@ -83,14 +107,14 @@ fn look_ahead(alloc: Global, machine: &mut Machine) -> Result<Ahead, AllocError>
     ensures { IfOk result (λ ahead. LeadsAhead machine.old ahead.steps ahead.text.items) }
 {
     let mut run = CheckedRun::begin(alloc, machine, MOST, true)?;
-    let why = run.go_on(alloc, machine)?;
-    let steps = match why {
-        None => MOST - run.left(),
-        Some(Stop::Memory) => return Err(AllocError),
-        Some(_) => MOST,
+    let Some(why) = run.go_on(alloc, machine)? else {
+        let steps = MOST.saturating_sub(run.left());
+        return told(alloc, run.report(), None, steps);
     };
-    let text = checked_text(alloc, run.report(), why)?;
-    Ok(Ahead { steps, text })
+    if wants_memory(why) {
+        return Err(AllocError);
+    }
+    told(alloc, run.report(), Some(why), MOST)
 }
 
 impl Server {
