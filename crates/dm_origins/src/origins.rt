@@ -58,12 +58,7 @@ fn never_freed(alloc: Global) -> Result<Vec<Option<Origin>>, AllocError>
 impl Origins {
     /// What is known before a run: which handles are in use, and the process that is present. An `Err` is a failed allocation.
     #[tactic(auto, unfolding(crate::specs::Origins::nothing_known))]
-    pub fn new(
-        alloc: Global,
-        ems: &Ems,
-        xms: &Xms,
-        present: Process,
-    ) -> Result<Origins, AllocError>
+    pub fn new(alloc: Global, ems: &Ems, xms: &Xms, present: Process) -> Result<Origins, AllocError>
         ensures { IfOk result (λ origins. origins ≡ known_first ems.now xms.now present) }
     {
         let mut handles = [Since::Unused; 64];
