@@ -8,8 +8,8 @@ ghost use Rattle.dm_checker.specs.Arranged.{other_block, other_freed, stack_in, 
 ghost use Rattle.dm_checker.specs.Watching.{header_of, shown_of};
 
 use crate::acts::Before;
-use dm_calls::put;
 use crate::watch::{Watch, Watched};
+use dm_calls::put;
 use dm_cpu::Cpu;
 use dm_findings::{Call, Finding};
 use dm_touches::{FarAddress, is_in_free};

@@ -8,8 +8,8 @@ ghost use Rattle.dm_space.specs.Memory.{Memory};
 ghost use Rattle.dm_checker.specs.Headers.{shown_at, same_contents, overwritten, mapped_away};
 ghost use Rattle.dm_checker.specs.Watching.{IsBits, IsWatched, header_of, IsKept, contents_by};
 
-use dm_calls::put;
 use crate::watch::{Watched, bits_at};
+use dm_calls::put;
 use dm_findings::{Contents, Finding};
 use dm_pool::Block;
 use dm_space::Space;

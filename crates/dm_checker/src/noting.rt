@@ -52,11 +52,7 @@ fn note_arena(
 
 /// Notes that a step started or ended a process, if it did. `before` is what was kept of the state before the step,
 /// `machine` is in the state after it. An `Err` is a failed allocation.
-fn note_course(
-    origins: &mut Origins,
-    before: &Before,
-    machine: &Machine,
-) -> Result<(), AllocError>
+fn note_course(origins: &mut Origins, before: &Before, machine: &Machine) -> Result<(), AllocError>
     ensures { OnOk result ((s : State) → IsBefore s before.now → origins.new ≡ with_course s machine.now before.now.call origins.old) }
 {
     let step = machine.steps();

@@ -159,8 +159,8 @@ checks_as a s x most line told e is f h =
 -- memory for the output was wanted on the way
 pub short_as : (a s : Served) (x : Past) (most : ℕ) (line : List ℕ) (steps : ℕ) (text : List ℕ) (why : Stop) → a ≡ s → is_check line ≡ true → x ≡ record a.history { machine = x.machine }
     → LeadsAhead a.history.machine steps text → IsRun a.history.machine steps why x.machine → why ≡ NoMemory → Replies s most (request.Command line) reply.StoppedBefore (record a { history = x })
-short_as a s x most line steps text why e is f ahead went no =
-    checks_as a s x most line reply.StoppedBefore e is f (short steps x.machine ahead.few (subst (λ (z : Stop). IsRun a.history.machine steps z x.machine) no went))
+short_as a s x most line steps text why e is f ahead went wanted =
+    checks_as a s x most line reply.StoppedBefore e is f (short steps x.machine ahead.few (subst (λ (z : Stop). IsRun a.history.machine steps z x.machine) wanted went))
 
 -- the steps were made
 pub checked_as : (a s : Served) (x : Past) (most : ℕ) (line : List ℕ) (steps : ℕ) (text : List ℕ) (why : Stop) (told : Reply) → a ≡ s → is_check line ≡ true → x ≡ record a.history { machine = x.machine }

@@ -88,12 +88,7 @@ fn wants_memory(why: Stop) -> bool
 }
 
 /// Where the command ends after so many steps, by their report and why they ended. An `Err` is a failed allocation.
-fn told(
-    alloc: Global,
-    report: &Report,
-    why: Option<Stop>,
-    steps: u64,
-) -> Result<Ahead, AllocError>
+fn told(alloc: Global, report: &Report, why: Option<Stop>, steps: u64) -> Result<Ahead, AllocError>
     ensures { IfOk result (λ ahead. (ahead.steps ≡ steps) × (ahead.text.items ≡ checked_text report.now why)) }
 {
     let text = checked_text(alloc, report, why)?;

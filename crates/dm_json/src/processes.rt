@@ -45,7 +45,10 @@ fn put_each(out: &mut Vec<u8>, processes: &[Process]) -> Result<(), AllocError>
 }
 
 /// Appends a line for each of the processes of a run, in their order; nothing if there was one process alone.
-pub(crate) fn put_process_objects(out: &mut Vec<u8>, processes: &[Process]) -> Result<(), AllocError>
+pub(crate) fn put_process_objects(
+    out: &mut Vec<u8>,
+    processes: &[Process],
+) -> Result<(), AllocError>
     ensures { OnOk result (out.new.items ≡ out.old.items ++ process_objects processes.now) }
 {
     if 1 < processes.len() {
