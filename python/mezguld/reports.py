@@ -17,7 +17,7 @@ WORD = r"([0-9A-F]{4})"
 ADDRESS = f"{WORD}:{WORD}"
 CONTENTS = f"([0-9A-F]{{2}}) {WORD} {WORD}"
 FOUND = re.compile(f"step ([0-9]+), (before )?{ADDRESS} (.+?): (.+)", re.DOTALL)
-ORIGIN = re.compile(f"(.+), (allocated|freed) by step ([0-9]+), (before )?{ADDRESS}", re.DOTALL)
+ORIGIN = re.compile(f"(.+), (allocated|turned on|freed) by step ([0-9]+), (before )?{ADDRESS}", re.DOTALL)
 AGAIN = re.compile(r"(.+): ([0-9]+) more, the last at step ([0-9]+)", re.DOTALL)
 STOPPED = re.compile(f"stopped: ([a-z ]+?) (at|before) {ADDRESS}(?:: (.+))?")
 PROCESS = re.compile(f"process {WORD} (.*): parent {WORD}, (?:steps ([0-9]+) to ([0-9]+)|from step ([0-9]+))", re.DOTALL)
@@ -120,11 +120,11 @@ def groups(pattern: re.Pattern[str], text: str) -> tuple[Any, ...]:
 
 
 def origin(text: str) -> tuple[str, Members]:
-    """The words of a finding without the step that allocated or freed what it is about, and that step, if it is named."""
+    """The words of a finding without the step that allocated, turned on or freed what it is about, and that step, if it is named."""
     if not (found := ORIGIN.fullmatch(text)):
         return text, {}
     words, verb, step, before, segment, offset = found.groups()
-    return words, {f"{verb}_by": {"step": int(step)} | site(segment, offset, bool(before))}
+    return words, {f"{verb.replace(' ', '_')}_by": {"step": int(step)} | site(segment, offset, bool(before))}
 
 
 def finding(text: str, is_error: bool) -> Members:

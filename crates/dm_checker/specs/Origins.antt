@@ -22,13 +22,13 @@ if_both_whole None None k l = l
 if_both_whole (Some at) new k l = k
 if_both_whole None (Some at) k l = k
 
--- what is known after the step from s to t with this call, if k was known before it: a call of a driver allocated the
--- handles that were not in use, and one that may write headers freed the memory that is in a free block now, and was in
+-- what is known after the step from s to t with this call, if k was known before it: a call of a driver allocated what
+-- was not in use, and one that may write headers freed the memory that is in a free block now, and was in
 -- none before, and may have started or ended a process. `old` and `new` are what memory shows of the arena before and
 -- after the step
 abbrev pub known_by : State → State → Shown → Shown → Option Call → Known → Known
 known_by s t old new (Some (ExpandedMemory number)) k = with_handles k t.ems (Some (origin_at s t))
-known_by s t old new (Some (ExtendedMemory number)) k = with_blocks k t.xms (Some (origin_at s t))
+known_by s t old new (Some (ExtendedMemory number)) k = with_blocks k t.xms t.memory.a20 (Some (origin_at s t))
 known_by s t old new call k =
     if arranges s.cpu call then with_course s t call (if_both_whole old.broken new.broken k (with_freed k old.headers new.headers (origin_at s t))) else k
 
@@ -42,7 +42,7 @@ pub record IsKnownAfter (s t : State) (k l : Known) : Type 0 where
 
 -- what is known in s, where a run begins
 abbrev pub known_at : State → Known
-known_at s = known_first s.ems s.xms (present_process s)
+known_at s = known_first s.ems s.xms s.memory.a20 (present_process s)
 
 -- n steps lead from s to this state, none of them ended the program, and this is known after them
 pub data OriginsIn (s : State) : ℕ → State → Known → Type 0 where

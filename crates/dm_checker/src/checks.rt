@@ -70,7 +70,13 @@ impl CheckedRun {
         let over = exit_code(machine);
         let kept = read_arena(alloc, machine)?;
         let present = Process::at(machine.space(), machine.present(), machine.steps());
-        let origins = Origins::new(alloc, machine.ems(), machine.xms(), present)?;
+        let origins = Origins::new(
+            alloc,
+            machine.ems(),
+            machine.xms(),
+            machine.space().a20(),
+            present,
+        )?;
         Ok(CheckedRun {
             report: Report::new(alloc),
             left: n,

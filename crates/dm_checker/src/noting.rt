@@ -84,7 +84,9 @@ pub(crate) fn note(
     };
     match before.call {
         Some(Call::ExpandedMemory(_)) => origins.note_handles(machine.ems(), origin),
-        Some(Call::ExtendedMemory(_)) => origins.note_blocks(machine.xms(), origin),
+        Some(Call::ExtendedMemory(_)) => {
+            origins.note_blocks(machine.xms(), machine.space().a20(), origin)
+        }
         call => {
             if arranges(&before.cpu, call) {
                 note_arena(alloc, origins, old, new, origin)?;

@@ -165,10 +165,15 @@ detail_members (TailWritten at byte) = number_member (codes "header") at ++ numb
 detail_members (OtherFreed at owner) = number_member (codes "block") at ++ number_member (codes "owner") owner
 detail_members (NotResized asked) = number_member (codes "wanted") asked
 
+-- the name of the step that turned on or allocated what is left or held
+abbrev pub kept_name : Kept → List ℕ
+kept_name kept.Line = codes "turned_on_by"
+kept_name _ = codes "allocated_by"
+
 -- the name of the step that did something to what the finding is about
 abbrev pub origin_name : Finding → List ℕ
-origin_name (Left k) = codes "allocated_by"
-origin_name (Held k) = codes "allocated_by"
+origin_name (Left k) = kept_name k
+origin_name (Held k) = kept_name k
 origin_name _ = codes "freed_by"
 
 -- an object with the step that did it, and where in its code the program performed it; nothing if it is not known

@@ -5,7 +5,7 @@ ghost use Rattle.std.specs.Prelude.{◌≡◌, ◌++◌, OnOk, codes};
 ghost use Rattle.std.specs.List.{flat_map};
 ghost use Rattle.dm_text.specs.Texts.{text_of};
 ghost use Rattle.dm_reports.specs.Texts.{told_text};
-ghost use Rattle.dm_json.specs.Objects.{act_members, again_object, bool_member, byte_members, closing, code_member, contents_member, detail_members, end_object, found_members, found_object, kept_members, kept_word, kind_word, left_out_object, next_members, number_member, opening, origin_member, origin_name, repeated_object, stopped_object, string_member, summary_objects, unlisted_object, what_members};
+ghost use Rattle.dm_json.specs.Objects.{act_members, again_object, bool_member, byte_members, closing, code_member, contents_member, detail_members, end_object, found_members, found_object, kept_members, kept_name, kept_word, kind_word, left_out_object, next_members, number_member, opening, origin_member, origin_name, repeated_object, stopped_object, string_member, summary_objects, unlisted_object, what_members};
 
 use crate::members::{
     put_bool_member, put_byte_members, put_call_members, put_contents_member, put_name,
@@ -207,13 +207,23 @@ fn put_act_members(out: &mut Vec<u8>, alloc: Global, act: &Act) -> Result<(), Al
     }
 }
 
-/// The name of the step that did something to what a finding is about: it allocated what is left or held, and freed
-/// memory.
+/// The name of the step that turned on or allocated what is left or held.
+fn kept_name(kept: &Kept) -> &'static [u8]
+    ensures { result.now ≡ kept_name kept.now }
+{
+    match kept {
+        Kept::Line => b"turned_on_by",
+        _ => b"allocated_by",
+    }
+}
+
+/// The name of the step that did something to what a finding is about: it allocated what is left or held, or turned it on,
+/// and freed memory.
 fn origin_name(finding: &Finding) -> &'static [u8]
     ensures { result.now ≡ origin_name finding.now }
 {
     match finding {
-        Finding::Left(_) | Finding::Held(_) => b"allocated_by",
+        Finding::Left(kept) | Finding::Held(kept) => kept_name(kept),
         _ => b"freed_by",
     }
 }

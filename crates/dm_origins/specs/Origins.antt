@@ -1,14 +1,15 @@
 -- Who allocated what there is, and who freed what is free, as a run shows it: the step, and the caller in the program;
 -- and which processes ran.
--- Source: LIM EMS 4.0, section 2 (handles); XMS 3.0 (handles); MS-DOS Programmer's Reference, "Arena header", functions
+-- Source: LIM EMS 4.0, section 2 (handles); XMS 3.0 (handles, upper memory blocks, high memory area, A20); MS-DOS Programmer's Reference, "Arena header", functions
 -- 48h, 49h and 4Ah.
-use Rattle.std.specs.Prelude.{ℕ, ◌+◌, ◌-◌, ◌/◌, ◌==◌, ◌&&◌, not, nat_lt, is_some, Bool, if◌then◌else◌, List, [], ◌∷◌, replicate, slice_index_or, Option, Some, None}
+use Rattle.std.specs.Prelude.{ℕ, ◌+◌, ◌-◌, ◌/◌, ◌==◌, ◌&&◌, not, nat_lt, is_some, Bool, if◌then◌else◌, List, [], ◌∷◌, replicate, slice_get, slice_index_or, Option, Some, None}
 use Rattle.std.specs.List.{list_any}
 use Rattle.dm_space.specs.Memory.{linear}
 use Rattle.dm_blocks.specs.declared.header.Header.{Header}
 use Rattle.dm_ems.specs.Tables.{Tables}
 use Rattle.dm_xms.specs.Tables as xms
 use Rattle.dm_xms.specs.Calls.{slot}
+use Rattle.dm_xms.specs.declared.tables.Upper.{Upper}
 use Rattle.dm_findings.specs.declared.finding.Finding.{Finding}
 use Rattle.dm_findings.specs.declared.finding.Finding.TheVariants.{FreeRead, FreeWritten, FreedTwice, Left, Held}
 use Rattle.dm_findings.specs.declared.finding.Kept.{Kept}
@@ -17,12 +18,17 @@ use Rattle.dm_findings.specs.declared.finding.Origin.{Origin}
 use Rattle.dm_processes.specs.declared.process.Process.{Process}
 use Rattle.dm_origins.specs.declared.handles.Since.{Since}
 use Rattle.dm_origins.specs.declared.handles.Since.TheVariants.{Unused, Used}
+use Rattle.dm_origins.specs.declared.uppers.UpperSince.{UpperSince}
 
--- what is known: of each handle of expanded memory (from 0) and of extended memory (from 1), whether it is in use, and
--- since when; of each paragraph below 10000h, the last step that freed it; and the processes, in the order of their starts
+-- what is known: of each handle of expanded memory (from 0) and of extended memory (from 1), of the high memory area and of
+-- A20 whether it is in use, and since when; the upper memory blocks that are, up to 64, and since when; of each paragraph
+-- below 10000h, the last step that freed it; and the processes, in the order of their starts
 pub record Known : Type 0 where
   pub handles : List Since
   pub blocks : List Since
+  pub uppers : List (Option UpperSince)
+  pub area : Since
+  pub line : Since
   pub freed : List (Option Origin)
   pub processes : List Process
 
@@ -54,17 +60,41 @@ seen used o x = if used then taken o x else Unused
 abbrev pub with_handles : Known → Tables → Option Origin → Known
 with_handles k ems o = record k { handles = each_from (λ h x. seen (has_handle ems h) o x) 0 k.handles }
 
--- what is known after a call of the extended memory driver, which leaves these tables
-abbrev pub with_blocks : Known → xms.Tables → Option Origin → Known
-with_blocks k tables o = record k { blocks = each_from (λ h x. seen (has_block tables h) o x) 0 k.blocks }
+-- the step since which the upper memory block at a segment is in use; o if none is known there
+unfoldable pub upper_origin : List (Option UpperSince) → Option Origin → ℕ → Option Origin
+upper_origin [] o segment = o
+upper_origin (None ∷ us) o segment = upper_origin us o segment
+upper_origin (Some u ∷ us) o segment = if u.segment == segment then u.origin else upper_origin us o segment
+
+-- what is known of an upper memory block: what was known of the one at its segment, or, if none was, that it is since o
+abbrev pub upper_since : List (Option UpperSince) → Option Origin → Option Upper → Option UpperSince
+upper_since us o None = None
+upper_since us o (Some u) = Some (record { segment = u.segment; origin = upper_origin us o u.segment })
+
+-- what is known after a call of the extended memory driver, which leaves these tables, and A20 on or off
+abbrev pub with_blocks : Known → xms.Tables → Bool → Option Origin → Known
+with_blocks k tables on o = record k {
+  blocks = each_from (λ h x. seen (has_block tables h) o x) 0 k.blocks;
+  uppers = each_from (λ n x. upper_since k.uppers o (slice_get tables.uppers n)) 0 k.uppers;
+  area = seen tables.area o k.area;
+  line = seen on o k.line;
+}
 
 -- nothing is known but this process
 unfoldable pub nothing_known : Process → Known
-nothing_known p = record { handles = replicate 64 Unused; blocks = replicate 64 Unused; freed = replicate 0x10000 None; processes = p ∷ [] }
+nothing_known p = record {
+  handles = replicate 64 Unused;
+  blocks = replicate 64 Unused;
+  uppers = replicate 64 None;
+  area = Unused;
+  line = Unused;
+  freed = replicate 0x10000 None;
+  processes = p ∷ [];
+}
 
--- what is known before a run: the handles that are in use, and the process that is present
-abbrev pub known_first : Tables → xms.Tables → Process → Known
-known_first ems tables p = with_blocks (with_handles (nothing_known p) ems None) tables None
+-- what is known before a run: what is in use, and the process that is present
+abbrev pub known_first : Tables → xms.Tables → Bool → Process → Known
+known_first ems tables on p = with_blocks (with_handles (nothing_known p) ems None) tables on None
 
 -- ---- memory of the arena
 
@@ -96,11 +126,14 @@ origin_since (Used o) = o
 abbrev pub of_paragraph : Known → ℕ → Option Origin
 of_paragraph k p = slice_index_or k.freed p None
 
--- the step that allocated the handle
+-- the step that allocated what is left or held, or turned A20 on
 abbrev pub of_kept : Known → Kept → Option Origin
 of_kept k (kept.Handle handle pages saved) = origin_since (slice_index_or k.handles handle Unused)
 of_kept k (kept.Block handle kib locked) = origin_since (slice_index_or k.blocks (handle - 1) Unused)
-of_kept k _ = None
+of_kept k (kept.Upper segment) = upper_origin k.uppers None segment
+of_kept k kept.Area = origin_since k.area
+of_kept k kept.Line = origin_since k.line
+of_kept k (kept.Window number) = None
 
 -- the step that freed the memory which the finding is about, or allocated what is left or held; None if no step of the
 -- run did, or if it is about something else. `a20` is that of the state before the finding's step

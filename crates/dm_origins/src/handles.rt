@@ -30,7 +30,7 @@ fn taken(origin: Option<Origin>, known: Since) -> Since
 }
 
 /// What is known of a handle, by whether it is in use, after a step, or before the run (None).
-fn seen(used: bool, origin: Option<Origin>, known: Since) -> Since
+pub(crate) fn seen(used: bool, origin: Option<Origin>, known: Since) -> Since
     ensures { result ≡ seen used origin known }
 {
     if used {

@@ -8,7 +8,8 @@ ghost use Rattle.dm_processes.specs.Processes.{with_end};
 
 use crate::chunks::Chunks;
 use crate::freed::free_all;
-use crate::handles::{Since, look_at_blocks, look_at_handles};
+use crate::handles::{Since, look_at_blocks, look_at_handles, seen};
+use crate::uppers::{UpperSince, look_at_uppers, upper_origin};
 use dm_blocks::Header;
 use dm_ems::Ems;
 use dm_findings::{Finding, Kept, Origin};
@@ -18,14 +19,18 @@ use dm_xms::Xms;
 use std::alloc::{AllocError, Global};
 use std::marker::Model;
 
-/// Of each handle of expanded and of extended memory, whether it is in use and which step allocated it; of each paragraph
-/// below 10000h, which step was the last that freed it; and the processes that ran.
+/// Of each handle of expanded and of extended memory and each upper memory block, which step allocated it; of the high memory
+/// area and of A20, which step took it or turned it on; of each paragraph below 10000h, which step was the last that freed
+/// it; and the processes that ran.
 ///
-/// Contracts see four lists.
+/// Contracts see all of them.
 #[derive(Drop)]
 pub struct Origins {
     handles: [Since; 64],
     blocks: [Since; 64],
+    uppers: [Option<UpperSince>; 64],
+    area: Since,
+    line: Since,
     freed: Chunks,
     processes: Vec<Process>,
 }
@@ -36,28 +41,41 @@ impl Model for Origins {
 
     ghost Value = { Known };
 
-    ghost view = { λ r. record { handles = r.handles; blocks = r.blocks; freed = r.freed; processes = r.processes.items } };
+    ghost view = { λ r. record { handles = r.handles; blocks = r.blocks; uppers = r.uppers; area = r.area; line = r.line; freed = r.freed; processes = r.processes.items } };
 
     ghost invariant = { λ r. length r.freed ≡ 0x10000 };
 }
 
 impl Origins {
-    /// What is known before a run: which handles are in use, and the process that is present. An `Err` is a failed
-    /// allocation.
+    /// What is known before a run: what is in use, whether A20 is on (`on`), and the process that is present. An `Err` is a
+    /// failed allocation.
     #[tactic(auto, unfolding(crate::specs::Origins::nothing_known))]
-    pub fn new(alloc: Global, ems: &Ems, xms: &Xms, present: Process) -> Result<Origins, AllocError>
-        ensures { IfOk result (λ origins. origins ≡ known_first ems.now xms.now present) }
+    pub fn new(
+        alloc: Global,
+        ems: &Ems,
+        xms: &Xms,
+        on: bool,
+        present: Process,
+    ) -> Result<Origins, AllocError>
+        ensures { IfOk result (λ origins. origins ≡ known_first ems.now xms.now on present) }
     {
         let mut handles = [Since::Unused; 64];
         look_at_handles(&mut handles, ems, None);
         let mut blocks = [Since::Unused; 64];
         look_at_blocks(&mut blocks, xms, None);
+        let mut uppers = [None; 64];
+        look_at_uppers(&mut uppers, xms, None);
+        let area = seen(xms.hma(), None, Since::Unused);
+        let line = seen(on, None, Since::Unused);
         let freed = Chunks::never_freed(alloc)?;
         let mut processes = Vec::new(alloc);
         processes.push(present)?;
         Ok(Origins {
             handles,
             blocks,
+            uppers,
+            area,
+            line,
             freed,
             processes,
         })
@@ -71,12 +89,16 @@ impl Origins {
         look_at_handles(&mut self.handles, ems, Some(origin));
     }
 
-    /// Looks at the handles of extended memory after a call of its driver: the step allocated those that were not in
-    /// use.
-    pub fn note_blocks(&mut self, xms: &Xms, origin: Origin)
-        ensures { self.new ≡ with_blocks self.old xms.now (Some origin) }
+    /// Looks at the handles of extended memory, the upper memory blocks, the high memory area and A20 (`on`) after a call of
+    /// the extended memory driver: the step allocated those that were not in use, took the area if it was free, and turned
+    /// A20 on if it was off.
+    pub fn note_blocks(&mut self, xms: &Xms, on: bool, origin: Origin)
+        ensures { self.new ≡ with_blocks self.old xms.now on (Some origin) }
     {
         look_at_blocks(&mut self.blocks, xms, Some(origin));
+        look_at_uppers(&mut self.uppers, xms, Some(origin));
+        self.area = seen(xms.hma(), Some(origin), self.area);
+        self.line = seen(on, Some(origin), self.line);
     }
 
     /// Looks at the blocks of the arena before and after a call: the step freed the paragraphs of free blocks that were
@@ -116,14 +138,17 @@ impl Origins {
         self.freed.get(paragraph)
     }
 
-    /// The step that allocated what a program left or holds; None if none did, or if it is no handle.
+    /// The step that allocated what a program left or holds, or turned A20 on; None if none did, or if it is a window.
     fn of_kept(&self, kept: &Kept) -> Option<Origin>
         ensures { result ≡ of_kept self.now kept.now }
     {
         match kept {
             Kept::Handle(handle, _, _) => of_entry(&self.handles, *handle),
             Kept::Block(handle, _, _) => of_entry(&self.blocks, handle.saturating_sub(1)),
-            _ => None,
+            Kept::Upper(segment) => upper_origin(&self.uppers, None, *segment),
+            Kept::Area => self.area.origin(),
+            Kept::Line => self.line.origin(),
+            Kept::Window(_) => None,
         }
     }
 

@@ -98,10 +98,15 @@ abbrev pub site_text : Site → List ℕ
 site_text (At segment offset) = address_text segment offset
 site_text (Before segment offset) = codes "before " ++ address_text segment offset
 
--- what a step did to what the finding is about: it allocated what is left or held, and freed memory
+-- what a step did to what is left or held: it turned A20 on, and allocated the rest
+abbrev pub kept_verb : Kept → List ℕ
+kept_verb kept.Line = codes "turned on"
+kept_verb _ = codes "allocated"
+
+-- what a step did to what the finding is about: it allocated what is left or held, or turned it on, and freed memory
 abbrev pub origin_verb : Finding → List ℕ
-origin_verb (Left k) = codes "allocated"
-origin_verb (Held k) = codes "allocated"
+origin_verb (Left k) = kept_verb k
+origin_verb (Held k) = kept_verb k
 origin_verb _ = codes "freed"
 
 -- by which step, and where, that was done; nothing if it is not known

@@ -5,7 +5,7 @@ ghost use Rattle.std.specs.Prelude.{◌≡◌, ◌++◌, OnOk, codes, decimal};
 ghost use Rattle.dm_findings.specs.Findings.{is_error};
 ghost use Rattle.dm_text.specs.Texts.{text_of};
 ghost use Rattle.dm_views.specs.Digits.{two_digits, four_digits, address_text};
-ghost use Rattle.dm_reports.specs.Texts.{act_text, contents_text, counted, ending_text, finding_text, found_line, free_text, found_text, kept_text, kind_text, lock_text, map_text, origin_text, origin_verb, refusal_text, repeated_line, short_text, site_text, told_text};
+ghost use Rattle.dm_reports.specs.Texts.{act_text, contents_text, counted, ending_text, finding_text, found_line, free_text, found_text, kept_text, kept_verb, kind_text, lock_text, map_text, origin_text, origin_verb, refusal_text, repeated_line, short_text, site_text, told_text};
 
 use crate::meanings::meaning_of;
 use crate::names::put_call;
@@ -346,12 +346,22 @@ fn put_site(out: &mut Vec<u8>, site: Site) -> Result<(), AllocError>
     }
 }
 
-/// What a step did to what a finding is about: it allocated what is left or held, and freed memory.
+/// What a step did to what is left or held: it turned A20 on, and allocated the rest.
+fn kept_verb(kept: &Kept) -> &'static [u8]
+    ensures { result.now ≡ kept_verb kept.now }
+{
+    match kept {
+        Kept::Line => b"turned on",
+        _ => b"allocated",
+    }
+}
+
+/// What a step did to what a finding is about: it allocated what is left or held, or turned it on, and freed memory.
 fn verb_of(finding: &Finding) -> &'static [u8]
     ensures { result.now ≡ origin_verb finding.now }
 {
     match finding {
-        Finding::Left(_) | Finding::Held(_) => b"allocated",
+        Finding::Left(kept) | Finding::Held(kept) => kept_verb(kept),
         _ => b"freed",
     }
 }
