@@ -15,7 +15,7 @@ mod strings;
 pub use control::change_flag;
 pub use dm_cpu::{Cpu, Flags, far_return, interrupt_return};
 pub use effect::{Next, exec, execute};
-pub use far::transfer_low;
+pub use far::{load_far_low, transfer_low};
 pub use jumps::{
     call_by, call_memory, call_register, jump_memory, jump_register, return_near, target_after,
     target_by_count, target_if, transfer,
@@ -27,4 +27,6 @@ pub use operation::{
     TransferOperation,
 };
 pub use repetitions::repeat_together;
-pub use strings::{Comparing, Loading, Moving, Scanning, Storing, StringWork, repeat_string};
+pub use strings::{
+    Comparing, Loading, Moving, Scanning, Storing, StringWork, repeat_low_string, repeat_string,
+};

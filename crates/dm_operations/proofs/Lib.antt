@@ -3,3 +3,4 @@ mod Signs
 mod ByWidth
 pub mod Unshifted
 mod Addresses
+pub mod Turns

@@ -18,13 +18,14 @@ pub use numbers::Number;
 pub use pairs::{
     Addition, AdditionWithCarry, Changing, Combining, Comparison, Complement, Decrement, Dividing,
     Increment, Input, Joining, Multiplication, Negation, Pair, PairOperation, Place,
-    PlaceOperation, Shifting, Subtraction, SubtractionWithBorrow, Testing, on_pair, on_place,
+    PlaceOperation, Shifting, ShiftingOnce, Subtraction, SubtractionWithBorrow, Testing, on_pair,
+    on_place,
 };
 pub use shifts::{
     ArithmeticShift, LeftRotation, LeftRotationThroughCarry, LeftShift, Moving, RightRotation,
     RightRotationThroughCarry, RightShift, shift_left_once, shift_right_once,
 };
 pub use stack::{
-    InterruptOperation, StackOperation, act_on_interrupt, act_on_interrupt_low, pop_flags, pop_to,
-    push_flags, push_register,
+    InterruptOperation, StackOperation, act_on_interrupt, act_on_interrupt_low, pop_flags,
+    pop_segment_low, pop_to, push_flags, push_register,
 };

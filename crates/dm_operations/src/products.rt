@@ -10,8 +10,8 @@ ghost use Rattle.dm_operations.specs.Products.{double_of, with_double, multiplie
 
 use crate::stack;
 use dm_alu::{Division, Sign, Width, div, mul};
-use dm_cpu::{Registers, values};
-use dm_ins::Ins;
+use dm_cpu::{Half, Registers, values};
+use dm_ins::{ByteRegister, Ins};
 use dm_space::Space;
 
 /// The dividend of DIV and IDIV, of twice the width: AX, or DX and AX, with the upper half in DX.
@@ -76,14 +76,23 @@ pub fn multiply(cpu: &mut Registers, space: &Space, ins: &Ins, sign: Sign)
 
 /// Sets AL to a quotient (DIV, IDIV) and AH to its remainder, or by a word AX and DX. The flags stay.
 #[inline(always)]
-#[tactic(auto, unfolding(crate::specs::Products::with_division))]
+#[tactic(auto, unfolding(crate::specs::Products::with_division, dm_cpu::specs::Cpu::with_byte))]
 fn set_division(width: Width, cpu: &mut Registers, division: Division)
     requires quotient { division.quotient < size width }
     requires remainder { division.remainder < size width }
     ensures { cpu.new ≡ with_division width cpu.old division }
 {
     match width {
-        Width::Byte => cpu.set_ax(division.remainder * 0x100 + division.quotient),
+        Width::Byte => {
+            cpu.set_byte(
+                Half::new(ByteRegister::Al),
+                (division.quotient % 0x100) as u8,
+            );
+            cpu.set_byte(
+                Half::new(ByteRegister::Ah),
+                (division.remainder % 0x100) as u8,
+            );
+        }
         Width::Word => {
             cpu.set_ax(division.quotient);
             cpu.set_dx(division.remainder);
