@@ -19,6 +19,7 @@ pub struct UpperSince {
 const UPPERS: usize = 64;
 
 /// The step since which the upper memory block at a segment is in use; `origin` if none is known there.
+#[tactic(auto, unfolding(crate::specs::Origins::upper_origin))]
 pub(crate) fn upper_origin(
     known: &[Option<UpperSince>],
     origin: Option<Origin>,
