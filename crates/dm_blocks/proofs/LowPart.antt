@@ -1,5 +1,6 @@
 -- The headers of the first list below segment C000h.
-use Rattle.std.proofs.Common.{◌≡◌, ℕ, ◌+◌, ◌*◌, ◌<◌, ◌≤◌, Bool, true, false, List, [], ◌∷◌, ◌++◌, refl, sym, ◌∙◌, ap, subst, arith}
+use Rattle.std.proofs.Common.{◌≡◌, ℕ, ◌+◌, ◌*◌, ◌<◌, ◌≤◌, Bool, true, false, Option, Some, None, List, [], ◌∷◌, ◌++◌, refl, sym, ◌∙◌, ap, subst, arith}
+use Rattle.std.specs.Prelude.{IfSome}
 use Rattle.dm_space.specs.Memory.{Memory, place}
 use Rattle.dm_space.specs.declared.place.Place.TheVariants.{Low}
 use Rattle.dm_space.proofs.Places.{place-low}
@@ -7,7 +8,8 @@ use Rattle.dm_blocks.specs.declared.header.Header.{Header}
 use Rattle.dm_blocks.specs.declared.header.Entry.{Entry}
 use Rattle.dm_blocks.specs.Chain.{HasHeader, IsArena, IsHeader, NoArena, first_header, next, signature, signature_byte}
 use Rattle.dm_blocks.specs.Listing.{Follows}
-use Rattle.dm_blocks.specs.inner.Low.{IsUpTo}
+use Rattle.dm_blocks.specs.Reading.{IsEntryAt}
+use Rattle.dm_blocks.specs.inner.Low.{IsUpTo, Proceeds, Stands}
 use Rattle.dm_blocks.specs.inner.Standing.{MayStand}
 use Rattle.dm_blocks.proofs.Marking.{low-marked}
 use Rattle.dm_blocks.proofs.Stands.{low-stands}
@@ -53,3 +55,18 @@ module _ (S : Memory) (P : List Header) (t : ℕ) (u : IsUpTo S P t) where
         unmarked = λ marks a. low-marked S P marks t (16 * t) (u.unmarked marks a) ram e.header at;
       },
     )
+
+-- a header that is read below C000h leads a walk on
+pub proceeds : (S : Memory) (h : ℕ) (o : Option Entry) → h < 0xC000 → IsEntryAt S h o → IfSome o (λ e. Proceeds S h e.last (next e.header))
+proceeds S h None low x = tt
+proceeds S h (Some e) low x = λ P u. by P u e.last refl
+  where
+    by : (P : List Header) → IsUpTo S P h → (last : Bool) → e.last ≡ last → Stands S last (next e.header)
+    by P u true l = whole S P h u low e x.0 x.1 l
+    by P u false l = one-more S P h u low e x.0 x.1 l
+
+pub stands-whole : (S : Memory) (last : Bool) (t : ℕ) → last ≡ true → Stands S last t → (L : List Header) × IsArena S first_header L
+stands-whole S last t l s = subst (λ b. Stands S b t) l s
+
+pub stands-up : (S : Memory) (last : Bool) (t : ℕ) → last ≡ false → Stands S last t → (P : List Header) × IsUpTo S P t
+stands-up S last t l s = subst (λ b. Stands S b t) l s

@@ -1,6 +1,6 @@
 //! The first list as far as its headers are below segment C000h. There every header has bytes of RAM of its own, so none
 //! has to be compared with the others.
-ghost use Rattle.std.specs.Prelude.{◌≡◌, ◌≤◌, ◌×◌, IfSome, List};
+ghost use Rattle.std.specs.Prelude.{◌≡◌, ◌≤◌, IfSome, List};
 ghost use Rattle.std.specs.Bool.{OnTrue};
 ghost use Rattle.dm_blocks.specs.declared.header.Header.{Header};
 ghost use Rattle.dm_blocks.specs.Chain.{first_header, next, IsArena};
