@@ -42,7 +42,6 @@ pub(crate) struct Run {
 }
 
 /// Does what [`joined_at`] does, and tells whether the block is a run of several free blocks.
-#[inline(always)]
 pub(crate) fn run_at(space: &Space, segment: u16, upper: bool) -> Run
     requires { (L : List Header) × IsSpelledFrom space.now.memory segment L }
     ensures there { result.entry.header.segment ≡ segment }
@@ -55,12 +54,12 @@ pub(crate) fn run_at(space: &Space, segment: u16, upper: bool) -> Run
         if entry.last || !entry.header.is_free(upper) {
             return Run { entry, several };
         }
-        let after = entry_at(space, entry.header.next());
-        if !after.header.is_free(upper) {
+        let following = entry_at(space, entry.header.next());
+        if !following.header.is_free(upper) {
             return Run { entry, several };
         }
-        entry.header.size += 1 + after.header.size;
-        entry.last = after.last;
+        entry.header.size += 1 + following.header.size;
+        entry.last = following.last;
         several = true;
     }
 }

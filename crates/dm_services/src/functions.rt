@@ -75,6 +75,7 @@ pub enum Function {
 }
 
 /// The function of INT 21h with this number, which calls have in AH; `Unknown` for a number that is not served.
+#[inline(always)]
 pub(crate) fn function_of(number: u8) -> Function
     ensures { result ≡ Rattle.dm_services.specs.Functions.function_of number }
 {
