@@ -8,7 +8,7 @@ use Rattle.dm_blocks.specs.declared.header.Header.{Header}
 use Rattle.dm_blocks.specs.declared.header.Entry.{Entry}
 use Rattle.dm_blocks.specs.Chain.{first_header, HasHeader, IsArena, Spells, is_free, next}
 use Rattle.dm_blocks.specs.Reading.{IsFront, IsSpelledFrom}
-use Rattle.dm_blocks.specs.inner.Low.{IsUpTo, Proceeds, Stands}
+use Rattle.dm_blocks.specs.Listing.{Leads, LeadsOn, StandsAfter}
 use Rattle.dm_blocks.proofs.LowPart.{stands-up}
 use Rattle.dm_arena.specs.declared.fit.Strategy.{Strategy}
 use Rattle.dm_arena.specs.declared.fit.Choice.{Choice}
@@ -21,11 +21,11 @@ use Rattle.dm_arena.proofs.Reading.{joining_start, joining_more, exit_last, exit
 use Rattle.dm_arena.proofs.Choosing.{met_more, all_block, all_largest, choosing_all, left-all}
 
 -- a walk goes on over a run
-pub proceeds_then : (S : Memory) (h t u v w : ℕ) (l m : Bool) → Proceeds S h l t → l ≡ false → t ≡ u → Proceeds S u m v → v ≡ w → Proceeds S h m w
+pub proceeds_then : (S : Memory) (h t u v w : ℕ) (l m : Bool) → LeadsOn S h l t → l ≡ false → t ≡ u → LeadsOn S u m v → v ≡ w → LeadsOn S h m w
 proceeds_then S h t u v w l m p f e q g = λ P x.
     (let up = stands-up S l t f (p P x) in
-    let there : IsUpTo S up.0 u = subst (λ k. IsUpTo S up.0 k) e up.1 in
-    subst (λ k. Stands S m k) g (q up.0 there))
+    let there : Leads S [] first_header up.0 u = subst (λ k. Leads S [] first_header up.0 k) e up.1 in
+    subst (λ k. StandsAfter S m k) g (q up.0 there))
 
 -- whether a run was met
 pub or_true : (s r b : Bool) → s ≡ true → b ≡ s → b ≡ s || r

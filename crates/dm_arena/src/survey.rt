@@ -4,7 +4,7 @@ ghost use Rattle.std.specs.Prelude.{◌≡◌, ◌≤◌, IfSome, List, MatchOpt
 ghost use Rattle.dm_blocks.specs.declared.header.Header.{Header};
 ghost use Rattle.dm_blocks.specs.Chain.{first_header, next, IsArena, NoArena};
 ghost use Rattle.dm_blocks.specs.Reading.{IsFront, IsSpelledFrom};
-ghost use Rattle.dm_blocks.specs.inner.Low.{Proceeds};
+ghost use Rattle.dm_blocks.specs.Listing.{LeadsOn};
 ghost use Rattle.dm_arena.specs.Blocks.{in_effect};
 ghost use Rattle.dm_arena.specs.inner.Survey.{IsRunFront, IsSurvey};
 
@@ -27,11 +27,11 @@ pub(crate) struct Survey {
 fn low_run_after(space: &Space, first: Entry, upper: bool) -> Option<Run>
     requires fits { next first.header ≤ 0xFFFF }
     requires front { (L : List Header) → IsSpelledFrom space.now.memory first.header.segment L → (K : List Header) × IsFront space.now.memory L first K }
-    requires proceeds { Proceeds space.now.memory first.header.segment first.last (next first.header) }
+    requires proceeds { LeadsOn space.now.memory first.header.segment first.last (next first.header) }
     ensures there { IfSome result (λ r. r.entry.header.segment ≡ first.header.segment) }
     ensures fits { IfSome result (λ r. next r.entry.header ≤ 0xFFFF) }
     ensures front { IfSome result (λ r. (L : List Header) → IsSpelledFrom space.now.memory first.header.segment L → (K : List Header) × IsRunFront upper space.now.memory L r K) }
-    ensures proceeds { IfSome result (λ r. Proceeds space.now.memory first.header.segment r.entry.last (next r.entry.header)) }
+    ensures proceeds { IfSome result (λ r. LeadsOn space.now.memory first.header.segment r.entry.last (next r.entry.header)) }
 {
     let mut entry = first;
     let mut several = false;

@@ -5,7 +5,8 @@ ghost use Rattle.std.specs.Bool.{OnTrue};
 ghost use Rattle.dm_blocks.specs.declared.header.Header.{Header};
 ghost use Rattle.dm_blocks.specs.Chain.{first_header, next, IsArena};
 ghost use Rattle.dm_blocks.specs.Reading.{FindsBlock, IsFront, IsSpelledFrom};
-ghost use Rattle.dm_blocks.specs.inner.Low.{IsLowPart, Proceeds, Stands};
+ghost use Rattle.dm_blocks.specs.Listing.{LeadsOn, StandsAfter};
+ghost use Rattle.dm_blocks.specs.inner.Low.{IsLowPart};
 
 use crate::header::{Entry, header_at};
 use crate::list::FIRST;
@@ -51,7 +52,7 @@ pub fn low_entry(space: &Space, segment: u16) -> Option<Entry>
     ensures there { IfSome result (λ e. e.header.segment ≡ segment) }
     ensures fits { IfSome result (λ e. next e.header ≤ 0xFFFF) }
     ensures front { IfSome result (λ e. (L : List Header) → IsSpelledFrom space.now.memory segment L → (K : List Header) × IsFront space.now.memory L e K) }
-    ensures proceeds { IfSome result (λ e. Proceeds space.now.memory segment e.last (next e.header)) }
+    ensures proceeds { IfSome result (λ e. LeadsOn space.now.memory segment e.last (next e.header)) }
 {
     if segment >= END {
         return None;
@@ -62,7 +63,7 @@ pub fn low_entry(space: &Space, segment: u16) -> Option<Entry>
 /// Whether the first list goes on below segment C000h to its end after an entry, and is whole and clear.
 fn is_whole_after(space: &Space, entry: Entry) -> bool
     requires fits { next entry.header ≤ 0xFFFF }
-    requires stands { Stands space.now.memory entry.last (next entry.header) }
+    requires stands { StandsAfter space.now.memory entry.last (next entry.header) }
     ensures { OnTrue result ((L : List Header) × IsArena space.now.memory first_header L) }
 {
     let mut passed = entry;

@@ -1,5 +1,5 @@
 -- The headers of the first list below segment C000h. For private contracts and proofs alone.
-use Rattle.std.specs.Prelude.{Bool, List, MatchBool, [], ℕ}
+use Rattle.std.specs.Prelude.{Bool, List, [], ℕ}
 use Rattle.dm_space.specs.Memory.{Memory}
 use Rattle.dm_blocks.specs.declared.header.Header.{Header}
 use Rattle.dm_blocks.specs.declared.low.LowPart.{LowPart}
@@ -18,12 +18,3 @@ abbrev pub IsLowPart : Memory → LowPart → Type 0
 IsLowPart S Whole = (L : List Header) × IsArena S first_header L
 IsLowPart S Destroyed = NoArena S first_header
 IsLowPart S (UpTo t) = (P : List Header) × IsUpTo S P t
-
--- where a walk stands after a header: past the last one, memory spells a clear list; else the headers so far lead to
--- segment t
-abbrev pub Stands : Memory → Bool → ℕ → Type 0
-Stands S last t = MatchBool last ((L : List Header) × IsArena S first_header L) ((Q : List Header) × IsUpTo S Q t)
-
--- a header, marked last or not, leads a walk from segment h to segment t
-abbrev pub Proceeds : Memory → ℕ → Bool → ℕ → Type 0
-Proceeds S h last t = (P : List Header) → IsUpTo S P h → Stands S last t

@@ -1,8 +1,11 @@
-use Rattle.std.proofs.Common.{arith, sym, subst}
-use Rattle.dm_blocks.specs.inner.Low.{IsUpTo}
+use Rattle.std.proofs.Common.{[], arith, refl, sym, subst}
+use Rattle.dm_blocks.specs.Listing.{Leads}
 use Rattle.dm_blocks.proofs.Finding.{found_none, finding_more}
-use Rattle.dm_blocks.proofs.LowPart.{stands-up}
+use Rattle.dm_blocks.proofs.LowPart.{leads-first, stands-up}
 use Rattle.dm_blocks.proofs.low.find_low.Goals as goal
+
+pub walk-init : goal.walk-init
+walk-init c = record { small = omega arith; led = ([], leads-first _); finding = λ L s. ([], L, record { spelled = s; is = refl; none = λ h w. absurd w }) }
 
 pub returns-then-entry-clause-found : goal.returns-then-entry-clause-found
 returns-then-entry-clause-found c = λ L s.
@@ -16,7 +19,7 @@ walk-preserved c =
     let more = stands-up _ _ _ c.if-entry.false (c.in-Some.ensures.proceeds u.0 u.1) in
     record {
       small = omega arith;
-      led = (more.0, subst (λ t. IsUpTo c.args.space.now.memory more.0 t) (sym c.next-here.ensures) more.1);
+      led = (more.0, subst (λ t. Leads c.args.space.now.memory [] 0x100 more.0 t) (sym c.next-here.ensures) more.1);
       finding = λ L s.
           (let k = c.walk.invariant.finding L s in
           let f = c.in-Some.ensures.front k.1 k.2.spelled in
