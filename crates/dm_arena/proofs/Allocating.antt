@@ -174,8 +174,8 @@ module _ (up : Bool) where
             | inr r ↦ subst F is (cut-has found.before b c.first c.second found.after fills.0 g (subst G found.joined r))
           ]
 
-      pub planned : MaySplit S (join up L) c.second → (segment : ℕ) → segment ≡ taken_segment st.fit n b + 1 → IsPlan up S start st n owner (record { cut = c; segment = segment })
-      planned m segment s = record { taking = found; cut_is = is; segment_is = s; clear = clear_changed m }
+      pub planned : MaySplit S (join up L) c.second → (segment from : ℕ) → segment ≡ taken_segment st.fit n b + 1 → IsPlan up S start st n owner (record { cut = c; segment = segment; from = from })
+      planned m segment from s = record { taking = found; cut_is = is; segment_is = s; clear = clear_changed m }
 
       pub unplanned : (MaySplit S (join up L) c.second → ⊥) → (t : Taking up S start st n) × (IsClear S (with_cut t owner) → ⊥)
       unplanned m = (found, unclear_changed m)

@@ -48,7 +48,7 @@ module _ (up : Bool) where
         ∙ ap (max choice.largest) (sym (largest-append st (option_to_list (left_part spoken e.header)) (left_of spoken (join up N))))
         ∙ ap (λ X. max choice.largest (largest up st (left_of spoken X))) (sym f.is) ∙ c.largest_is
 
-    pub met_more : e.last ≡ false → (t : ℕ) → t ≡ next e.header → (M : List Header) × IsChoosing up S L st n spoken t more M
+    unfoldable pub met_more : e.last ≡ false → (t : ℕ) → t ≡ next e.header → (M : List Header) × IsChoosing up S L st n spoken t more M
     met_more l t ist = (
       N,
       record {

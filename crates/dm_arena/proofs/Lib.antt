@@ -19,3 +19,4 @@ pub mod Pairs
 pub mod OnePair
 pub mod OneLink
 pub mod Unseen
+pub mod Surveying

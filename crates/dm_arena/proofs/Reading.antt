@@ -9,11 +9,11 @@ use Rattle.dm_arena.specs.inner.Walks.{IsJoining, IsJoinedFront}
 use Rattle.dm_blocks.specs.Chain.{is_free}
 use Rattle.dm_arena.specs.Blocks.{merge, join, join_after}
 
-spells-at : (S : Memory) (h k : ℕ) (L : List Header) → h ≡ k → Spells S h L → Spells S k L
+pub spells-at : (S : Memory) (h k : ℕ) (L : List Header) → h ≡ k → Spells S h L → Spells S k L
 spells-at S h k L e s = let P : ℕ → Type 0 = λ x. Spells S x L in subst P e s
 
 module _ (up : Bool) where
-  pub joining_start : (S : Memory) (L : List Header) (e : Entry) → (K : List Header) × IsFront S L e K → (K : List Header) × IsJoining up S L e K
+  unfoldable pub joining_start : (S : Memory) (L : List Header) (e : Entry) → (K : List Header) × IsFront S L e K → (K : List Header) × IsJoining up S L e K
   joining_start S L e (K, f) = (K, record { is = ap (join up) f.is; last = f.last; rest = f.rest; within = λ g w. rw f.is (inr w) })
 
   join_after-free : (b c : Header) (L : List Header) → is_free up b ≡ true → is_free up c ≡ true → join_after up b (c ∷ L) ≡ join_after up (merge b c) L
@@ -34,21 +34,21 @@ module _ (up : Bool) where
         },
       )
 
-  pub exit_last : (S : Memory) (L : List Header) (e : Entry) → e.last ≡ true → (K : List Header) × IsJoining up S L e K → (K : List Header) × IsJoinedFront up S L e K
+  unfoldable pub exit_last : (S : Memory) (L : List Header) (e : Entry) → e.last ≡ true → (K : List Header) × IsJoining up S L e K → (K : List Header) × IsJoinedFront up S L e K
   exit_last S L e l ([], j) = ([], record { is = j.is; last = j.last; rest = j.rest; within = j.within })
   exit_last S L e l (c ∷ K, j) = absurd (let x : true ≡ false = sym l ∙ j.last in cc)
 
-  join_after-taken : (b c : Header) (L : List Header) → is_free up b ≡ false → join_after up b (c ∷ L) ≡ b ∷ join up (c ∷ L)
+  pub join_after-taken : (b c : Header) (L : List Header) → is_free up b ≡ false → join_after up b (c ∷ L) ≡ b ∷ join up (c ∷ L)
   join_after-taken b c L fb = rw fb refl
 
-  join_after-before_taken : (b c : Header) (L : List Header) → is_free up b ≡ true → is_free up c ≡ false → join_after up b (c ∷ L) ≡ b ∷ join up (c ∷ L)
+  pub join_after-before_taken : (b c : Header) (L : List Header) → is_free up b ≡ true → is_free up c ≡ false → join_after up b (c ∷ L) ≡ b ∷ join up (c ∷ L)
   join_after-before_taken b c L fb fc = rw (fb, fc) refl
 
-  pub exit_taken : (S : Memory) (L : List Header) (e : Entry) → is_free up e.header ≡ false → (K : List Header) × IsJoining up S L e K → (K : List Header) × IsJoinedFront up S L e K
+  unfoldable pub exit_taken : (S : Memory) (L : List Header) (e : Entry) → is_free up e.header ≡ false → (K : List Header) × IsJoining up S L e K → (K : List Header) × IsJoinedFront up S L e K
   exit_taken S L e f ([], j) = ([], record { is = j.is; last = j.last; rest = j.rest; within = j.within })
   exit_taken S L e f (c ∷ K, j) = (c ∷ K, record { is = j.is ∙ join_after-taken e.header c K f; last = j.last; rest = j.rest; within = j.within })
 
-  pub exit_before_taken : (S : Memory) (L : List Header) (e a : Entry) → e.last ≡ false → is_free up e.header ≡ true → is_free up a.header ≡ false → (t : ℕ) → t ≡ next e.header → ((M : List Header) → IsSpelledFrom S t M → (N : List Header) × IsFront S M a N) → (K : List Header) × IsJoining up S L e K → (K : List Header) × IsJoinedFront up S L e K
+  unfoldable pub exit_before_taken : (S : Memory) (L : List Header) (e a : Entry) → e.last ≡ false → is_free up e.header ≡ true → is_free up a.header ≡ false → (t : ℕ) → t ≡ next e.header → ((M : List Header) → IsSpelledFrom S t M → (N : List Header) × IsFront S M a N) → (K : List Header) × IsJoining up S L e K → (K : List Header) × IsJoinedFront up S L e K
   exit_before_taken S L e a l fe fa t ist front ([], j) = absurd (let x : false ≡ true = sym l ∙ j.last in cc)
   exit_before_taken S L e a l fe fa t ist front (c ∷ K, j) =
       let r = front (c ∷ K) (record { nonempty = tt; spells = spells-at S _ _ (c ∷ K) (sym ist) j.rest }) in

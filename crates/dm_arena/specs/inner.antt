@@ -2,4 +2,5 @@
 pub mod Blocks
 pub mod Pair
 pub mod Standing
+pub mod Survey
 pub mod Walks

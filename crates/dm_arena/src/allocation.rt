@@ -1,16 +1,19 @@
 //! Allocation (function 48h).
-ghost use Rattle.std.specs.Prelude.{◌≡◌, ◌≤◌, ◌++◌, MatchOption, MatchResult, IfOk};
-ghost use Rattle.dm_blocks.specs.Chain.{first_header, next, Becomes};
+ghost use Rattle.std.specs.Prelude.{◌≡◌, ◌≤◌, ◌++◌, List, MatchOption, MatchResult, IfOk};
+ghost use Rattle.dm_blocks.specs.declared.header.Header.{Header};
+ghost use Rattle.dm_blocks.specs.Chain.{first_header, next, Becomes, IsArena};
 ghost use Rattle.dm_arena.specs.inner.Blocks.{cut_list};
 ghost use Rattle.dm_arena.specs.Allocation.{AllocateRefused, Allocates};
 ghost use Rattle.dm_arena.specs.inner.Walks.{IsPlan, Placing};
+ghost use Rattle.dm_arena.specs.inner.Survey.{IsJoinedTo};
 
 use crate::cut::{Cut, cut_of, taken_of, write_cut};
-use crate::fit::{Strategy, choose, in_effect};
-use crate::joined::join_all;
+use crate::fit::Strategy;
+use crate::joined::join_from;
 use crate::refusal::ArenaRefusal;
 use crate::standing::may_split;
-use dm_blocks::{FIRST, is_arena, is_last};
+use crate::survey::{Survey, survey_arena};
+use dm_blocks::{FIRST, is_last};
 use dm_space::Space;
 
 /// What an allocation (48h) writes and returns: the headers of the block that is cut, and the segment of the new block.
@@ -18,6 +21,8 @@ use dm_space::Space;
 struct Plan {
     cut: Cut,
     segment: u16,
+    /// The segment of a header up to which there is no run of free blocks.
+    from: u16,
 }
 
 /// Plans an allocation (48h) without writing anything. The errors are those of `allocate`.
@@ -31,12 +36,11 @@ fn plan_allocation(
     ensures plan { MatchResult result (λ plan. IsPlan upper space.now.memory first_header strategy n owner plan) (λ e. AllocateRefused upper space.now.memory first_header strategy n owner e) }
     ensures first { IfOk result (λ plan. next plan.cut.first ≤ 0xFFFF) }
     ensures second { IfOk result (λ plan. MatchOption plan.cut.second (Unit {0}) (λ c. next c ≤ 0xFFFF)) }
+    ensures joined { IfOk result (λ plan. (L : List Header) → IsArena space.now.memory first_header L → IsJoinedTo upper space.now.memory L plan.from) }
 {
-    if !is_arena(space) {
+    let Some(Survey { choice, from }) = survey_arena(space, strategy, n, upper) else {
         return Err(ArenaRefusal::Destroyed);
-    }
-    let searched = in_effect(space, strategy, upper);
-    let choice = choose(space, searched, n, None, upper);
+    };
     let Some(block) = choice.block else {
         return Err(ArenaRefusal::Short {
             largest: choice.largest,
@@ -49,19 +53,22 @@ fn plan_allocation(
     Ok(Plan {
         cut,
         segment: taken_of(strategy.fit, n, block) + 1,
+        from,
     })
 }
 
-/// Writes the first list with runs of free blocks joined, and the headers of a cut in place of that of the block of the
-/// joined list that the cut was made from. Bytes 0 to 4 of the headers of the new list are all that changes.
-fn write_joined(space: &mut Space, cut: Cut, upper: bool)
+/// Writes the first list with runs of free blocks joined, of which there is none before segment `from`, and the headers of
+/// a cut in place of that of the block of the joined list that the cut was made from. Bytes 0 to 4 of the headers of the new
+/// list are all that changes.
+fn write_joined(space: &mut Space, cut: Cut, from: u16, upper: bool)
+    requires joined { (L : List Header) → IsArena space.old.memory first_header L → IsJoinedTo upper space.old.memory L from }
     requires placing { Placing upper space.old.memory first_header (cut_list cut) }
     requires first { next cut.first ≤ 0xFFFF }
     requires second { MatchOption cut.second (Unit {0}) (λ c. next c ≤ 0xFFFF) }
     ensures memory { (p : Placing upper space.old.memory first_header (cut_list cut)) → Becomes space.old.memory first_header (p.before ++ (cut_list cut ++ p.after)) space.new.memory }
     ensures scratch { space.new.scratch ≡ space.old.scratch }
 {
-    join_all(space, upper);
+    join_from(space, from, upper);
     let last = is_last(space, cut.first.segment);
     write_cut(space, cut, last);
 }
@@ -94,6 +101,6 @@ pub fn allocate(
     ensures scratch { space.new.scratch ≡ space.old.scratch }
 {
     let plan = plan_allocation(space, strategy, n, owner, upper)?;
-    write_joined(space, plan.cut, upper);
+    write_joined(space, plan.cut, plan.from, upper);
     Ok(plan.segment)
 }

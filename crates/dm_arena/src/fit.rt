@@ -205,7 +205,13 @@ fn left_part(spoken: Option<Spoken>, header: Header) -> Option<Header>
 /// The choice once the search has met one more block, or the part of it that is left; None if nothing of it is left,
 /// and then the choice stays.
 #[inline(always)]
-fn meet(strategy: Strategy, n: u16, choice: Choice, header: Option<Header>, upper: bool) -> Choice
+pub(crate) fn meet(
+    strategy: Strategy,
+    n: u16,
+    choice: Choice,
+    header: Option<Header>,
+    upper: bool,
+) -> Choice
     ensures block { result.block ≡ pick upper strategy n choice.block (option_to_list header) }
     ensures largest { result.largest ≡ max choice.largest (largest upper strategy (option_to_list header)) }
 {

@@ -17,6 +17,7 @@ mod owned;
 mod pair;
 mod refusal;
 mod standing;
+mod survey;
 mod writing;
 
 pub use allocation::allocate;

@@ -1,17 +1,20 @@
 //! Blocks that are owned already: freed (49h), resized (4Ah, and 31h for the block of a program that stays resident),
 //! and all of an owner freed at the end of a program.
-ghost use Rattle.std.specs.Prelude.{◌≡◌, ◌≤◌, List, MatchOption};
+ghost use Rattle.std.specs.Prelude.{◌≡◌, ◌≤◌, List, MatchOption, MatchResult};
 ghost use Rattle.dm_blocks.specs.declared.header.Header.{Header};
 ghost use Rattle.dm_blocks.specs.Chain.{first_header, next, Becomes, IsArena};
 ghost use Rattle.dm_arena.specs.Owned.{released, released_block, BeginsTaken, Frees, Releases, Resizes};
 ghost use Rattle.dm_blocks.specs.Reading.{IsSpelledFrom};
 ghost use Rattle.dm_arena.specs.inner.Walks.{FindsOther, IsGrowable, IsGrown};
+ghost use Rattle.dm_arena.specs.inner.Survey.{IsNowhere, IsOwnedAt};
 
 use crate::cut::{Cut, cut_of, write_cut};
 use crate::fit::Fit;
 use crate::refusal::ArenaRefusal;
 use crate::standing::may_split_outside;
-use dm_blocks::{Entry, FIRST, Header, LINK, entry_at, find, has_second, is_arena, is_linked};
+use dm_blocks::{
+    Entry, FIRST, Header, LINK, entry_at, find, find_low, has_second, is_arena, is_linked,
+};
 use dm_space::Space;
 
 /// The header of the first list whose block begins at a segment; None if no block begins there, or if the link block
@@ -27,6 +30,28 @@ fn find_block(space: &Space, segment: u16, upper: bool) -> Option<Entry>
     find(space, segment)
 }
 
+/// The header of the first list whose block begins at a segment, as functions 49h and 4Ah look for it. `Destroyed` where
+/// memory spells no clear list, else `NoBlock` where no block of the list begins at the segment, or the link block does.
+fn find_owned(space: &Space, segment: u16, upper: bool) -> Result<Entry, ArenaRefusal>
+    ensures { MatchResult result (λ e. IsOwnedAt upper space.now.memory segment e) (λ e. IsNowhere upper space.now.memory segment e) }
+{
+    if !upper {
+        if let Some(found) = find_low(space, segment) {
+            return match found {
+                Some(entry) => Ok(entry),
+                None => Err(ArenaRefusal::NoBlock),
+            };
+        }
+    }
+    if !is_arena(space) {
+        return Err(ArenaRefusal::Destroyed);
+    }
+    match find_block(space, segment, upper) {
+        Some(entry) => Ok(entry),
+        None => Err(ArenaRefusal::NoBlock),
+    }
+}
+
 /// Frees the block that begins at a segment (MS-DOS Programmer's Reference, function 49h).
 ///
 /// Its owner becomes 0; nothing is joined, and a free block stays free. Bytes 0 to 4 of its header
@@ -40,12 +65,7 @@ pub fn free(space: &mut Space, segment: u16, upper: bool) -> Result<(), ArenaRef
     ensures memory { Frees upper space.old.memory segment result space.new.memory }
     ensures scratch { space.new.scratch ≡ space.old.scratch }
 {
-    if !is_arena(space) {
-        return Err(ArenaRefusal::Destroyed);
-    }
-    let Some(entry) = find_block(space, segment, upper) else {
-        return Err(ArenaRefusal::NoBlock);
-    };
+    let entry = find_owned(space, segment, upper)?;
     let cut = Cut {
         first: Header {
             owner: 0,
@@ -94,12 +114,7 @@ pub fn resize(space: &mut Space, segment: u16, n: u16, upper: bool) -> Result<()
     ensures memory { Resizes upper space.old.memory segment n result space.new.memory }
     ensures scratch { space.new.scratch ≡ space.old.scratch }
 {
-    if !is_arena(space) {
-        return Err(ArenaRefusal::Destroyed);
-    }
-    let Some(block) = find_block(space, segment, upper) else {
-        return Err(ArenaRefusal::NoBlock);
-    };
+    let block = find_owned(space, segment, upper)?;
     let grown = grow(space, block, upper);
     if n > grown.header.size {
         return Err(ArenaRefusal::Short {

@@ -1,12 +1,14 @@
 -- The headers of the first list below segment C000h.
-use Rattle.std.proofs.Common.{◌≡◌, ℕ, ◌+◌, ◌*◌, ◌<◌, ◌≤◌, Bool, true, false, List, [], ◌∷◌, ◌++◌, refl, sym, ◌∙◌, ap, subst, arith}
+use Rattle.std.proofs.Common.{◌≡◌, ℕ, ◌+◌, ◌*◌, ◌<◌, ◌≤◌, Bool, true, false, Option, Some, None, List, [], ◌∷◌, ◌++◌, refl, sym, ◌∙◌, ap, subst, arith}
+use Rattle.std.specs.Prelude.{IfSome}
 use Rattle.dm_space.specs.Memory.{Memory, place}
 use Rattle.dm_space.specs.declared.place.Place.TheVariants.{Low}
 use Rattle.dm_space.proofs.Places.{place-low}
 use Rattle.dm_blocks.specs.declared.header.Header.{Header}
 use Rattle.dm_blocks.specs.declared.header.Entry.{Entry}
 use Rattle.dm_blocks.specs.Chain.{HasHeader, IsArena, IsHeader, NoArena, first_header, next, signature, signature_byte}
-use Rattle.dm_blocks.specs.Listing.{Follows}
+use Rattle.dm_blocks.specs.Listing.{Follows, Leads, LeadsOn, StandsAfter}
+use Rattle.dm_blocks.specs.Reading.{IsEntryAt}
 use Rattle.dm_blocks.specs.inner.Low.{IsUpTo}
 use Rattle.dm_blocks.specs.inner.Standing.{MayStand}
 use Rattle.dm_blocks.proofs.Marking.{low-marked}
@@ -53,3 +55,39 @@ module _ (S : Memory) (P : List Header) (t : ℕ) (u : IsUpTo S P t) where
         unmarked = λ marks a. low-marked S P marks t (16 * t) (u.unmarked marks a) ram e.header at;
       },
     )
+
+-- at the first header no header is passed
+pub leads-first : (S : Memory) → Leads S [] first_header [] first_header
+leads-first S = (at-first S).leads
+
+-- a header that is read below C000h leads a walk on
+module _ (S : Memory) (P : List Header) (t : ℕ) (u : Leads S [] first_header P t) (low : t < 0xC000) (e : Entry) (at : e.header.segment ≡ t) (x : IsHeader S e.header (signature_byte e.last)) where
+  fresh : HasHeader P t → ⊥
+  fresh w = let l = path-below S 0x100 P t u.path t w in omega arith
+
+  after : Follows S [] P t e
+  after = told S [] 0x100 P t e u (low-stands S P t (16 * t) (place-low S (16 * t) (omega arith)) fresh) (λ w. w) at x
+
+  stands-by : (last : Bool) → e.last ≡ last → StandsAfter S last (next e.header)
+  stands-by true l = let a = closes S [] 0x100 P t e u after l in (P ++ e.header ∷ [], (a.0, a.1))
+  stands-by false l = (
+    P ++ e.header ∷ [],
+    record {
+      path = path-more S 0x100 P t e.header u.path at (header-mark S e.header _ _ (ap signature_byte l) x);
+      clear = after.clear;
+      apart = after.apart;
+    },
+  )
+
+  pub stands : StandsAfter S e.last (next e.header)
+  stands = stands-by e.last refl
+
+pub proceeds : (S : Memory) (h : ℕ) (o : Option Entry) → h < 0xC000 → IsEntryAt S h o → IfSome o (λ e. LeadsOn S h e.last (next e.header))
+proceeds S h None low x = tt
+proceeds S h (Some e) low x = λ P u. stands S P h u low e x.0 x.1
+
+pub stands-whole : (S : Memory) (last : Bool) (t : ℕ) → last ≡ true → StandsAfter S last t → (L : List Header) × IsArena S first_header L
+stands-whole S last t l s = subst (λ b. StandsAfter S b t) l s
+
+pub stands-up : (S : Memory) (last : Bool) (t : ℕ) → last ≡ false → StandsAfter S last t → (P : List Header) × Leads S [] first_header P t
+stands-up S last t l s = subst (λ b. StandsAfter S b t) l s

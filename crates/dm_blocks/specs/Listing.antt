@@ -1,6 +1,6 @@
 -- A walk over the headers of a list, one by one, up to the end or to the first header that breaks the list: `Headers`
 -- of src/listing.rt. The second list is walked over after the first one, and must be clear together with it.
-use Rattle.std.specs.Prelude.{◌≡◌, ℕ, List, [], ◌∷◌, ◌++◌, Bool, Option, Some, None, false, true, if◌then◌else◌, IfSome}
+use Rattle.std.specs.Prelude.{◌≡◌, ℕ, List, [], ◌∷◌, ◌++◌, Bool, MatchBool, Option, Some, None, false, true, if◌then◌else◌, IfSome}
 use Rattle.dm_space.specs.Memory.{Memory}
 use Rattle.dm_blocks.specs.declared.header.Header.{Header}
 use Rattle.dm_blocks.specs.declared.header.Entry.{Entry}
@@ -74,3 +74,12 @@ pub record Steps (w : Walking) (step : Step) (at : Option ℕ) : Type 0 where
   pub behind : IsBehind w.memory w.second front
   pub told : AreTold w.memory front (start_of w.second) w.at
   pub steps : IsStep w.memory front (start_of w.second) w.at step at
+
+-- where a walk over the first list stands after a header: past the last one, memory spells a clear list; else its headers
+-- lead to segment t
+abbrev pub StandsAfter : Memory → Bool → ℕ → Type 0
+StandsAfter S last t = MatchBool last ((L : List Header) × IsArena S first_header L) ((P : List Header) × Leads S [] first_header P t)
+
+-- a header, marked last or not, leads a walk over the first list on from segment h to segment t
+abbrev pub LeadsOn : Memory → ℕ → Bool → ℕ → Type 0
+LeadsOn S h last t = (P : List Header) → Leads S [] first_header P h → StandsAfter S last t

@@ -2,9 +2,11 @@
 //! the entry point of the extended memory driver, and a far call of F000:0400 is that driver (XMS 3.0).
 #![tactic(auto)]
 
+mod at_once;
 mod drivers;
 mod laws;
 mod multiplex;
 
+pub use at_once::drive_at_once;
 pub use drivers::drive;
 pub use laws::{block_comes, drivers_keep, pages_come};

@@ -75,7 +75,8 @@ pub enum Function {
 }
 
 /// The function of INT 21h with this number, which calls have in AH; `Unknown` for a number that is not served.
-fn function_of(number: u8) -> Function
+#[inline(always)]
+pub(crate) fn function_of(number: u8) -> Function
     ensures { result ≡ Rattle.dm_services.specs.Functions.function_of number }
 {
     match number {

@@ -3,6 +3,7 @@
 #![tactic(auto)]
 
 mod allocation;
+mod at_once;
 mod buffers;
 mod characters;
 mod flush;
@@ -17,6 +18,7 @@ mod system;
 mod text;
 mod vectors;
 
+pub use at_once::serve_at_once;
 pub use functions::Function;
 pub use laws::{
     services_have_one_answer, services_ignore_unseen, services_keep_room, services_keep_the_map,

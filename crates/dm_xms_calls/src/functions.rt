@@ -66,7 +66,8 @@ pub(crate) enum Function {
 }
 
 /// The function that a value of AH selects.
-fn function_of(number: u8) -> Function
+#[inline(always)]
+pub(crate) fn function_of(number: u8) -> Function
     ensures { result ≡ Rattle.dm_xms_calls.specs.Functions.function_of number }
 {
     match number {

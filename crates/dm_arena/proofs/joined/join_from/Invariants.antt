@@ -2,7 +2,7 @@ use Rattle.std.proofs.Common.{◌-◌, ◌≡◌, List}
 use Rattle.dm_blocks.specs.declared.header.Header.{Header}
 use Rattle.dm_blocks.specs.Chain.{first_header, IsArena, IsNonEmpty}
 use Rattle.dm_arena.specs.inner.Walks.{IsJoiningAll}
-use Rattle.dm_arena.proofs.joined.join_all.Given as goal
+use Rattle.dm_arena.proofs.joined.join_from.Given as goal
 
 abbrev pub invariant-walk : goal.invariant-walk
 invariant-walk l = record {
