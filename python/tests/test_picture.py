@@ -246,7 +246,7 @@ class Splices(unittest.TestCase):
             listing = picture.Listing()
             listing.change(before)
             splice = listing.change(after)
-            self.assertEqual(splice is None, old == new)
+            self.assertEqual(splice == 0, old == new)
             if splice:
                 at, count, lines = splice
                 self.assertEqual(old[:at] + lines + old[at + count :], new)
