@@ -31,6 +31,10 @@ RAISING = {"DIV", "IDIV", "INT", "INT3", "INTO"}
 ALONE = {"ESC", "WAIT", "HLT"}
 
 
+class Stopped(Exception):
+    """The case at which Unicorn stops."""
+
+
 class Case:
     """An instruction, and the state before it."""
 
@@ -250,7 +254,7 @@ class Comparison:
         try:
             interrupt = self.theirs.step(case.state, until, 0 if case.is_repeated else 1)
         except self.theirs.unicorn.UcError as why:
-            raise RuntimeError(f"tools/peers: {case}: Unicorn stops: {why}") from why
+            raise Stopped(f"{case}: Unicorn stops: {why}") from why
         after = self.theirs.state()
         if case.entry.first in SHIFTS and case.count > 31:
             after["cx"] = after["cx"] & 0xFF00 | case.count
@@ -305,25 +309,37 @@ class Comparison:
 
 
 def compare(given):
-    """The cases of one entry: what is known to differ, and the faults."""
+    """The cases of one entry: what is known to differ, and the faults. An instruction at which Unicorn stops is a fault, and the last case."""
     place, cases, seed = given
     entry = opcodes.ENTRIES[place]
     numbers = random.Random(f"{seed} {entry.name}")
     comparison = Comparison(numbers)
-    for begin in range(0, cases, BATCH):
-        comparison.batch([Case(entry, numbers) for _ in range(min(BATCH, cases - begin))])
+    try:
+        for begin in range(0, cases, BATCH):
+            comparison.batch([Case(entry, numbers) for _ in range(min(BATCH, cases - begin))])
+    except Stopped as why:
+        comparison.faults.append(str(why))
     return entry.name, comparison.cases, comparison.known, comparison.faults
+
+
+def is_named(entry, names):
+    """Whether these names have the entry: its first byte, this with its reg field, or a range of first bytes."""
+    for name in names:
+        first, _, last = name.upper().partition("-")
+        if last and int(first, 16) <= entry.first <= int(last, 16) or name.upper() in (f"{entry.first:02X}", entry.name.split()[0]):
+            return True
+    return not names
 
 
 def main():
     cases, seed, jobs = (int(text) for text in sys.argv[1:4])
-    names = {text.upper() for text in sys.argv[4:]}
-    places = [place for place, entry in enumerate(opcodes.ENTRIES) if not names or {entry.name.split()[0], f"{entry.first:02X}"} & names]
+    places = [place for place, entry in enumerate(opcodes.ENTRIES) if is_named(entry, sys.argv[4:])]
     if not places:
         sys.exit("tools/peers: no entry of the table has this first byte")
     made, known, wrong = 0, collections.Counter(), 0
-    with multiprocessing.Pool(jobs) as pool:
-        for name, count, others, faults in pool.imap(compare, [(place, cases, seed) for place in places]):
+    # (Unicorn keeps memory that it has had: so each entry has a process of its own.)
+    with multiprocessing.Pool(jobs, maxtasksperchild=1) as pool:
+        for name, count, others, faults in pool.imap(compare, [(place, cases, seed) for place in places], chunksize=1):
             made += count
             known += others
             wrong += len(faults)
@@ -331,7 +347,7 @@ def main():
                 print(fault)
             if len(faults) > 5:
                 print(f"{name}: {len(faults) - 5} more")
-            sys.stdout.flush()
+            print(f"{name}: {count} cases, {sum(others.values())} with a known difference, {len(faults)} others", flush=True)
     for name, count in sorted(known.items()):
         print(f"known: {name}: {count}")
     print(f"{len(places)} entries, {made} cases, {sum(known.values())} with a known difference, {wrong} others")
