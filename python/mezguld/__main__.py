@@ -260,9 +260,17 @@ def main() -> int:
     except KeyboardInterrupt:
         print("mezguld: interrupted", file=sys.stderr)
         # (A run that goes on would keep the process.)
-        sys.stderr.flush()
-        os._exit(130)
+        leave(130)
+        return 130
+
+
+def leave(status: int) -> None:
+    """Ends the process at once. To free the objects of a long record one by one takes a good part of the time that it took to make them."""
+    for stream in (sys.stdout, sys.stderr):
+        with contextlib.suppress(OSError, ValueError, AttributeError):
+            stream.flush()
+    os._exit(status)
 
 
 if __name__ == "__main__":
-    sys.exit(main())
+    leave(main())

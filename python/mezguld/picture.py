@@ -258,6 +258,8 @@ class Listing:
 
     def __init__(self) -> None:
         self.text = b""
+        # The last text that was compared, and its number.
+        self.numbered, self.number = b"", 0
         # The changes of short lists, by the two texts: a program that calls in a loop makes the same ones again and again.
         self.known: dict[tuple[bytes, bytes], list[Any]] = {}
 
@@ -270,22 +272,23 @@ class Listing:
         key = old, new
         splice = self.known.get(key)
         if splice is None:
-            splice = splice_of(old, new)
+            splice = self._splice(old, new)
             if len(new) <= MOST_KNOWN_BYTES:
                 if len(self.known) == MOST_KNOWN:
                     self.known.clear()
                 self.known[key] = splice
         return splice
 
-
-def splice_of(old: bytes, new: bytes) -> list[Any]:
-    """What makes the new list of the old one, which differ."""
-    # (As numbers they are compared in one step: the lowest bit that differs is in the first byte that does.)
-    differs = int.from_bytes(new, "little") ^ int.from_bytes(old, "little")
-    front = old.rfind(b"\n", 0, ((differs & -differs).bit_length() - 1) >> 3) + 1
-    begin, count = same_end(old, new, front)
-    end = begin + len(new) - len(old)
-    return [old.count(b"\n", 0, front), count, new[front:end].decode("ascii").splitlines()]
+    def _splice(self, old: bytes, new: bytes) -> list[Any]:
+        """What makes the new list of the old one, which differ."""
+        # (As numbers they are compared in one step: the lowest bit that differs is in the first byte that does.)
+        before = self.number if self.numbered is old else int.from_bytes(old, "little")
+        self.numbered, self.number = new, int.from_bytes(new, "little")
+        differs = self.number ^ before
+        front = old.rfind(b"\n", 0, ((differs & -differs).bit_length() - 1) >> 3) + 1
+        begin, count = same_end(old, new, front)
+        end = begin + len(new) - len(old)
+        return [old.count(b"\n", 0, front), count, new[front:end].decode("ascii").splitlines()]
 
 
 def is_line(text: bytes, at: int, front: int) -> bool:
