@@ -543,14 +543,20 @@ _MOST_BYTES, _PAGE, _MOST_BLOCK = 0x10000, 0x4000, 0xFFFF * 1024
 
 def _number(number: int, most: int, what: str) -> int:
     """A number from 0 to `most`."""
-    number = operator.index(number)
+    try:
+        number = operator.index(number)
+    except TypeError:
+        raise TypeError(f"{what} is {number!r}, and no whole number") from None
     if not 0 <= number <= most:
         raise ValueError(f"{what} is {number}, and not from 0 to {most}")
     return number
 
 
 def _bytes(data: bytes | bytearray | memoryview) -> bytes:
-    return memoryview(data).tobytes()
+    try:
+        return memoryview(data).tobytes()
+    except TypeError:
+        raise TypeError(f"bytes are wanted, as b\"..\", and not {type(data).__name__}") from None
 
 
 def _name(name: str | bytes) -> bytes:
@@ -578,7 +584,11 @@ def _environment(variables: Iterable[str | bytes]) -> bytes:
 
 def _points(breakpoints: Iterable[tuple[int, int]]) -> tuple[ctypes.Array, int]:
     """Breakpoints as an array with room for at least one, and their count."""
-    pairs = [_Point(_number(segment, 0xFFFF, "a segment"), _number(offset, 0xFFFF, "an offset")) for segment, offset in breakpoints]
+    try:
+        listed = [(segment, offset) for segment, offset in breakpoints]
+    except (TypeError, ValueError) as error:
+        raise type(error)(f"breakpoints are a list of segments and offsets, as [(0x0103, 0x0100)], and not {breakpoints!r}") from None
+    pairs = [_Point(_number(segment, 0xFFFF, "a segment"), _number(offset, 0xFFFF, "an offset")) for segment, offset in listed]
     return (_Point * (len(pairs) + 1))(*pairs), len(pairs)
 
 
@@ -865,6 +875,8 @@ class Machine:
         `machine.run_to(steps, [Event.at_call(0x21), Event.at_change(0xB8000, 4000)])`. Where the run begins is no event to it, so that the next run goes on;
         bytes are compared with those at its beginning. Steps are as fast as with breakpoints, but for those that touch the paragraphs of a range or of a vector
         that is called; with a range past BFFFFh each step is looked at. `NotLoaded`; `OutOfMemory`, after which some of the steps may be made. Ctrl-C is as in `run`."""
+        if isinstance(events, Event):
+            raise TypeError("events are a list, as [Event.at_call(0x21)]")
         listed, place = list(events), ctypes.c_size_t()
         given = (_Event * (len(listed) + 1))(*(_event(event) for event in listed))
         stopped = self._run(_library.mezguld_run_to, _number(steps, _MOST_STEPS, "steps"), given, len(listed), last=(place,), first=_first_slice(listed))
@@ -887,7 +899,10 @@ class Machine:
 
     @registers.setter
     def registers(self, registers: Iterable[int]) -> None:
-        words = Registers(*registers)
+        try:
+            words = Registers(*registers)
+        except TypeError:
+            raise TypeError("all registers are wanted, as machine.registers._replace(ax=1)") from None
         self._call(_library.mezguld_set_registers, _Registers(*(_number(word, 0xFFFF, name) for name, word in zip(words._fields, words))))
 
     def read(self, segment: int, offset: int, count: int) -> bytes:

@@ -305,6 +305,15 @@ class Records(unittest.TestCase):
         blocks = [it for it in told if isinstance(it, Block)]
         self.assertEqual(len(set(blocks)), len(blocks))
 
+    def test_what_is_given_wrong_is_named(self) -> None:
+        with started(END) as machine:
+            for word, call in (
+                ("breakpoints are a list", lambda: machine.run_until(5, (0x0103, 0x0100))), ("events are a list", lambda: machine.run_to(5, Event.at_call(0x21))),
+                ("steps is '5'", lambda: machine.run("5")), ("bytes are wanted", lambda: machine.write(0, 0, "text")),
+                ("all registers are wanted", lambda: setattr(machine, "registers", {"ax": 1})),
+            ):
+                self.assertRaisesRegex(TypeError, word, call)
+
     def test_names_of_the_package(self) -> None:
         for name in mezguld.__all__:
             self.assertIn(name, dir(mezguld))
