@@ -58,6 +58,8 @@ NEVER = 2**64
 VALUES, PAIR = struct.Struct("<IIQ14H").unpack_from, struct.Struct("<HH").unpack_from
 # A record of more moments than this, or of more bytes as JSON (reckoned), is thinned: so a page has less than 4 MB.
 MOST_MOMENTS, MOST_SIZE = 24_000, 3_700_000
+# Of so many starts and ends of processes each is shown, however many calls there are.
+MOST_PROCESSES = MOST_MOMENTS // 4
 # About how many bytes a process has as JSON.
 PROCESS_SIZE = 110
 # Why a run that goes on has stopped, and how a step stops that was made.
@@ -157,6 +159,7 @@ def untyped(name: str, *arguments: Any) -> Callable[[], int]:
 
 # Where a call came from: segment and offset after it, and whether an interrupt's instruction is before that.
 Back = Tuple[int, int, bool]
+NOWHERE: Back = (0, 0, False)
 
 
 def caller_of(back: Back) -> str:
@@ -213,19 +216,24 @@ class Watched:
             _check(status)
         return VALUES(self._seen)
 
-    def performed(self, before: Values, is_interrupt: bool, name: str | None) -> tuple[Back, Values, bytes | None]:
-        """The step of a service, at whose entry a run has stopped: where the call came from; why the run stopped at the step, and the registers then (its
-        steps are those before); and the text of a list then, if one is wanted."""
+    def back(self, before: Values, is_interrupt: bool) -> Back:
+        """Where the call came from, at whose service's entry a run has stopped: the stack has it."""
         read, few, sizes = self._read, self._to_few, self._sizes
         status = read(before[SS], before[SP], few, sizes[4])
         ip, cs = PAIR(self._few)
         if is_interrupt:
             status = status or read(cs, (ip - 2) & 0xFFFF, few, sizes[1])
             is_interrupt = self._few[0] == b"\xcd"
-        status = status or self._run() or self._ask_registers()
         if status:
             _check(status)
-        return (cs, ip, is_interrupt), VALUES(self._seen), None if name is None else self.listed(name)
+        return cs, ip, is_interrupt
+
+    def performed(self, name: str | None) -> tuple[Values, bytes | None]:
+        """A step: why the run stopped, and the registers then (its steps are those before); and the text of a list then, if one is wanted."""
+        status = self._run() or self._ask_registers()
+        if status:
+            _check(status)
+        return VALUES(self._seen), None if name is None else self.listed(name)
 
     def program(self, before: Values) -> tuple[str, int | None]:
         """The name of the program that function 4Bh is to load, and the segment for an overlay."""
@@ -444,7 +452,7 @@ class Recorder:
                     text += f"{': ' if text else ''}{refusal(service, after, refused)}"
             else:
                 refused, text = self._process(service, now, before, after, call)
-                running, must = self.running(), must or call.is_process and len(self.must) < MOST_MOMENTS // 4
+                running, must = self.running(), must or call.is_process and len(self.must) < MOST_PROCESSES
             if not listed:
                 continue
             if must:
@@ -569,9 +577,11 @@ class Recorder:
         self.seen += 1
         is_kept = not self.seen % self.every
         is_usual = not self.stale and self.left[-1] > self.now + 1
+        # (Of a start or an end there is a moment until there are many.)
+        is_wanted = is_kept or service.is_process and len(self.must) < MOST_PROCESSES
+        back = self.watched.back(before, service.is_interrupt) if is_wanted or service.is_followed or not is_usual else NOWHERE
         program, overlay = self.watched.program(before) if service.is_load else ("", None)
-        wanted = service.list if is_usual and (is_kept or service.is_process) else None
-        back, after, text = self.watched.performed(before, service.is_interrupt, wanted)
+        after, text = self.watched.performed(service.list if is_usual and is_wanted else None)
         # (A service that could not act is no step.)
         self.now += after[WHY] in ACTED
         call = None
@@ -579,7 +589,7 @@ class Recorder:
             # (A program that is started has not returned.)
             is_start = service.is_load and not before[AX] & 0xFF and (after[CS], after[IP]) != back[:2]
             call = Call(Stop(after[WHY]), program, overlay, is_start, is_start or service.is_ending)
-            is_kept = is_kept or call.is_process
+            is_kept = is_kept or is_wanted and call.is_process
         is_found = not is_usual and self._is_found()
         listed = ((service.place, text),) if is_usual and is_kept else self._listed(service, is_kept, is_found)
         self.waiting.append((service, self.now, before, after, back, listed, is_found, call))
@@ -685,8 +695,8 @@ class Service:
         number = function if entry is DOS else None
         self.is_resident, self.is_load, self.is_ending = number == 0x31, number == 0x4B, entry not in NAMES or number in (0x00, 0x31, 0x4C)
         self.is_process = self.is_load or self.is_ending
-        # Whether only calls with an odd AL may change memory's division.
-        self.is_odd = number == 0x58
+        # Whether only calls with an odd AL may change memory's division; whether the caller is wanted where nobody is told of the call.
+        self.is_odd, self.is_followed = number == 0x58, number == 0x48 or self.is_load
         self.hold = {0x48: Recorder.allocated, 0x49: Recorder.freed, 0x4A: Recorder.resized}.get(number)
         self.refused = REFUSED.get(entry)
         self.text = TEXTS.get(entry, {}).get(function, lambda before, after, code: f"handle {before[DX]}")
@@ -767,8 +777,10 @@ def record(
 def data(recorder: Recorder, programs: list[Program], options: Options, report: Report, command: str) -> dict[str, Any]:
     """The data of a page, which docs/picture.md describes."""
     every, kept = recorder.every, len(recorder.moments)
+    first = f" (of these the first {MOST_PROCESSES:,})" if len(recorder.must) >= MOST_PROCESSES else ""
     rule = f"Of {recorder.seen:,} calls about memory, one in {every:,} is shown, and besides these each at which the checker found something or a program"
-    rule += " starts or ends. What lived only between two of the shown ones is left out, and so are processes that made none of them. The list of what was not freed counts all calls."
+    rule += f" starts or ends{first}. What lived only between two of the shown ones is left out, and so are processes that made none of them. The list of what was not freed"
+    rule += " counts all calls."
     if every > 1:
         recorder.drop_processes()
     why = {"process ended": "freed by the end of the process", "resident": "kept by a resident program", "run stopped": "allocated when the run stopped"}
