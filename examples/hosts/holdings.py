@@ -34,12 +34,12 @@ def main() -> None:
         machine.run_to(1000, [Event.at_function(0x21, 0x4C)])
         for block in machine.blocks():
             print(f"block {block.segment + 1:04X}: owner {block.owner:04X}, {block.size} paragraphs")
-        handles, windows = machine.expanded()
-        for handle in handles:
+        expanded = machine.expanded()
+        for handle in expanded.handles:
             for page in range(handle.pages):
                 data = machine.read_page(handle.number, page, 0, 2)
                 print(f"handle {handle.number}, page {page}: {data[0]:02X} {data[1]:02X}")
-        for number, window in enumerate(windows):
+        for number, window in enumerate(expanded.windows):
             if window is not None:
                 print(f"window {number}: handle {window.handle}, page {window.page}")
         machine.check(1000)

@@ -26,7 +26,12 @@ import re
 import sys
 import threading
 import time
-from typing import Any, Callable, Iterable, NamedTuple, NoReturn
+from typing import TYPE_CHECKING, Any, Callable, Iterable, NamedTuple, NoReturn
+
+if TYPE_CHECKING:
+    from .records import (
+        Act, Block, Blocks, Contents, Details, Expanded, Extended, ExtendedBlock, Finding, Findings, Instruction, Origin, PageHandle, Place, UpperBlock, Window,
+    )
 
 __all__ = [
     "Act", "Block", "Blocks", "Contents", "Details", "Ended", "Error", "Event", "Expanded", "Extended", "ExtendedBlock", "Finding", "FindingKind", "Findings", "How",
@@ -36,6 +41,25 @@ __all__ = [
 ]
 
 __version__ = "2.0.0"
+
+# What the module `records` has: data classes, which take longer to make than all else here, and are loaded with the first call that wants one.
+_OF_RECORDS = frozenset((
+    "Act", "Block", "Blocks", "Contents", "Details", "Expanded", "Extended", "ExtendedBlock", "Finding", "Findings", "Instruction", "Origin", "PageHandle", "Place",
+    "UpperBlock", "Window",
+))
+
+
+def __getattr__(name: str) -> Any:
+    if name not in _OF_RECORDS:
+        raise AttributeError(f"module {__name__!r} has no attribute {name!r}")
+    from . import records  # pylint: disable=import-outside-toplevel
+
+    globals().update((it, getattr(records, it)) for it in _OF_RECORDS)
+    return globals()[name]
+
+
+def __dir__() -> list[str]:
+    return sorted({*globals(), *__all__})
 
 
 # ---- refusals
@@ -330,100 +354,6 @@ class Registers(NamedTuple):
         return f"Registers({', '.join(f'{name}=0x{word:04X}' for name, word in zip(self._fields, self))})"
 
 
-class Block(NamedTuple):
-    """A header of the DOS memory arena: its segment, whether it is signed `Z` as the last of its list, the owner (0: free; 8: DOS; else the segment of a
-    program's prefix), the size in paragraphs of 16 bytes, and its list: 0 for the first one, 1 for that of upper memory where the first does not lead to it.
-    Its segments print in hexadecimal."""
-
-    segment: int
-    last: bool
-    owner: int
-    size: int
-    list: int = 0
-
-    def __repr__(self) -> str:
-        return f"Block(segment=0x{self.segment:04X}, last={self.last}, owner=0x{self.owner:04X}, size={self.size}, list={self.list})"
-
-
-class Blocks(list):
-    """A list of blocks. `destroyed` is None, or the segment of the first bad header, at which the list breaks: the blocks are those before it."""
-
-    def __init__(self, blocks: Iterable[Block] = (), destroyed: int | None = None) -> None:
-        super().__init__(blocks)
-        self.destroyed = destroyed
-
-    def __repr__(self) -> str:
-        return f"Blocks({super().__repr__()}{'' if self.destroyed is None else f', destroyed=0x{self.destroyed:04X}'})"
-
-
-class PageHandle(NamedTuple):
-    """A handle of expanded memory: its number, how many pages of 16 KiB it has (they are counted from 0), its name of eight bytes, and whether the windows
-    are saved under it."""
-
-    number: int
-    pages: int
-    name: bytes
-    saved: bool = False
-
-
-class Window(NamedTuple):
-    """What a window of the page frame shows: a handle's page, both counted from 0."""
-
-    handle: int
-    page: int
-
-
-class Expanded(NamedTuple):
-    """Expanded memory: the handles, and what each of the four windows shows (`None`: nothing)."""
-
-    handles: list[PageHandle]
-    windows: list[Window | None]
-
-
-class ExtendedBlock(NamedTuple):
-    """A block of extended memory: its handle, its linear address, its size in KiB, and how often it is locked. Its address prints in hexadecimal."""
-
-    handle: int
-    address: int
-    kib: int
-    locks: int
-
-    def __repr__(self) -> str:
-        return f"ExtendedBlock(handle={self.handle}, address=0x{self.address:06X}, kib={self.kib}, locks={self.locks})"
-
-
-class UpperBlock(NamedTuple):
-    """An upper memory block of the extended memory driver: its segment, and its size in paragraphs. Its segment prints in hexadecimal."""
-
-    segment: int
-    size: int
-
-    def __repr__(self) -> str:
-        return f"UpperBlock(segment=0x{self.segment:04X}, size={self.size})"
-
-
-class Extended(NamedTuple):
-    """Extended memory: its blocks, the upper memory blocks, whether the A20 line is on, and whether the high memory area is in use."""
-
-    blocks: list[ExtendedBlock]
-    upper: list[UpperBlock]
-    a20: bool
-    high_memory_area: bool
-
-
-class Instruction(NamedTuple):
-    """An instruction in memory: where it stands, its bytes and its text; `DB` for a byte with which no instruction begins. It prints its address in
-    hexadecimal."""
-
-    segment: int
-    offset: int
-    data: bytes
-    text: str
-
-    def __repr__(self) -> str:
-        return f"Instruction(segment=0x{self.segment:04X}, offset=0x{self.offset:04X}, data={self.data!r}, text={self.text!r})"
-
-
 class FindingKind(enum.Enum):
     """The kinds of findings; `dm check --json` has the same words."""
 
@@ -462,97 +392,6 @@ class How(enum.Enum):
     INTERRUPT = 1
     FUNCTION = 2
     FAR_CALL = 3
-
-
-class Act(NamedTuple):
-    """What was performed in a step: how, the offset after it (of an instruction), and the numbers of the interrupt and of the function that it has. What it
-    does not have is `None`."""
-
-    how: How
-    next: int | None = None
-    interrupt: int | None = None
-    function: int | None = None
-
-
-class Place(NamedTuple):
-    """A place in the code of a program: CS:IP of an instruction, or the address after it (`before`), where only that is known. It prints in hexadecimal."""
-
-    cs: int
-    ip: int
-    before: bool = False
-
-    def __repr__(self) -> str:
-        return f"Place(cs=0x{self.cs:04X}, ip=0x{self.ip:04X}, before={self.before})"
-
-
-class Origin(NamedTuple):
-    """The step that freed the memory that a finding is about, or allocated what a program has left or holds, and its place."""
-
-    step: int
-    at: Place
-
-
-class Contents(NamedTuple):
-    """Bytes 0 to 4 of a header of the arena: signature, owner, and size in paragraphs."""
-
-    signature: int
-    owner: int
-    size: int
-
-
-class Details(NamedTuple):
-    """What a finding is about, by the names of `dm check --json` (`old` and `new` there are `old_contents` and `new_contents` here). What its kind does not have
-    is `None`, and is not printed."""
-
-    old_contents: Contents | None = None
-    new_contents: Contents | None = None
-    header: int | None = None
-    byte: int | None = None
-    block: int | None = None
-    owner: int | None = None
-    segment: int | None = None
-    offset: int | None = None
-    window: int | None = None
-    handle: int | None = None
-    pages: int | None = None
-    saved: bool | None = None
-    kib: int | None = None
-    locked: bool | None = None
-    code: int | None = None
-    wanted: int | None = None
-    available: int | None = None
-
-    def __repr__(self) -> str:
-        return f"Details({', '.join(f'{name}={it!r}' for name, it in zip(self._fields, self) if it is not None)})"
-
-
-class Finding(NamedTuple):
-    """A finding of a checked run: its kind, whether it is an error (else a note), the step, the process (the segment of its prefix), the place of the step,
-    what was performed, what the finding is about, the step that freed or allocated that (`None` where it is not known), how often it came again (`more`), the
-    step of the last time, and its line in the report."""
-
-    kind: FindingKind
-    is_error: bool
-    step: int
-    process: int
-    at: Place
-    act: Act
-    details: Details
-    origin: Origin | None
-    more: int
-    last: int
-    line: str
-
-
-class Findings(list):
-    """The findings that a report lists, in the order in which they happened; `errors` and `notes` count all, and `unlisted` those that are left out."""
-
-    def __init__(self, found: Iterable[Finding] = (), errors: int = 0, notes: int = 0, unlisted: int = 0) -> None:
-        super().__init__(found)
-        self.errors, self.notes, self.unlisted = errors, notes, unlisted
-
-    def __repr__(self) -> str:
-        return f"Findings({super().__repr__()}, errors={self.errors}, notes={self.notes}, unlisted={self.unlisted})"
 
 
 # ---- the library
@@ -602,41 +441,6 @@ for _struct, _members in _RECORDS.items():
     _pairs = [_member.split(" ") for _member in _members.split(", ")]
     _STRUCTURES[_struct] = type(_struct, (ctypes.Structure,), {"_fields_": [(_word, {**_SIZES, **_STRUCTURES}[_size]) for _size, _word in _pairs]})
 del _struct, _members, _pairs
-
-
-# The details that a finding of each kind has.
-_DETAILS = {
-    FindingKind.OVERWRITTEN: "header old_contents new_contents", FindingKind.MAPPED_AWAY: "header", FindingKind.DESTROYED: "header",
-    FindingKind.FREED_TWICE: "block", FindingKind.REFUSED: "code", FindingKind.NOT_ALLOCATED: "code", FindingKind.SHORT: "code wanted available",
-    FindingKind.FREE_READ: "block segment offset", FindingKind.FREE_WRITTEN: "block segment offset", FindingKind.STACK_FREED: "block",
-    FindingKind.WINDOW_LOST: "window segment offset", FindingKind.ROM_WRITTEN: "segment offset", FindingKind.NOTHING_WRITTEN: "segment offset",
-    FindingKind.TAIL_WRITTEN: "header byte", FindingKind.OTHER_FREED: "block owner", FindingKind.NOT_RESIZED: "wanted",
-    FindingKind.HANDLE_KEPT: "handle pages saved", FindingKind.WINDOW_KEPT: "window", FindingKind.BLOCK_KEPT: "handle kib locked",
-    FindingKind.UPPER_KEPT: "block",
-}
-# What an act has that was performed in each of these ways.
-_ACTS = {How.INSTRUCTION: "next", How.INTERRUPT: "interrupt", How.FUNCTION: "interrupt function", How.FAR_CALL: "function"}
-
-
-def _detail(record: Any, name: str) -> Any:
-    it = getattr(record, name)
-    if name in ("old_contents", "new_contents"):
-        return Contents(it.signature, it.owner, it.size)
-    return bool(it) if name in ("saved", "locked") else it
-
-
-def _place(record: Any) -> Place:
-    return Place(record.cs, record.ip, bool(record.before))
-
-
-def _finding(record: Any, line: str) -> Finding:
-    kind, how = FindingKind(record.kind), How(record.act.how)
-    return Finding(
-        kind, bool(record.is_error), record.step, record.process, _place(record.at),
-        Act(how, **{name: getattr(record.act, name) for name in _ACTS[how].split()}),
-        Details(**{name: _detail(record.details, name) for name in _DETAILS.get(kind, "").split()}),
-        Origin(record.origin_step, _place(record.origin_at)) if record.origin_step else None, record.more, record.last, line,
-    )
 
 
 _NAME = "libmezguld.so"
@@ -739,14 +543,20 @@ _MOST_BYTES, _PAGE, _MOST_BLOCK = 0x10000, 0x4000, 0xFFFF * 1024
 
 def _number(number: int, most: int, what: str) -> int:
     """A number from 0 to `most`."""
-    number = operator.index(number)
+    try:
+        number = operator.index(number)
+    except TypeError:
+        raise TypeError(f"{what} is {number!r}, and no whole number") from None
     if not 0 <= number <= most:
         raise ValueError(f"{what} is {number}, and not from 0 to {most}")
     return number
 
 
 def _bytes(data: bytes | bytearray | memoryview) -> bytes:
-    return memoryview(data).tobytes()
+    try:
+        return memoryview(data).tobytes()
+    except TypeError:
+        raise TypeError(f"bytes are wanted, as b\"..\", and not {type(data).__name__}") from None
 
 
 def _name(name: str | bytes) -> bytes:
@@ -774,7 +584,11 @@ def _environment(variables: Iterable[str | bytes]) -> bytes:
 
 def _points(breakpoints: Iterable[tuple[int, int]]) -> tuple[ctypes.Array, int]:
     """Breakpoints as an array with room for at least one, and their count."""
-    pairs = [_Point(_number(segment, 0xFFFF, "a segment"), _number(offset, 0xFFFF, "an offset")) for segment, offset in breakpoints]
+    try:
+        listed = [(segment, offset) for segment, offset in breakpoints]
+    except (TypeError, ValueError) as error:
+        raise type(error)(f"breakpoints are a list of segments and offsets, as [(0x0103, 0x0100)], and not {breakpoints!r}") from None
+    pairs = [_Point(_number(segment, 0xFFFF, "a segment"), _number(offset, 0xFFFF, "an offset")) for segment, offset in listed]
     return (_Point * (len(pairs) + 1))(*pairs), len(pairs)
 
 
@@ -1061,6 +875,8 @@ class Machine:
         `machine.run_to(steps, [Event.at_call(0x21), Event.at_change(0xB8000, 4000)])`. Where the run begins is no event to it, so that the next run goes on;
         bytes are compared with those at its beginning. Steps are as fast as with breakpoints, but for those that touch the paragraphs of a range or of a vector
         that is called; with a range past BFFFFh each step is looked at. `NotLoaded`; `OutOfMemory`, after which some of the steps may be made. Ctrl-C is as in `run`."""
+        if isinstance(events, Event):
+            raise TypeError("events are a list, as [Event.at_call(0x21)]")
         listed, place = list(events), ctypes.c_size_t()
         given = (_Event * (len(listed) + 1))(*(_event(event) for event in listed))
         stopped = self._run(_library.mezguld_run_to, _number(steps, _MOST_STEPS, "steps"), given, len(listed), last=(place,), first=_first_slice(listed))
@@ -1083,7 +899,10 @@ class Machine:
 
     @registers.setter
     def registers(self, registers: Iterable[int]) -> None:
-        words = Registers(*registers)
+        try:
+            words = Registers(*registers)
+        except TypeError:
+            raise TypeError("all registers are wanted, as machine.registers._replace(ax=1)") from None
         self._call(_library.mezguld_set_registers, _Registers(*(_number(word, 0xFFFF, name) for name, word in zip(words._fields, words))))
 
     def read(self, segment: int, offset: int, count: int) -> bytes:
@@ -1150,7 +969,7 @@ class Machine:
 
     def check(self, steps: int) -> tuple[Stopped, str]:
         """Makes at most so many steps, as `run`, under the memory checker, and returns the text of its report, with the line about the stop,
-        beside the stop. `findings` gives what it has found as tuples with names.
+        beside the stop. `findings` gives what it has found as data classes.
 
         `NotLoaded`; `OutOfMemory`, after which any part of the run was made. Ctrl-C comes at once, but the run is made to its end, since a report is of a
         whole run. Later calls wait for that; `close` does not, and the machine is freed then.
@@ -1176,7 +995,9 @@ class Machine:
             self._call(_library.mezguld_finding_counts, *counts)
             records = self._records(_library.mezguld_findings, "mezguld_finding")
             lines = [self._finding_line(number) for number in range(len(records))]
-        return Findings(map(_finding, records, lines), *(count.value for count in counts))
+        from . import records as of  # pylint: disable=import-outside-toplevel
+
+        return of.Findings(map(of.finding_of, records, lines), *(count.value for count in counts))
 
     def _finding_line(self, number: int) -> str:
         """The line of a finding in the report."""
@@ -1198,12 +1019,16 @@ class Machine:
     def blocks(self) -> Blocks:
         """The headers of the DOS memory arena, in their order: those of the first list, then those of the list in upper memory, if there is one
         that is not linked. Of a destroyed list they are those before the bad header, and `destroyed` is its segment. `NotLoaded`."""
+        from .records import Block, Blocks  # pylint: disable=import-outside-toplevel
+
         end = _STRUCTURES["mezguld_list_end"]()
         records = self._records(_library.mezguld_blocks, "mezguld_block", end)
         return Blocks((Block(it.segment, it.signature == ord("Z"), it.owner, it.size, it.list) for it in records), end.at if end.destroyed else None)
 
     def expanded(self) -> Expanded:
         """Expanded memory: its handles, and what its windows show. `NotLoaded`."""
+        from .records import Expanded, PageHandle, Window  # pylint: disable=import-outside-toplevel
+
         with self._held():
             handles = self._records(_library.mezguld_page_handles, "mezguld_page_handle")
             windows = self._records(_library.mezguld_windows, "mezguld_window")
@@ -1214,6 +1039,8 @@ class Machine:
 
     def extended(self) -> Extended:
         """Extended memory: its blocks, upper memory blocks, the A20 line and the high memory area. `NotLoaded`."""
+        from .records import Extended, ExtendedBlock, UpperBlock  # pylint: disable=import-outside-toplevel
+
         a20, used = ctypes.c_uint32(), ctypes.c_uint32()
         with self._held():
             blocks = self._records(_library.mezguld_extended_blocks, "mezguld_extended_block")
@@ -1250,6 +1077,8 @@ class Machine:
         """So many instructions, at most 4,096, from segment:offset on; offsets wrap in their segment. `NotLoaded`."""
         segment, offset = _number(segment, 0xFFFF, "the segment"), _number(offset, 0xFFFF, "the offset")
         count = _number(count, 0x1000, "the count")
+        from .records import Instruction  # pylint: disable=import-outside-toplevel
+
         found = []
         for line in self.command(f"U {segment:04X}:{offset:04X} {count:X}").decode("latin-1").splitlines():
             place, data, text = line.split(" ", 2)

@@ -13,7 +13,7 @@ import threading
 import time
 from typing import Any, Callable, NoReturn
 
-from . import BadFormat, Error, Machine, NameTwice, OutOfMemory, Short, Stop, TailTooLong, TooLarge, __version__, picture, terminal
+from . import BadFormat, Error, Machine, NameTwice, OutOfMemory, Short, Stop, TailTooLong, TooLarge, __version__, picture
 
 # The most bytes of a file and of the input, and of a file's name.
 MOST_BYTES, MOST_NAME = 16 << 20, 64
@@ -170,10 +170,10 @@ def draw(options: argparse.Namespace) -> int:
     return 0
 
 
-def loaded(options: argparse.Namespace) -> Machine:
+def loaded(options: argparse.Namespace, is_file: bool) -> Machine:
     """The machine with the first file loaded. Its input is that of a file; else it may still come."""
     programs = programs_of(options.files)
-    console = bytes_of(None) if terminal.is_file() else b""
+    console = bytes_of(None) if is_file else b""
     machine = Machine(ems_pages=options.ems, xms_kib=options.xms, upper=options.upper)
     for it in programs:
         machine.add(it.name, it.content)
@@ -192,8 +192,11 @@ def end(number: int) -> int:
 
 def play(options: argparse.Namespace) -> int:
     """The command `run`."""
+    # (It is not loaded for other commands.)
+    from . import terminal  # pylint: disable=import-outside-toplevel
+
     try:
-        with loaded(options) as machine:
+        with loaded(options, terminal.is_file()) as machine:
             stopped = terminal.run(machine, options.steps)
     except Error as error:
         raise Fault(FAULTS.get(type(error), str(error))) from error
@@ -257,9 +260,17 @@ def main() -> int:
     except KeyboardInterrupt:
         print("mezguld: interrupted", file=sys.stderr)
         # (A run that goes on would keep the process.)
-        sys.stderr.flush()
-        os._exit(130)
+        leave(130)
+        return 130
+
+
+def leave(status: int) -> None:
+    """Ends the process at once. To free the objects of a long record one by one takes a good part of the time that it took to make them."""
+    for stream in (sys.stdout, sys.stderr):
+        with contextlib.suppress(OSError, ValueError, AttributeError):
+            stream.flush()
+    os._exit(status)
 
 
 if __name__ == "__main__":
-    sys.exit(main())
+    leave(main())

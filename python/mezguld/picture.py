@@ -14,10 +14,9 @@ import os
 import shlex
 import stat
 import struct
-import tempfile
-from typing import Any, Callable, Iterator, NamedTuple
+from typing import Any, Callable, Iterator, NamedTuple, Optional, Sequence, Tuple
 
-from . import Machine, Registers, Stop, __version__, _library, _Point, _Registers, _Stopped, _check
+from . import Machine, Stop, __version__, _library, _Point, _Registers, _Stopped, _check
 from . import reports
 
 __all__ = ["Options", "Program", "data", "page", "record", "write"]
@@ -48,17 +47,24 @@ LISTS = {DIVIDE: "M", TERMINATE: "M", DOS: "M", EXPANDED: "P", EXTENDED: "X"}
 CARRY = 1
 # How many calls wait at most.
 MOST_WAITING = 256
+# How many changes of a list are kept, of texts of at most so many bytes.
+MOST_KNOWN, MOST_KNOWN_BYTES = 4096, 2048
 # How many lines are tried by themselves.
 FEW_LINES, LINE_FEED = 4, 10
-# The places of the lists in a moment.
+# The lists, and their places in a moment.
+LISTED, FIRST_LIST = "MPX", 6
 PLACES = {"M": 6, "P": 7, "X": 8}
-UNPACKED, PAIR, NEW = struct.Struct("<14H").unpack, struct.Struct("<HH").unpack_from, tuple.__new__
+NEVER = 2**64
+VALUES, PAIR = struct.Struct("<IIQ14H").unpack_from, struct.Struct("<HH").unpack_from
 # A record of more moments than this, or of more bytes as JSON (reckoned), is thinned: so a page has less than 4 MB.
 MOST_MOMENTS, MOST_SIZE = 24_000, 3_700_000
+# Of so many starts and ends of processes each is shown, however many calls there are.
+MOST_PROCESSES = MOST_MOMENTS // 4
 # About how many bytes a process has as JSON.
 PROCESS_SIZE = 110
+# Why a run that goes on has stopped, and how a step stops that was made.
+GOES_ON, ACTED = (Stop.STEPS.value, Stop.BREAKPOINT.value), (Stop.STEPS.value, Stop.EXITED.value)
 AT_ONCE = ctypes.PyDLL(_library._name, handle=_library._handle)  # pylint: disable=protected-access
-STOPS = tuple(sorted(Stop, key=lambda it: it.value))
 COLUMNS = ("step", "name", "caller", "process", "text", "refused", "M", "P", "X")
 
 
@@ -143,12 +149,34 @@ def site_of(finding: dict[str, Any]) -> str:
 # ---- a machine that is looked at often
 
 
-def untyped(name: str, is_long: bool = False) -> Callable[..., int]:
-    """A function of the library that is given values which ctypes has made, whose types it does not look at: that takes half the time. Other threads run
-    only in a call that may be long."""
-    function = (_library if is_long else AT_ONCE)[name]
+def untyped(name: str, *arguments: Any) -> Callable[[], int]:
+    """A call of the library with arguments which ctypes has made, whose types it does not look at: that takes half the time. Other threads run only in
+    a call that may be long."""
+    function = (_library if name == "run_until" else AT_ONCE)[f"mezguld_{name}"]
     function.restype = ctypes.c_uint32
-    return function
+    return functools.partial(function, *arguments)
+
+
+# Where a call came from: segment and offset after it, and whether an interrupt's instruction is before that.
+Back = Tuple[int, int, bool]
+NOWHERE: Back = (0, 0, False)
+
+
+def caller_of(back: Back) -> str:
+    """The caller as a text: the instruction of the interrupt, if it was one. (That has two bytes; a far call has others.)"""
+    segment, offset, is_interrupt = back
+    return f"{segment:04X}:{(offset - 2) & 0xFFFF:04X}" if is_interrupt else f"before {segment:04X}:{offset:04X}"
+
+
+class _Seen(ctypes.Structure):
+    """What calls of the library write: a stop, the steps so far, and the registers."""
+
+    _fields_ = [("stopped", _Stopped), ("steps", ctypes.c_uint64), ("registers", _Registers)]
+
+
+# The values of what is seen, in their order: why the run stopped, the exit code, the steps, and the registers.
+Values = Tuple[int, ...]
+WHY, STEPS, AX, BX, CX, DX, SP, BP, SI, DI, CS, DS, ES, SS, IP, FLAGS = 0, 2, *range(3, 17)
 
 
 class Watched:
@@ -156,91 +184,75 @@ class Watched:
     Only one thread uses it."""
 
     def __init__(self, machine: Machine) -> None:
-        self.machine = machine
-        self._stopped, self._registers, self._few = _Stopped(), _Registers(), ctypes.create_string_buffer(64)
-        self._limit, self._steps, self._wanted = ctypes.c_uint64(), ctypes.c_uint64(), ctypes.c_size_t()
-        points, self._few_size, self._segment, self._offset = (_Point * len(ENTRIES))(*ENTRIES), ctypes.c_size_t(), ctypes.c_uint16(), ctypes.c_uint16()
-        lines = {name: ctypes.create_string_buffer(name.encode("ascii")) for name in "MPX"}
-
-        def at(it: Any) -> ctypes.c_void_p:
-            return ctypes.c_void_p(ctypes.addressof(it))
-
-        # (What is pointed to lives as long as the addresses.)
-        self._kept = points, lines
-        handle = machine._handle  # pylint: disable=protected-access
-        self._handle, self._line = handle, {name: (handle, at(line), ctypes.c_size_t(1), at(self._wanted)) for name, line in lines.items()}
-        self._to_step, self._to_registers, self._to_steps = (handle, ctypes.c_uint64(1), at(self._stopped)), (handle, at(self._registers)), (handle, at(self._steps))
-        self._to_entry = handle, self._limit, at(points), ctypes.c_size_t(len(ENTRIES)), at(self._stopped)
-        self._to_read = handle, self._segment, self._offset, at(self._few), self._few_size
-        self._to_word_pair, self._to_byte = (*self._to_read[:4], ctypes.c_size_t(4)), (*self._to_read[:4], ctypes.c_size_t(1))
+        self.machine, self._handle = machine, machine._handle  # pylint: disable=protected-access
+        self._seen, self._limit, self._wanted = _Seen(), ctypes.c_uint64(), ctypes.c_size_t()
+        self._points, self._lines = (_Point * len(ENTRIES))(*ENTRIES), [ctypes.create_string_buffer(it.encode("ascii")) for it in LISTED]
+        # (What is made here points to the objects above.)
+        seen, count = self._seen, ctypes.c_size_t.from_param
+        self._run = untyped("run", self._handle, ctypes.c_uint64.from_param(1), ctypes.byref(seen))
+        self._run_until = untyped("run_until", self._handle, self._limit, ctypes.byref(self._points), count(len(ENTRIES)), ctypes.byref(seen))
+        self._ask_steps = untyped("steps", self._handle, ctypes.byref(seen, _Seen.steps.offset))
+        self._ask_registers = untyped("registers", self._handle, ctypes.byref(seen, _Seen.registers.offset))
+        lines = zip(LISTED, self._lines)
+        self._commands = {it: untyped("command", self._handle, ctypes.byref(line), count(1), ctypes.byref(self._wanted)) for it, line in lines}
+        self._few = ctypes.create_string_buffer(64)
+        self._read, self._to_few, self._sizes = untyped("read", self._handle), ctypes.byref(self._few), {it: count(it) for it in (1, 4, 64)}
         self._make_room(1 << 16)
-        self._run, self._run_until, self._ask_steps, self._ask_registers, self._read, self._command, self._answer = (
-            untyped(f"mezguld_{name}", name == "run_until") for name in ("run", "run_until", "steps", "registers", "read", "command", "answer")
-        )
-        # The texts of callers, by the address after the call and whether an interrupt's instruction is before it.
-        self._callers: dict[tuple[int, int, bool], str] = {}
-
     def _make_room(self, size: int) -> None:
         """Room for an answer."""
         self._room, self._size = ctypes.create_string_buffer(size), size
-        self._to_answer = self._handle, ctypes.c_void_p(ctypes.addressof(self._room)), ctypes.c_size_t(size), ctypes.c_void_p(ctypes.addressof(self._wanted))
+        self._answer = untyped("answer", self._handle, ctypes.byref(self._room), ctypes.c_size_t.from_param(size), ctypes.byref(self._wanted))
 
-    def step(self) -> tuple[Stop, Registers]:
-        """One step; why the run stopped, and the registers then."""
-        status = self._run(*self._to_step) or self._ask_registers(*self._to_registers)
-        if status:
-            _check(status)
-        return STOPS[self._stopped.why], NEW(Registers, UNPACKED(self._registers))
+    def now(self) -> Values:
+        """The steps so far, and the registers."""
+        _check(self._ask_steps() or self._ask_registers())
+        return VALUES(self._seen)
 
-    def run_until(self, steps: int) -> tuple[Stop, int, Registers]:
+    def run_until(self, steps: int) -> Values:
         """At most so many steps, up to the entry of a service; why the run stopped, and the steps so far and the registers then."""
         self._limit.value = steps
-        status = self._run_until(*self._to_entry) or self._ask_steps(*self._to_steps) or self._ask_registers(*self._to_registers)
+        status = self._run_until() or self._ask_steps() or self._ask_registers()
         if status:
             _check(status)
-        return STOPS[self._stopped.why], self._steps.value, NEW(Registers, UNPACKED(self._registers))
+        return VALUES(self._seen)
 
-    def registers(self) -> Registers:
-        """The registers."""
-        _check(self._ask_registers(*self._to_registers))
-        return NEW(Registers, UNPACKED(self._registers))
-
-    def read(self, segment: int, offset: int, count: int) -> bytes:
-        """At most 64 bytes of memory."""
-        self._segment.value, self._offset.value, self._few_size.value = segment, offset & 0xFFFF, count
-        status = self._read(*self._to_read)
-        if status:
-            _check(status)
-        return self._few[:count]
-
-    def caller(self, before: Registers, is_interrupt: bool) -> tuple[tuple[int, int], str]:
-        """The address after a call, which the stack has, and the caller as a text: the instruction of the interrupt, if it was one."""
-        segment, offset, few = self._segment, self._offset, self._few
-        segment.value, offset.value = before.ss, before.sp
-        status = self._read(*self._to_word_pair)
-        ip, cs = PAIR(few)
-        # (The interrupt's instruction has two bytes; a far call has others.)
+    def back(self, before: Values, is_interrupt: bool) -> Back:
+        """Where the call came from, at whose service's entry a run has stopped: the stack has it."""
+        read, few, sizes = self._read, self._to_few, self._sizes
+        status = read(before[SS], before[SP], few, sizes[4])
+        ip, cs = PAIR(self._few)
         if is_interrupt:
-            segment.value, offset.value = cs, (ip - 2) & 0xFFFF
-            status = status or self._read(*self._to_byte)
-            is_interrupt = few[0] == b"\xcd"
+            status = status or read(cs, (ip - 2) & 0xFFFF, few, sizes[1])
+            is_interrupt = self._few[0] == b"\xcd"
         if status:
             _check(status)
-        key = cs, ip, is_interrupt
-        text = self._callers.get(key)
-        if text is None:
-            text = self._callers[key] = f"{cs:04X}:{(ip - 2) & 0xFFFF:04X}" if is_interrupt else f"before {cs:04X}:{ip:04X}"
-        return (cs, ip), text
+        return cs, ip, is_interrupt
+
+    def performed(self, name: str | None) -> tuple[Values, bytes | None]:
+        """A step: why the run stopped, and the registers then (its steps are those before); and the text of a list then, if one is wanted."""
+        status = self._run() or self._ask_registers()
+        if status:
+            _check(status)
+        return VALUES(self._seen), None if name is None else self.listed(name)
+
+    def program(self, before: Values) -> tuple[str, int | None]:
+        """The name of the program that function 4Bh is to load, and the segment for an overlay."""
+        status = self._read(before[DS], before[DX], self._to_few, self._sizes[64])
+        # (The value of the buffer is what stands before its first zero.)
+        name, segment = shown(self._few.value), None
+        if before[AX] & 0xFF == 3:
+            status = status or self._read(before[ES], before[BX], self._to_few, self._sizes[4])
+            segment = PAIR(self._few)[0]
+        if status:
+            _check(status)
+        return name, segment
 
     def listed(self, name: str) -> bytes:
         """The text of the list `M`, `P` or `X`."""
-        status = self._command(*self._line[name])
-        if status:
-            _check(status)
-        size = self._wanted.value
+        status, size = self._commands[name](), self._wanted.value
         if size > self._size:
             self._make_room(2 * size)
-        status = self._answer(*self._to_answer)
+        status = status or self._answer()
         if status:
             _check(status)
         return self._room[:size]
@@ -253,18 +265,34 @@ class Listing:
     """A list of the debugger as it was when it was last looked at."""
 
     def __init__(self) -> None:
-        self.text, self.number = b"", 0
+        self.text = b""
+        # The last text that was compared, and its number.
+        self.numbered, self.number = b"", 0
+        # The changes of short lists, by the two texts: a program that calls in a loop makes the same ones again and again.
+        self.known: dict[tuple[bytes, bytes], list[Any]] = {}
 
-    def change(self, new: bytes) -> list[Any] | None:
-        """What makes the new list of the old one: the place of a line, how many lines go there, and those that come. None if nothing changed. Each line
+    def change(self, new: bytes) -> list[Any] | int:
+        """What makes the new list of the old one: the place of a line, how many lines go there, and those that come. 0 if nothing changed. Each line
         ends with a line feed."""
-        old = self.text
+        old, self.text = self.text, new
         if old == new:
-            return None
+            return 0
+        key = old, new
+        splice = self.known.get(key)
+        if splice is None:
+            splice = self._splice(old, new)
+            if len(new) <= MOST_KNOWN_BYTES:
+                if len(self.known) == MOST_KNOWN:
+                    self.known.clear()
+                self.known[key] = splice
+        return splice
+
+    def _splice(self, old: bytes, new: bytes) -> list[Any]:
+        """What makes the new list of the old one, which differ."""
         # (As numbers they are compared in one step: the lowest bit that differs is in the first byte that does.)
-        number = int.from_bytes(new, "little")
-        differs = number ^ self.number
-        self.text, self.number = new, number
+        before = self.number if self.numbered is old else int.from_bytes(old, "little")
+        self.numbered, self.number = new, int.from_bytes(new, "little")
+        differs = self.number ^ before
         front = old.rfind(b"\n", 0, ((differs & -differs).bit_length() - 1) >> 3) + 1
         begin, count = same_end(old, new, front)
         end = begin + len(new) - len(old)
@@ -305,20 +333,20 @@ class Merged:
         self.size, self.front, self.after = len(self.lines), len(self.lines), len(self.lines)
         self.is_changed = False
 
-    def add(self, splice: list[Any] | None) -> None:
+    def add(self, splice: list[Any] | int) -> None:
         """Does a splice."""
         if not splice:
             return
-        at, count, lines = splice[:3]
+        at, count, lines = splice
         end = len(self.lines) - at - count
         # (Lines that came by a splice before are no lines of the list then.)
         self.front, self.after = min(self.front, at), min(self.after, end)
         self.lines[at : at + count] = lines
         self.is_changed = True
 
-    def taken(self) -> list[Any] | None:
-        """The splice for all since the last call."""
-        splice = None
+    def taken(self) -> list[Any] | int:
+        """The splice for all since the last call, or 0."""
+        splice: list[Any] | int = 0
         if self.is_changed:
             front = min(self.front, self.size, len(self.lines))
             after = min(self.after, self.size - front, len(self.lines) - front)
@@ -328,6 +356,11 @@ class Merged:
 
 
 # ---- the record
+
+
+def place_in(table: dict[str, int], text: str) -> int:
+    """The place of a text in a table, which gets it if it has it not."""
+    return table.setdefault(text, len(table))
 
 
 def size_of(moment: list[Any]) -> int:
@@ -343,18 +376,37 @@ def size_of(moment: list[Any]) -> int:
     return size
 
 
+class Call(NamedTuple):
+    """What else is known of a call that may start or end a process: why the run stopped at its step, the program that it names, the segment of an overlay,
+    whether it has started the program, and whether it starts or ends a process."""
+
+    why: Stop
+    program: str
+    overlay: int | None
+    is_start: bool
+    is_process: bool
+
+
+# A call that waits: the service, the steps after it, the registers before and after it, where it came from, the lists, whether the checker has found
+# something, and more of a call that may start or end a process.
+Waiting = Tuple["Service", int, Values, Values, Back, Sequence[Tuple[int, bytes]], bool, Optional[Call]]
+
+
 class Recorder:
     """The moments of a run, the processes, and what programs did not free. `now` is how many steps were made."""
 
     def __init__(self, watched: Watched, findings: list[dict[str, Any]], options: Options, first: bytes) -> None:
         self.watched, self.options = watched, options
-        self.left = sorted({step for it in findings for step in (it["step"], it["last"]) if step})[::-1]
+        # (Behind them is a step that no run reaches.)
+        self.left = [NEVER, *sorted({step for it in findings for step in (it["step"], it["last"]) if step}, reverse=True)]
         self.acts = {it[key]: it for it in reversed(findings) for key in ("last", "step")}
         self.names: dict[str, int] = {}
         self.callers: dict[str, int] = {}
-        self.lists = {name: Listing() for name in "MPX"}
+        # The places of callers in their table.
+        self.backs: dict[Back, int] = {}
+        self.lists = [Listing() for _ in LISTED]
         # The calls whose moments are not there yet: what is known of each, and the list that it may have changed.
-        self.waiting: list[tuple[Service, int, Registers, Registers, str, bytes | None]] = []
+        self.waiting: list[tuple[Service, int, Values, Values, str, bytes | None]] = []
         self.moments: list[list[Any]] = []
         # The places of the moments that are never left out.
         self.must: set[int] = set()
@@ -363,43 +415,55 @@ class Recorder:
         self.stale: set[str] = set()
         self.processes: list[dict[str, Any]] = []
         self.alive: list[int] = []
-        # What function 48h gave and the program did not free: by segment, the caller, the step, the paragraphs, and the process.
-        self.held: dict[int, tuple[str, int, int, int]] = {}
+        # What function 48h gave and the program did not free: by segment, where it was called, the step, the paragraphs, and the process.
+        self.held: dict[int, tuple[Back, int, int, int]] = {}
         self.kept: dict[tuple[str, str, str], list[int]] = {}
         self.now = 0
-        self._start(shown(first))
-        self.look("", "the program is loaded", "", "MPX", must=True)
+        self._start(shown(first), watched.now()[DS], 0)
+        self.look("", "the program is loaded", "", must=True)
 
     # -- names and moments
 
-    def look(self, caller: str, name: str, text: str, lists: str, refused: int = 0, must: bool = False, process: int | None = None) -> None:
-        """Adds a moment: the lists as they are now, where these may have changed. The process is that which runs, if none is given."""
+    def look(self, caller: str, name: str, text: str, must: bool = False) -> None:
+        """Adds a moment of which no call is told: the lists as they are now."""
         self._settle()
-        changes = [self.lists[it].change(self.watched.listed(it)) if it in lists else None for it in "MPX"]
         if must:
             self.must.add(len(self.moments))
-        self._add(self.now, caller, name, text, refused, self.running() if process is None else process, changes)
-        self._thin_enough()
-
-    def _add(self, now: int, caller: str, name: str, text: str, refused: int, process: int, changes: list[Any]) -> None:
-        # (A text's number is its place in the table.)
-        moment = [now, self.names.setdefault(name, len(self.names)), self.callers.setdefault(caller, len(self.callers)), process, text, refused, *changes]
+        changes = [listing.change(self.watched.listed(it)) for listing, it in zip(self.lists, LISTED)]
+        moment = [self.now, place_in(self.names, name), place_in(self.callers, caller), self.running(), text, 0, *changes]
         self.moments.append(moment)
         self.size += size_of(moment)
+        self._thin_enough()
 
     def _settle(self) -> None:
         """The moments of the calls that wait. Many after one another take half the time that each takes between two steps of a program."""
-        if not self.waiting:
-            return
-        waiting, self.waiting, process = self.waiting, [], self.running()
-        for service, now, before, after, caller, listed in waiting:
-            refused = service.refused(after)
-            if service.hold is not None and not refused:
-                service.hold(self, now, before, after, caller)
-            if listed is not None:
-                changes: list[Any] = [None, None, None]
-                changes["MPX".index(service.lists)] = self.lists[service.lists].change(listed)
-                self._add(now, caller, service.name, told(service, before, after, refused), refused, process, changes)
+        waiting, self.waiting, running = self.waiting, [], self.running()
+        names, backs, moments, lists = self.names, self.backs, self.moments, self.lists
+        for service, now, before, after, back, listed, must, call in waiting:
+            process = running
+            if call is None:
+                refused = service.refused(after)
+                if service.hold is not None and not refused:
+                    service.hold(self, now, before, after, back)
+                if not listed:
+                    continue
+                text = service.text(before, after, refused)
+                if refused:
+                    text += f"{': ' if text else ''}{refusal(service, after, refused)}"
+            else:
+                refused, text = self._process(service, now, before, after, call)
+                running, must = self.running(), must or call.is_process and len(self.must) < MOST_PROCESSES
+            if not listed:
+                continue
+            if must:
+                self.must.add(len(moments))
+            if back not in backs:
+                backs[back] = place_in(self.callers, caller_of(back))
+            moment = [now, names.setdefault(service.name, len(names)), backs[back], process, text, refused, 0, 0, 0]
+            for place, new in listed:
+                moment[place] = lists[place - FIRST_LIST].change(new)
+            moments.append(moment)
+            self.size += size_of(moment)
         self._thin_enough()
 
     def _thin_enough(self) -> None:
@@ -428,26 +492,39 @@ class Recorder:
 
     # -- processes
 
-    def _start(self, name: str, psp: int | None = None) -> None:
-        psp = self.watched.registers().ds if psp is None else psp
+    def _process(self, service: Service, now: int, before: Values, after: Values, call: Call) -> tuple[int, str]:
+        """Notes what a call did that may start or end a process. The code with which it was refused, and what it was asked and gave."""
+        if call.is_start:
+            self._start(call.program, after[DS], now)
+        elif service.is_ending:
+            how = how_ended(service, before)
+            if call.why is not Stop.STEPS and call.why is not Stop.EXITED:
+                return 0, f"{how}: {call.why.name.lower()}"
+            self._end(how, service.is_resident, now)
+            return 0, how
+        refused = 0 if call.is_start else service.refused(after)
+        text = f"starts {call.program}" if call.overlay is None else f"overlay {call.program} at {call.overlay:04X}"
+        return refused, f"{text}: {refusal(service, after, refused)}" if refused else text
+
+    def _start(self, name: str, psp: int, now: int) -> None:
         parent = self.alive[-1] if self.alive else None
         self.alive.append(len(self.processes))
         self.size += PROCESS_SIZE
-        self.processes.append({"name": name, "psp": psp, "start": self.now, "end": None, "how": "runs at the end", "parent": parent})
+        self.processes.append({"name": name, "psp": psp, "start": now, "end": None, "how": "runs at the end", "parent": parent})
 
-    def _end(self, how: str, is_resident: bool) -> None:
+    def _end(self, how: str, is_resident: bool, now: int) -> None:
         if not self.alive:
             return
         number = self.alive.pop()
-        self.processes[number].update(end=self.now, how=how)
+        self.processes[number].update(end=now, how=how)
         self._keep([it for it, held in self.held.items() if held[3] == number], "resident" if is_resident else "process ended")
 
     def _keep(self, segments: list[int], why: str) -> None:
         """Counts blocks that their program did not free."""
         for it in segments:
-            caller, step, size, process = self.held.pop(it)
+            back, step, size, process = self.held.pop(it)
             # (The same place of the same program, in whichever process.)
-            group = self.kept.setdefault((caller, self.processes[process]["name"], why), [0, 0, step, step, process])
+            group = self.kept.setdefault((caller_of(back), self.processes[process]["name"], why), [0, 0, step, step, process])
             group[0] += 1
             group[1] += size
             group[2], group[3] = min(group[2], step), max(group[3], step)
@@ -470,146 +547,137 @@ class Recorder:
 
     def run(self) -> None:
         """Runs the program to its end, to another stop or to the limit of steps."""
-        why, registers = Stop.STEPS, self.watched.registers()
-        while (why is Stop.STEPS or why is Stop.BREAKPOINT) and self.now < self.options.steps:
-            while self.left and self.left[-1] <= self.now:
-                self.left.pop()
-            services = SERVICES.get((registers.cs, registers.ip))
+        watched, left, most, why = self.watched, self.left, self.options.steps, Stop.STEPS.value
+        registers = watched.now()
+        while why in GOES_ON and self.now < most:
+            services = SERVICES.get((registers[CS], registers[IP]))
             if services is not None:
-                service = services.get(registers.ax >> 8)
-                if service is not None and (registers.ax & 1 or not service.is_odd):
-                    why, registers = self._service(service, registers)
+                service = services.get(registers[AX] >> 8)
+                if service is not None and (registers[AX] & 1 or not service.is_odd):
+                    registers = self._service(service, registers)
+                    why = registers[WHY]
                     continue
                 # (This call leaves memory's division as it is. A run does not stop at a breakpoint where it begins.)
                 self.others += 1
-            limit = min(self.left[-1], self.options.steps) if self.left else self.options.steps
-            why, self.now, registers = self.watched.run_until(limit - self.now)
-            if self.left and self.left[-1] == self.now:
+            while left[-1] <= self.now:
+                left.pop()
+            registers = watched.run_until(min(left[-1], most) - self.now)
+            why, self.now = registers[WHY], registers[STEPS]
+            if left[-1] == self.now:
                 self._found()
-        self._ended(why)
+        self._ended(Stop(why))
 
     def _found(self) -> None:
         """A moment for a finding that no call of memory has."""
         found = self.acts[self.now]
-        self.look(site_of(found), found.get("call") or found["instruction"], found["text"], "MPX", must=True)
+        self.look(site_of(found), found.get("call") or found["instruction"], found["text"], must=True)
 
-    def _service(self, service: Service, before: Registers) -> tuple[Stop, Registers]:
-        """The step of a service that may change memory's division, with a look after it; and the registers then."""
+    def _service(self, service: Service, before: Values) -> Values:
+        """The step of a service that may change memory's division; and the registers then. Its moment waits."""
         self.seen += 1
         is_kept = not self.seen % self.every
-        if service.is_ending or service.is_load:
-            return self._started_or_ended(service, before, is_kept)
-        is_found = bool(self.left) and self.left[-1] == self.now + 1
-        caller = self.watched.caller(before, service.is_interrupt)[1] if is_kept or is_found or service.is_followed else ""
-        why, after = self.watched.step()
+        is_usual = not self.stale and self.left[-1] > self.now + 1
+        # (Of a start or an end there is a moment until there are many.)
+        is_wanted = is_kept or service.is_process and len(self.must) < MOST_PROCESSES
+        back = self.watched.back(before, service.is_interrupt) if is_wanted or service.is_followed or not is_usual else NOWHERE
+        program, overlay = self.watched.program(before) if service.is_load else ("", None)
+        after, text = self.watched.performed(service.list if is_usual and is_wanted else None)
         # (A service that could not act is no step.)
-        self.now += why is Stop.STEPS
-        if is_found and self.left[-1] == self.now:
-            lists, must = self._fresh("MPX"), True
-        else:
-            lists, must = self._fresh(service.lists) if is_kept else "", False
-        if len(lists) <= 1:
-            self.waiting.append((service, self.now, before, after, caller, self.watched.listed(lists) if lists else None))
-            self.stale.update("" if lists else service.lists)
-            if len(self.waiting) == MOST_WAITING or len(self.moments) + len(self.waiting) > MOST_MOMENTS:
-                self._settle()
-        else:
-            self.waiting.append((service, self.now, before, after, caller, None))
-            refused = service.refused(after)
-            self.look(caller, service.name, told(service, before, after, refused), lists, refused, must=must)
-        return why, after
+        self.now += after[WHY] in ACTED
+        call = None
+        if service.is_process:
+            # (A program that is started has not returned.)
+            is_start = service.is_load and not before[AX] & 0xFF and (after[CS], after[IP]) != back[:2]
+            call = Call(Stop(after[WHY]), program, overlay, is_start, is_start or service.is_ending)
+            is_kept = is_kept or is_wanted and call.is_process
+        is_found = not is_usual and self._is_found()
+        listed = ((service.place, text),) if is_usual and is_kept else self._listed(service, is_kept, is_found)
+        self.waiting.append((service, self.now, before, after, back, listed, is_found, call))
+        if len(self.waiting) == MOST_WAITING or len(self.moments) + len(self.waiting) > MOST_MOMENTS:
+            self._settle()
+        return after
 
-    def _fresh(self, lists: str) -> str:
-        """These lists, and those that calls which were left out may have changed."""
-        if not self.stale:
-            return lists
-        lists = "".join(it for it in "MPX" if it in self.stale or it in lists)
-        self.stale.clear()
-        return lists
+    def _is_found(self) -> bool:
+        """Whether the checker has found something in the last step."""
+        while self.left[-1] < self.now:
+            self.left.pop()
+        return self.left[-1] == self.now
 
-    def _started_or_ended(self, service: Service, before: Registers, is_kept: bool) -> tuple[Stop, Registers]:
-        """The step of a call that may start or end a process."""
-        self._settle()
-        call, process = Call(self.watched, service, before), self.running()
-        why, after = self.watched.step()
-        self.now += why is Stop.STEPS or why is Stop.EXITED
-        is_found, is_start = bool(self.left) and self.left[-1] == self.now, call.has_started(after)
-        refused = 0 if service.is_ending or is_start else service.refused(after)
-        if is_start:
-            self._start(call.program, after.ds)
-        elif service.is_ending and why in (Stop.STEPS, Stop.EXITED):
-            self._end(call.how(), service.is_resident)
-        if is_start or service.is_ending or is_found or is_kept:
-            must = is_found or (is_start or service.is_ending) and len(self.must) < MOST_MOMENTS // 4
-            self.look(call.caller, service.name, call.told(after, why, refused), self._fresh(service.lists), refused, must, process)
-        else:
-            self.stale.update(service.lists)
-        return why, after
+    def _listed(self, service: Service, is_kept: bool, is_found: bool) -> Sequence[tuple[int, bytes]]:
+        """The texts of the lists that may have changed, with their places in a moment; none where no moment is kept."""
+        if is_found or is_kept and self.stale:
+            wanted = [it for it in LISTED if is_found or it in self.stale or it == service.list]
+            self.stale.clear()
+            return [(PLACES[it], self.watched.listed(it)) for it in wanted]
+        if is_kept:
+            return ((service.place, self.watched.listed(service.list)),)
+        self.stale.add(service.list)
+        return ()
 
     # -- what function 48h gave
 
-    def allocated(self, now: int, before: Registers, after: Registers, caller: str) -> None:
+    def allocated(self, now: int, before: Values, after: Values, back: Back) -> None:
         """Notes a block."""
-        self.held[after.ax] = (caller, now, before.bx, self.running())
+        self.held[after[AX]] = (back, now, before[BX], self.running())
 
-    def freed(self, _: int, before: Registers, *__: object) -> None:
+    def freed(self, _: int, before: Values, *__: object) -> None:
         """Forgets a block."""
-        self.held.pop(before.es, None)
+        self.held.pop(before[ES], None)
 
-    def resized(self, _: int, before: Registers, *__: object) -> None:
+    def resized(self, _: int, before: Values, *__: object) -> None:
         """Notes a block's new size."""
-        if before.es in self.held:
-            caller, step, _size, process = self.held[before.es]
-            self.held[before.es] = (caller, step, before.bx, process)
+        if before[ES] in self.held:
+            back, step, _size, process = self.held[before[ES]]
+            self.held[before[ES]] = (back, step, before[BX], process)
 
     def _ended(self, why: Stop) -> None:
         self._settle()
         self._keep(list(self.held), "run stopped")
         if why is not Stop.EXITED:
-            self.look("", f"the run stops: {why.name.lower().replace('_', ' ')}", "", "MPX", must=True)
+            self.look("", f"the run stops: {why.name.lower().replace('_', ' ')}", "", must=True)
 
 
 # ---- what calls are asked, and what they give
 
 
-def dos_refused(after: Registers) -> int:
+def dos_refused(after: Values) -> int:
     """The code with which a call of DOS was refused, or 0."""
-    return after.ax if after.flags & CARRY else 0
+    return after[AX] if after[FLAGS] & CARRY else 0
 
 
-def expanded_refused(after: Registers) -> int:
+def expanded_refused(after: Values) -> int:
     """The status of a call of the expanded memory driver."""
-    return after.ax >> 8
+    return after[AX] >> 8
 
 
-def extended_refused(after: Registers) -> int:
+def extended_refused(after: Values) -> int:
     """The code with which a call of the extended memory driver was refused, or 0."""
-    return 0 if after.ax else (after.bx & 0xFF) or 0x80
+    return 0 if after[AX] else (after[BX] & 0xFF) or 0x80
 
 
 REFUSED = {DOS: dos_refused, EXPANDED: expanded_refused, EXTENDED: extended_refused}
 # What a call was asked and gave, by the registers before it and after it, and whether it was refused.
-TEXTS: dict[tuple[int, int], dict[int, Callable[[Registers, Registers, int], str]]] = {
+TEXTS: dict[tuple[int, int], dict[int, Callable[[Values, Values, int], str]]] = {
     DOS: {
-        0x48: lambda before, after, code: f"{before.bx:X}h paragraphs" + ("" if code else f": block at {after.ax:04X}"),
-        0x49: lambda before, after, code: f"block at {before.es:04X}",
-        0x4A: lambda before, after, code: f"block at {before.es:04X} to {before.bx:X}h paragraphs",
-        0x58: lambda before, after, code: f"{'link of upper memory' if before.ax & 2 else 'strategy'} {before.bx:02X}h",
+        0x48: lambda before, after, code: f"{before[BX]:X}h paragraphs" + ("" if code else f": block at {after[AX]:04X}"),
+        0x49: lambda before, after, code: f"block at {before[ES]:04X}",
+        0x4A: lambda before, after, code: f"block at {before[ES]:04X} to {before[BX]:X}h paragraphs",
+        0x58: lambda before, after, code: f"{'link of upper memory' if before[AX] & 2 else 'strategy'} {before[BX]:02X}h",
     },
     EXPANDED: {
-        0x43: lambda before, after, code: f"{before.bx} pages" + ("" if code else f": handle {after.dx}"),
-        0x44: lambda before, after, code: f"window {before.ax & 0xFF}: " + ("no page" if before.bx == 0xFFFF else f"page {before.bx} of handle {before.dx}"),
+        0x43: lambda before, after, code: f"{before[BX]} pages" + ("" if code else f": handle {after[DX]}"),
+        0x44: lambda before, after, code: f"window {before[AX] & 0xFF}: " + ("no page" if before[BX] == 0xFFFF else f"page {before[BX]} of handle {before[DX]}"),
         0x4E: lambda before, after, code: "page map",
-        0x50: lambda before, after, code: f"{before.cx} windows: handle {before.dx}",
-        0x51: lambda before, after, code: f"handle {before.dx} to {before.bx} pages",
+        0x50: lambda before, after, code: f"{before[CX]} windows: handle {before[DX]}",
+        0x51: lambda before, after, code: f"handle {before[DX]} to {before[BX]} pages",
     },
     EXTENDED: {
         **dict.fromkeys(range(0x01, 0x07), lambda before, after, code: ""),
-        0x09: lambda before, after, code: f"{before.dx} KiB" + ("" if code else f": handle {after.dx}"),
-        0x0F: lambda before, after, code: f"handle {before.dx} to {before.bx} KiB",
-        0x10: lambda before, after, code: f"{before.dx:X}h paragraphs" + ("" if code else f": block at {after.bx:04X}"),
-        0x11: lambda before, after, code: f"block at {before.dx:04X}",
-        0x12: lambda before, after, code: f"block at {before.dx:04X} to {before.bx:X}h paragraphs",
+        0x09: lambda before, after, code: f"{before[DX]} KiB" + ("" if code else f": handle {after[DX]}"),
+        0x0F: lambda before, after, code: f"handle {before[DX]} to {before[BX]} KiB",
+        0x10: lambda before, after, code: f"{before[DX]:X}h paragraphs" + ("" if code else f": block at {after[BX]:04X}"),
+        0x11: lambda before, after, code: f"block at {before[DX]:04X}",
+        0x12: lambda before, after, code: f"block at {before[DX]:04X} to {before[BX]:X}h paragraphs",
     },
 }
 
@@ -618,70 +686,39 @@ class Service:
     """A function of a service: what is known of each call of it."""
 
     def __init__(self, entry: tuple[int, int], function: int) -> None:
-        self.entry, self.function, self.lists, self.is_interrupt = entry, function, LISTS[entry], entry is not EXTENDED
+        self.entry, self.function, self.list, self.is_interrupt = entry, function, LISTS[entry], entry is not EXTENDED
+        self.place = PLACES[self.list]
         if entry in NAMES:
             self.name = f"{TITLES[entry]} function {function:02X}h ({NAMES[entry][function]})"
         else:
             self.name = "INT 20h" if entry is TERMINATE else "interrupt 0"
         number = function if entry is DOS else None
         self.is_resident, self.is_load, self.is_ending = number == 0x31, number == 0x4B, entry not in NAMES or number in (0x00, 0x31, 0x4C)
+        self.is_process = self.is_load or self.is_ending
         # Whether only calls with an odd AL may change memory's division; whether the caller is wanted where nobody is told of the call.
-        self.is_odd, self.is_followed = number == 0x58, number == 0x48
+        self.is_odd, self.is_followed = number == 0x58, number == 0x48 or self.is_load
         self.hold = {0x48: Recorder.allocated, 0x49: Recorder.freed, 0x4A: Recorder.resized}.get(number)
         self.refused = REFUSED.get(entry)
-        self.text = TEXTS.get(entry, {}).get(function, lambda before, after, code: f"handle {before.dx}")
+        self.text = TEXTS.get(entry, {}).get(function, lambda before, after, code: f"handle {before[DX]}")
 
 
 # The services by their entries, and by the number in AH.
 SERVICES = {entry: {number: Service(entry, number) for number in NAMES.get(entry, range(0x100))} for entry in ENTRIES}
 
 
-def told(service: Service, before: Registers, after: Registers, code: int) -> str:
-    """What a call was asked and what it gave."""
-    text = service.text(before, after, code)
-    return f"{text}{': ' if text else ''}{refusal(service, after, code)}" if code else text
-
-
-def refusal(service: Service, after: Registers, code: int) -> str:
+def refusal(service: Service, after: Values, code: int) -> str:
     """That a call was refused."""
-    largest = f", largest {after.bx:X}h" if code == 8 and service.entry is DOS and service.function in (0x48, 0x4A) else ""
+    largest = f", largest {after[BX]:X}h" if code == 8 and service.entry is DOS and service.function in (0x48, 0x4A) else ""
     return f"refused with code {code:02X}h{largest}"
 
 
-class Call:
-    """A call that may start or end a process, from the service's entry on."""
-
-    def __init__(self, watched: Watched, service: Service, before: Registers) -> None:
-        self.service, self.before, self.program, self.at = service, before, "", 0
-        self.back, self.caller = watched.caller(before, service.is_interrupt)
-        if service.is_load:
-            self.program = shown(watched.read(before.ds, before.dx, 64).split(b"\0")[0])
-        if self.is_overlay():
-            (self.at,) = struct.unpack("<H", watched.read(before.es, before.bx, 2))
-
-    def is_overlay(self) -> bool:
-        """Whether the call loads an overlay."""
-        return self.service.is_load and self.before.ax & 0xFF == 3
-
-    def has_started(self, after: Registers) -> bool:
-        """Whether the call started a program: then it has not returned."""
-        return self.service.is_load and not self.before.ax & 0xFF and (after.cs, after.ip) != self.back
-
-    def how(self) -> str:
-        """How a call ends its process."""
-        before, service = self.before, self.service
-        if service.entry is DIVIDE:
-            return "ended by a division error"
-        if service.is_resident:
-            return f"stays resident with {before.dx:X}h paragraphs, code {before.ax & 0xFF}"
-        return f"ended with code {before.ax & 0xFF if service.entry is DOS and service.function == 0x4C else 0}"
-
-    def told(self, after: Registers, why: Stop, code: int) -> str:
-        """What the call was asked and what it gave."""
-        if self.service.is_ending:
-            return self.how() if why in (Stop.STEPS, Stop.EXITED) else f"{self.how()}: {why.name.lower()}"
-        text = f"overlay {self.program} at {self.at:04X}" if self.is_overlay() else f"starts {self.program}"
-        return f"{text}: {refusal(self.service, after, code)}" if code else text
+def how_ended(service: Service, before: Values) -> str:
+    """How a call ends its process."""
+    if service.entry is DIVIDE:
+        return "ended by a division error"
+    if service.is_resident:
+        return f"stays resident with {before[DX]:X}h paragraphs, code {before[AX] & 0xFF}"
+    return f"ended with code {before[AX] & 0xFF if service.entry is DOS and service.function == 0x4C else 0}"
 
 
 # ---- data and page
@@ -740,8 +777,10 @@ def record(
 def data(recorder: Recorder, programs: list[Program], options: Options, report: Report, command: str) -> dict[str, Any]:
     """The data of a page, which docs/picture.md describes."""
     every, kept = recorder.every, len(recorder.moments)
+    first = f" (of these the first {MOST_PROCESSES:,})" if len(recorder.must) >= MOST_PROCESSES else ""
     rule = f"Of {recorder.seen:,} calls about memory, one in {every:,} is shown, and besides these each at which the checker found something or a program"
-    rule += " starts or ends. What lived only between two of the shown ones is left out, and so are processes that made none of them. The list of what was not freed counts all calls."
+    rule += f" starts or ends{first}. What lived only between two of the shown ones is left out, and so are processes that made none of them. The list of what was not freed"
+    rule += " counts all calls."
     if every > 1:
         recorder.drop_processes()
     why = {"process ended": "freed by the end of the process", "resident": "kept by a resident program", "run stopped": "allocated when the run stopped"}
@@ -769,12 +808,12 @@ def short(moment: list[Any]) -> list[Any]:
     size = len(moment)
     while size > 1 and not moment[size - 1]:
         size -= 1
-    return [0 if it is None else it for it in moment[:size]]
+    return moment[:size]
 
 
 def text_of(recorded: dict[str, Any]) -> str:
     """The data as JSON, in ASCII."""
-    return json.dumps(recorded, separators=(",", ":"))
+    return json.dumps(recorded, check_circular=False, separators=(",", ":"))
 
 
 def page(recorded: dict[str, Any]) -> str:
@@ -793,7 +832,8 @@ def page(recorded: dict[str, Any]) -> str:
 def _beside(path: str) -> Iterator[Any]:
     """A file that takes the place of the one at this path when it is whole, and goes away where it is not."""
     folder = os.path.dirname(os.path.abspath(path))
-    number, beside = tempfile.mkstemp(prefix=".mezguld-", dir=folder)
+    beside = os.path.join(folder, f".mezguld-{os.urandom(8).hex()}")
+    number = os.open(beside, os.O_WRONLY | os.O_CREAT | os.O_EXCL, 0o600)
     try:
         with open(number, "w", encoding="utf-8") as file:
             yield file

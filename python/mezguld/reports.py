@@ -7,9 +7,9 @@ from __future__ import annotations
 
 import json
 import re
-from typing import Any
+from typing import Any, Dict
 
-Members = dict[str, Any]
+Members = Dict[str, Any]
 
 # What stands before the words of what a resident program holds.
 RESIDENT = "kept resident: "
@@ -77,32 +77,37 @@ def contents(signature: str, owner: str, size: str) -> Members:
 
 
 def site(segment: str, offset: str, before: bool) -> Members:
-    return address(("at", "cs", "ip"), segment, offset) | {"before": before}
+    return {**address(("at", "cs", "ip"), segment, offset), "before": before}
 
 
 def act(text: str) -> Members:
     """A call with its numbers, or an instruction."""
-    if found := FUNCTION.fullmatch(text):
+    found = FUNCTION.fullmatch(text)
+    if found:
         interrupt = {} if found[2] else {"interrupt": int(found[1], 16)}
-        return {"call": text} | interrupt | {"function": int(found[3], 16)}
+        return {"call": text, **interrupt, "function": int(found[3], 16)}
     if text == "interrupt 0":
         return {"call": text, "interrupt": 0}
-    if found := INTERRUPT.fullmatch(text):
+    found = INTERRUPT.fullmatch(text)
+    if found:
         return {"call": text, "interrupt": int(found[1], 16)}
     return {"instruction": text}
 
 
 def about(text: str, is_error: bool) -> tuple[str, Members]:
     """The kind of a finding, and what it is about; `unknown` for words of another version."""
-    if found := re.fullmatch(f"header at {WORD} overwritten: {CONTENTS} became {CONTENTS}", text):
+    found = re.fullmatch(f"header at {WORD} overwritten: {CONTENTS} became {CONTENTS}", text)
+    if found:
         return "overwritten", {"header": int(found[1], 16), "old": contents(*found.groups()[1:4]), "new": contents(*found.groups()[4:])}
+    rest = text[len(RESIDENT):] if text.startswith(RESIDENT) else text
     for kind, pattern, parts in KINDS:
-        if not (found := re.fullmatch(pattern, text.removeprefix(RESIDENT))):
+        found = re.fullmatch(pattern, rest)
+        if not found:
             continue
         values, members = list(found.groups()), {}
         for part in parts:
             if part == "address":
-                members |= address(("address", "segment", "offset"), values.pop(0), values.pop(0))
+                members.update(address(("address", "segment", "offset"), values.pop(0), values.pop(0)))
             else:
                 members[part[0]] = part[1](values.pop(0))
         if kind == "refused" and is_error:
@@ -121,10 +126,11 @@ def groups(pattern: re.Pattern[str], text: str) -> tuple[Any, ...]:
 
 def origin(text: str) -> tuple[str, Members]:
     """The words of a finding without the step that allocated, turned on or freed what it is about, and that step, if it is named."""
-    if not (found := ORIGIN.fullmatch(text)):
+    found = ORIGIN.fullmatch(text)
+    if not found:
         return text, {}
     words, verb, step, before, segment, offset = found.groups()
-    return words, {f"{verb.replace(' ', '_')}_by": {"step": int(step)} | site(segment, offset, bool(before))}
+    return words, {f"{verb.replace(' ', '_')}_by": {"step": int(step), **site(segment, offset, bool(before))}}
 
 
 def finding(text: str, is_error: bool) -> Members:
@@ -132,7 +138,7 @@ def finding(text: str, is_error: bool) -> Members:
     step, before, segment, offset, performed, what = groups(FOUND, text)
     words, by = origin(what)
     kind, members = about(words, is_error)
-    return {"kind": kind, "step": int(step)} | site(segment, offset, bool(before)) | act(performed) | members | by | {"text": what}
+    return {"kind": kind, "step": int(step), **site(segment, offset, bool(before)), **act(performed), **members, **by, "text": what}
 
 
 def stopped(line: str) -> Members:
@@ -143,14 +149,14 @@ def stopped(line: str) -> Members:
         code = {"bytes": [int(byte, 16) for byte in what.split()]}
     elif what:
         code = act(what)
-    return {"type": "stopped", "reason": reason} | site(segment, offset, place == "before") | code
+    return {"type": "stopped", "reason": reason, **site(segment, offset, place == "before"), **code}
 
 
 def process(line: str) -> Members:
     """The object about a process."""
     prefix, name, parent, first, last, only = groups(PROCESS, line)
     ended: Members = {"last": int(last)} if last else {}
-    return {"type": "process", "process": int(prefix, 16), "name": name, "parent": int(parent, 16), "first": int(first or only)} | ended
+    return {"type": "process", "process": int(prefix, 16), "name": name, "parent": int(parent, 16), "first": int(first or only), **ended}
 
 
 def objects(lines: list[str], status: int | None) -> list[Any]:
@@ -163,10 +169,10 @@ def objects(lines: list[str], status: int | None) -> list[Any]:
         if word in ("error", "note"):
             if word == "error":
                 errors.add(rest)
-            made.append({"type": word} | finding(rest, word == "error"))
+            made.append({"type": word, **finding(rest, word == "error")})
         elif word == "again":
             text, more, last = groups(AGAIN, rest)
-            made.append({"type": "again"} | finding(text, text in errors) | {"more": int(more), "last": int(last)})
+            made.append({"type": "again", **finding(text, text in errors), "more": int(more), "last": int(last)})
         elif word == "not listed":
             made.append({"type": "not_listed", "findings": int(rest.split()[0])})
         elif word == "errors":

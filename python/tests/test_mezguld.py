@@ -1,6 +1,7 @@
 """Tests of the module `mezguld` over the built library. From the top: `python3 -m unittest discover -s python/tests -t python`."""
 import copy
 import ctypes
+import dataclasses
 import gc
 import os
 import pickle
@@ -17,7 +18,7 @@ ROOT = os.path.dirname(os.path.dirname(os.path.dirname(os.path.abspath(__file__)
 sys.path.insert(0, os.path.join(ROOT, "python"))
 import mezguld  # noqa: E402
 from mezguld import (  # noqa: E402
-    Act, Block, Contents, Details, Ended, Event, FindingKind, How, Machine, Origin, Place, Stop, Stopped,
+    Act, Block, Contents, Details, Ended, Event, Expanded, Extended, FindingKind, How, Machine, Origin, PageHandle, Place, Stop, Stopped, UpperBlock, Window,
 )
 
 # Prints what it reads until there is no input.
@@ -279,6 +280,52 @@ class Memory(unittest.TestCase):
             self.assertIn("sp=0xFFFE", f"{machine.registers}")
 
 
+def fields(record: object) -> tuple:
+    """The values of the fields of a data class."""
+    return tuple(getattr(record, it.name) for it in dataclasses.fields(record))
+
+
+class Records(unittest.TestCase):
+    """Data classes."""
+
+    def test_none_changes(self) -> None:
+        with started(DRIVERS) as machine:
+            machine.run(1000)
+            expanded, extended = machine.expanded(), machine.extended()
+            told = [*machine.blocks(), *expanded.handles, expanded.windows[1], expanded, *extended.blocks, *extended.upper, extended, *machine.code(0x0103, 0x0100, 2)]
+            machine.check(1)
+        for it in told:
+            with self.subTest(type(it).__name__):
+                self.assertTrue(dataclasses.is_dataclass(it))
+                for field in dataclasses.fields(it):
+                    self.assertRaises(dataclasses.FrozenInstanceError, setattr, it, field.name, 0)
+                self.assertEqual(dataclasses.replace(it), it)
+                self.assertNotEqual(it, fields(it))
+                self.assertEqual((copy.deepcopy(it), pickle.loads(pickle.dumps(it))), (it, it))
+        blocks = [it for it in told if isinstance(it, Block)]
+        self.assertEqual(len(set(blocks)), len(blocks))
+
+    def test_what_is_given_wrong_is_named(self) -> None:
+        with started(END) as machine:
+            for word, call in (
+                ("breakpoints are a list", lambda: machine.run_until(5, (0x0103, 0x0100))), ("events are a list", lambda: machine.run_to(5, Event.at_call(0x21))),
+                ("steps is '5'", lambda: machine.run("5")), ("bytes are wanted", lambda: machine.write(0, 0, "text")),
+                ("all registers are wanted", lambda: setattr(machine, "registers", {"ax": 1})),
+            ):
+                self.assertRaisesRegex(TypeError, word, call)
+
+    def test_names_of_the_package(self) -> None:
+        for name in mezguld.__all__:
+            self.assertIn(name, dir(mezguld))
+            self.assertIsNotNone(getattr(mezguld, name))
+        self.assertRaises(AttributeError, getattr, mezguld, "Nothing")
+        self.assertIs(mezguld.Block, mezguld.records.Block)
+        program = "import sys, mezguld; before = 'mezguld.records' in sys.modules; mezguld.Block; print(before, 'mezguld.records' in sys.modules)"
+        environment = {**os.environ, "PYTHONPATH": os.path.join(ROOT, "python")}
+        said = subprocess.run([sys.executable, "-c", program], env=environment, stdout=subprocess.PIPE, check=True).stdout
+        self.assertEqual(said.split(), [b"False", b"True"])
+
+
 class Reports(unittest.TestCase):
     """What the checker has found."""
 
@@ -298,10 +345,10 @@ class Reports(unittest.TestCase):
         self.assertEqual((found.errors, found.notes, found.unlisted, len(found)), (2, 3, 0, 3))
         place, act = Place(0x0103, 0x0105), Act(How.INSTRUCTION, next=0x010B)
         old, new = Contents(0x5A, 0x0103, 0x9EFD), Contents(0, 0x0103, 0x9EFD)
-        self.assertEqual(found[0][:10], (FindingKind.OVERWRITTEN, True, 3, 0x0103, place, act, Details(old, new, header=0x0102), None, 0, 3))
-        self.assertEqual(found[1][:10], (FindingKind.DESTROYED, True, 3, 0x0103, place, act, Details(header=0x0102), None, 0, 3))
+        self.assertEqual(fields(found[0])[:10], (FindingKind.OVERWRITTEN, True, 3, 0x0103, place, act, Details(old, new, header=0x0102), None, 0, 3))
+        self.assertEqual(fields(found[1])[:10], (FindingKind.DESTROYED, True, 3, 0x0103, place, act, Details(header=0x0102), None, 0, 3))
         act = Act(How.FUNCTION, interrupt=0x21, function=0x48)
-        self.assertEqual(found[2][:10], (FindingKind.REFUSED, False, 8, 0x0103, Place(0x0103, 0x0113), act, Details(code=7), None, 2, 18))
+        self.assertEqual(fields(found[2])[:10], (FindingKind.REFUSED, False, 8, 0x0103, Place(0x0103, 0x0113), act, Details(code=7), None, 2, 18))
         self.assertEqual([it.line for it in found], report.splitlines()[:3])
         self.assertEqual(found[1].line, "error: step 3, 0103:0105 ES MOV BYTE [00000h],000h: arena destroyed at 0102")
         self.assertEqual(f"{found[0].details}", f"Details(old_contents={old}, new_contents={new}, header=258)")
@@ -394,19 +441,19 @@ move: DW 6,0,0,0,0,1,8,0
 class Drivers(unittest.TestCase):
     def test_expanded_memory(self) -> None:
         with started(DRIVERS) as machine:
-            nobody = mezguld.PageHandle(0, 0, bytes(8))
-            self.assertEqual(machine.expanded(), ([nobody], [None] * 4))
+            nobody = PageHandle(0, 0, bytes(8))
+            self.assertEqual(machine.expanded(), Expanded([nobody], [None] * 4))
             self.assertEqual(machine.run(1000).why, Stop.HALTED)
-            self.assertEqual(machine.expanded(), ([nobody, (1, 2, b"EIGHT<<<", False)], [None, (1, 1), None, None]))
+            self.assertEqual(machine.expanded(), Expanded([nobody, PageHandle(1, 2, b"EIGHT<<<", False)], [None, Window(1, 1), None, None]))
 
     def test_extended_memory(self) -> None:
         with started(DRIVERS) as machine:
-            self.assertEqual(machine.extended(), ([], [], False, False))
+            self.assertEqual(machine.extended(), Extended([], [], False, False))
             machine.run(1000)
             found = machine.extended()
             self.assertEqual([(it.handle, it.kib, it.locks) for it in found.blocks], [(1, 16, 0)])
             self.assertGreaterEqual(found.blocks[0].address, 0x110000)
-            self.assertEqual((found.upper, found.a20, found.high_memory_area), ([(0xD000, 8)], False, False))
+            self.assertEqual((found.upper, found.a20, found.high_memory_area), ([UpperBlock(0xD000, 8)], False, False))
             self.assertEqual(repr(found.upper[0]), "UpperBlock(segment=0xD000, size=8)")
 
     def test_bytes_by_handle(self) -> None:
@@ -416,7 +463,8 @@ class Drivers(unittest.TestCase):
             self.assertRaises(mezguld.NoHandle, machine.read_block, 1)
             self.assertEqual(machine.run(1000).why, Stop.HALTED)
             # Page 1 was written to through window 0, which shows page 0 since, and whose windows are saved.
-            self.assertEqual(machine.expanded(), ([(0, 0, bytes(8), False), (1, 2, bytes(8), True)], [(1, 0), None, None, None]))
+            handles = [PageHandle(0, 0, bytes(8)), PageHandle(1, 2, bytes(8), True)]
+            self.assertEqual(machine.expanded(), Expanded(handles, [Window(1, 0), None, None, None]))
             self.assertEqual((machine.read_page(1, 1, 5, 4), machine.read_page(1, 0)), (b"\0AB\0", bytes(0x4000)))
             page = bytearray(0x4000)
             page[6:8] = b"AB"
@@ -444,7 +492,7 @@ class Drivers(unittest.TestCase):
             machine.load("MAIN.COM")
             blocks = machine.blocks()
             self.assertEqual([it.segment for it in blocks if it.list == 1], [0x9FFF, 0xD000])
-            self.assertEqual([it[1:4] for it in blocks if it.list == 1], [(False, 8, 0x3000), (True, 0, 0x0FFF)])
+            self.assertEqual([fields(it)[1:4] for it in blocks if it.list == 1], [(False, 8, 0x3000), (True, 0, 0x0FFF)])
             self.assertEqual([it.list for it in blocks if it.last], [0, 1])
             machine.write(0xD000, 0, b"?")
             self.assertEqual((machine.blocks(), machine.blocks().destroyed), (blocks[:-1], 0xD000))

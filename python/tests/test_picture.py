@@ -138,7 +138,7 @@ class Records(unittest.TestCase):
         whole = picture.record(programs)
         self.assertEqual(len(whole["processes"]), 201)
         self.assert_lists(whole, programs, Options())
-        with mock.patch.object(picture, "MOST_MOMENTS", 40):
+        with mock.patch.multiple(picture, MOST_MOMENTS=40, MOST_PROCESSES=10):
             data = picture.record(programs)
         self.assertLess(len(data["processes"]), 40)
         self.assert_lists(data, programs, Options())
@@ -246,7 +246,7 @@ class Splices(unittest.TestCase):
             listing = picture.Listing()
             listing.change(before)
             splice = listing.change(after)
-            self.assertEqual(splice is None, old == new)
+            self.assertEqual(splice == 0, old == new)
             if splice:
                 at, count, lines = splice
                 self.assertEqual(old[:at] + lines + old[at + count :], new)
