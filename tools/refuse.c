@@ -3,7 +3,8 @@
    The variable REFUSE is a letter and a number N, counted from 1:
      m  the N-th allocation (malloc, realloc) fails                    M  this one and all after it
      i  the N-th open, read or write fails with EIO                    s  the N-th read or write of several bytes moves one
-   To the descriptor in REFUSE_REPORT it writes `open FD PATH` for each file that was opened, and `refused CALL FD` for each failed call.
+   To the descriptor in REFUSE_REPORT it writes `open FD PATH` for each file that was opened, `refused CALL FD` for each failed call, and `refused memory BYTES`
+   for each failed allocation.
    It is compiled without headers, because the kit has none. */
 
 typedef unsigned long size_t;
@@ -48,18 +49,18 @@ __attribute__((constructor)) static void begin(void)
     kind = *what;
 }
 
-static void tell(const char *what, int file, const char *path)
+static void tell(const char *what, size_t count, const char *path)
 {
-    char line[4200];
-    size_t n = 0, at;
+    char line[4200], digits[20];
+    size_t n = 0, at, used = 0;
     for (at = 0; at < length(what); at++)
         line[n++] = what[at];
     line[n++] = ' ';
-    if (file >= 100)
-        line[n++] = (char)('0' + file / 100 % 10);
-    if (file >= 10)
-        line[n++] = (char)('0' + file / 10 % 10);
-    line[n++] = (char)('0' + file % 10);
+    do
+        digits[used++] = (char)('0' + count % 10);
+    while ((count /= 10));
+    while (used)
+        line[n++] = digits[--used];
     line[n++] = ' ';
     for (at = 0; path[at] && at < 4096; at++)
         line[n++] = path[at];
@@ -76,11 +77,11 @@ static int is_refused(char of_kind)
     return made == wanted || (kind == 'M' && made > wanted);
 }
 
-static int is_growth_refused(void)
+static int is_growth_refused(size_t size)
 {
     int refused = is_refused('m') || is_refused('M');
     if (refused) {
-        tell("refused memory", 0, "");
+        tell("refused memory", size, "");
         *__errno_location() = OUT_OF_MEMORY;
     }
     return refused;
@@ -88,23 +89,23 @@ static int is_growth_refused(void)
 
 void *malloc(size_t size)
 {
-    return is_growth_refused() ? 0 : __libc_malloc(size);
+    return is_growth_refused(size) ? 0 : __libc_malloc(size);
 }
 
 void *realloc(void *old, size_t size)
 {
-    return is_growth_refused() ? 0 : __libc_realloc(old, size);
+    return is_growth_refused(size) ? 0 : __libc_realloc(old, size);
 }
 
 static ssize_t transfer(long call, const char *name, int file, void *bytes, size_t count)
 {
     if (is_refused('i')) {
-        tell(name, file, "");
+        tell(name, (size_t)file, "");
         *__errno_location() = FAILED;
         return -1;
     }
     if (count > 1 && is_refused('s')) {
-        tell(name, file, "");
+        tell(name, (size_t)file, "");
         count = 1;
     }
     return syscall(call, file, bytes, count);
@@ -141,7 +142,7 @@ int open(const char *path, int flags, ...)
     }
     file = (int)syscall(OPEN, path, flags, mode);
     if (file >= 0)
-        tell("open", file, path);
+        tell("open", (size_t)file, path);
     return file;
 }
 
