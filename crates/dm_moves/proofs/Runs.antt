@@ -4,7 +4,8 @@ use Rattle.std.specs.Prelude.{slice_index}
 use Rattle.std.proofs.lemmas.List.{length-set, get_or_default}
 use Rattle.dm_region.specs.Parts.{part, with_part}
 use Rattle.dm_pool.specs.Blocks.{with_content, moved_bytes}
-use Rattle.dm_pool.proofs.Blocks.{part_length, set_twice, twice, written, elsewhere}
+use Rattle.dm_region.proofs.Written.{twice, written, elsewhere}
+use Rattle.dm_pool.proofs.Blocks.{part_length, set_twice}
 use Rattle.dm_region.proofs.Bytes.{length-with_part}
 use Rattle.dm_space.specs.declared.place.Place.TheVariants.{Page}
 use Rattle.dm_space.specs.Copies.{values, writes, copied_in, copied_out, block_copied_in, block_copied_out}

@@ -9,6 +9,7 @@ use Rattle.std.proofs.lemmas.List.{append_assoc, append-nil}
 use Rattle.std.specs.Prelude.{min, ◌-◌, IfSome}
 use Rattle.std.proofs.lemmas.List.{map-set, get_or-set_same, get_or-set_other}
 use Rattle.std.proofs.lemmas.Option.{none-some, same_Some}
+use Rattle.dm_region.proofs.Written.{elsewhere, written}
 use Rattle.dm_region.specs.Parts.{part, with_part}
 use Rattle.dm_pool.specs.declared.extent.Extent.{Extent}
 use Rattle.dm_pool.specs.Gaps.{overlaps, is_clear, is_free, first_passing, lowest, first_empty, next_index}
@@ -16,46 +17,6 @@ use Rattle.dm_pool.specs.Blocks.{Blocks, content, contents_of, Apart, IsPool, ze
 use Rattle.std.specs.List.{refill, length_refill}
 use Rattle.std.proofs.lemmas.List.{length-take, length-drop}
 use Rattle.dm_pool.proofs.Gaps.{covered, hits, below_or_not}
-
-start : (M P : ℕ) (xs r : List ℕ) → M ≤ P → P ≤ length xs → take M (take P xs ++ r) ≡ take M xs
-start zero P xs r le in' = refl
-start (suc M) zero xs r le in' = absurd (omega arith)
-start (suc M) (suc P) [] r le in' = absurd (omega arith)
-start (suc M) (suc P) (x ∷ xs) r le in' = ap (λ l. x ∷ l) (start M P xs r (omega arith) (omega arith))
-
-earlier : (Q M P : ℕ) (xs r : List ℕ) → Q + M ≤ P → P ≤ length xs → take M (drop Q (take P xs ++ r)) ≡ take M (drop Q xs)
-earlier zero M P xs r le in' = start M P xs r (omega arith) in'
-earlier (suc Q) M zero xs r le in' = absurd (omega arith)
-earlier (suc Q) M (suc P) [] r le in' = absurd (omega arith)
-earlier (suc Q) M (suc P) (x ∷ xs) r le in' = earlier Q M P xs r (omega arith) (omega arith)
-
-past : (Q : ℕ) (ws xs : List ℕ) → length ws ≤ Q → length ws ≤ length xs → drop Q (ws ++ drop (length ws) xs) ≡ drop Q xs
-past Q [] xs le in' = refl
-past zero (w ∷ ws) xs le in' = absurd (omega arith)
-past (suc Q) (w ∷ ws) [] le in' = absurd (omega arith)
-past (suc Q) (w ∷ ws) (x ∷ xs) le in' = past Q ws xs (omega arith) (omega arith)
-
-later : (P Q K : ℕ) (ws xs : List ℕ) → K ≡ P + length ws → K ≤ Q → K ≤ length xs → drop Q (take P xs ++ (ws ++ drop K xs)) ≡ drop Q xs
-later zero Q K ws xs e le in' = let same : K ≡ length ws = omega arith in ap (λ n. drop Q (ws ++ drop n xs)) same ∙ past Q ws xs (omega arith) (omega arith)
-later (suc P) zero K ws xs e le in' = absurd (omega arith)
-later (suc P) (suc Q) zero ws xs e le in' = absurd (omega arith)
-later (suc P) (suc Q) (suc K) ws [] e le in' = absurd (omega arith)
-later (suc P) (suc Q) (suc K) ws (x ∷ xs) e le in' = later P Q K ws xs (omega arith) (omega arith) (omega arith)
-
-here : (P : ℕ) (ws xs r : List ℕ) → P ≤ length xs → take (length ws) (drop P (take P xs ++ (ws ++ r))) ≡ ws
-here zero ws xs r le = take-append_seam ws r
-here (suc P) ws [] r le = absurd (omega arith)
-here (suc P) ws (x ∷ xs) r le = here P ws xs r (omega arith)
-
--- another part is as it was
-pub elsewhere : (xs ws : List ℕ) (P N Q M : ℕ) → length ws ≡ N → P + N ≤ length xs → (Q + M ≤ P) ⊎ (P + N ≤ Q) → part (with_part xs P N ws) Q M ≡ part xs Q M
-elsewhere xs ws P N Q M e in' far = elim far [
-  | inl h ↦ earlier Q M P xs (ws ++ drop (P + N) xs) h (omega arith)
-  | inr h ↦ ap (take M) (later P Q (P + N) ws xs (omega arith) h in')
-]
-
-pub written : (xs ws : List ℕ) (P N : ℕ) → length ws ≡ N → P + N ≤ length xs → part (with_part xs P N ws) P N ≡ ws
-written xs ws P N e in' = ap (λ n. take n (drop P (with_part xs P N ws))) (sym e) ∙ here P ws xs (drop (P + N) xs) (omega arith)
 
 -- the blocks' bytes, where all of them lie elsewhere
 pub kept : (places : List (Option Extent)) (xs ys : List ℕ) → ((i : ℕ) (d : Extent) → get_or places i None ≡ Some d → content ys (Some d) ≡ content xs (Some d)) → contents_of places ys ≡ contents_of places xs
@@ -163,19 +124,6 @@ module _ (n : ℕ) (places : List (Option Extent)) (xs : List ℕ) (is : IsPool 
       let s : Blocks = record { units = n; places = places; contents = contents_of places xs } in
       ap (λ o. resized_from s k b.units o) e ∙ ap (λ o. at_base s k b.units o) f
       ∙ ap (λ l. Some (record { units = n; places = set places k (Some b); contents = l })) (ap (set (contents_of places xs) k) (ap (λ l. fitted l b.units) (content_of places k c xs e) ∙ sym z) ∙ sym new_contents)
-
--- two writes side by side are one
-upto : (P Q : ℕ) (xs a r : List ℕ) → Q ≡ P + length a → P ≤ length xs → take Q (take P xs ++ (a ++ r)) ≡ take P xs ++ a
-upto zero Q xs a r e le = let same : Q ≡ length a = omega arith in ap (λ n. take n (a ++ r)) same ∙ take-append_seam a r
-upto (suc P) zero xs a r e le = absurd (omega arith)
-upto (suc P) (suc Q) [] a r e le = absurd (omega arith)
-upto (suc P) (suc Q) (x ∷ xs) a r e le = ap (λ l. x ∷ l) (upto P Q xs a r (omega arith) (omega arith))
-
-pub twice : (xs a z : List ℕ) (P N M : ℕ) → length a ≡ N → length z ≡ M → P + N + M ≤ length xs → with_part (with_part xs P N a) (P + N) M z ≡ with_part xs P (N + M) (a ++ z)
-twice xs a z P N M ea ez le =
-    let Q = P + N in let R = P + N + M in let rest = drop Q xs in let ys = take P xs ++ (a ++ rest) in let end : R ≡ P + (N + M) = omega arith in
-    ap (λ l. l ++ (z ++ drop R ys)) (upto P Q xs a rest (omega arith) (omega arith)) ∙ ap (λ l. (take P xs ++ a) ++ (z ++ l)) (later P R Q a xs (omega arith) (omega arith) (omega arith))
-    ∙ append_assoc (take P xs) a (z ++ drop R xs) ∙ ap (λ l. take P xs ++ l) (sym (append_assoc a z (drop R xs))) ∙ ap (λ k. take P xs ++ ((a ++ z) ++ drop k xs)) end
 
 take_zeros : (n m : ℕ) → n ≤ m → take {A = ℕ} n (replicate m 0) ≡ replicate n 0
 take_zeros zero m le = refl

@@ -12,7 +12,7 @@ use Rattle.dm_pool.specs.inner.Parts.{IsLaidOut, IsSpan}
 use Rattle.dm_pool.specs.Stored.{Stored}
 use Rattle.dm_pool.specs.inner.Stored.{IsStore, stored, low_part, scratch_part, pool_part}
 use Rattle.dm_pool.proofs.Blocks.{part_length, refilled, content_of}
-use Rattle.dm_pool.proofs.Parts.{part_in, part_rewritten}
+use Rattle.dm_region.proofs.Parts.{part_in, part_rewritten}
 use Rattle.dm_pool.proofs.Stored.{lent, lent_length, lent_elsewhere, lent_whole, block_left, block_store, block_stored, same_stored}
 
 pub laid_out : (l : Layout) (xs : List ℕ) (v : Stored) (p : Part) → stored xs l ≡ v → HasPart v p → IsLaidOut l p

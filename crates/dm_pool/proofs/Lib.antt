@@ -11,7 +11,6 @@ pub mod Layouts
 pub mod Maximal
 pub mod Moved
 pub mod Order
-pub mod Parts
 pub mod Spelled
 pub mod Stored
 pub mod Coming

@@ -9,7 +9,7 @@ use Rattle.dm_pool.specs.inner.Order.{Layout, blocks_in}
 use Rattle.dm_pool.specs.Stored.{Stored, refit}
 use Rattle.dm_pool.specs.inner.Stored.{IsStore, stored, low_part, scratch_part, pool_part}
 use Rattle.dm_pool.proofs.Blocks.{part_length, refilled, content_of}
-use Rattle.dm_pool.proofs.Parts.{part_in, part_rewritten}
+use Rattle.dm_region.proofs.Parts.{part_in, part_rewritten}
 use Rattle.dm_pool.proofs.Stored.{block_left, block_store, block_stored}
 
 module _ (xs : List ℕ) (l : Layout) (i j : ℕ) (a b : Extent) (from to len : ℕ) (s : IsStore xs l) (laid : IsLaid l.units l.places) (based : AreBased l.places)

@@ -13,9 +13,10 @@ use Rattle.dm_pool.specs.inner.FreeList.{IsTold}
 use Rattle.dm_pool.specs.inner.Order.{Layout, IsToldIn, blocks_in}
 use Rattle.dm_pool.specs.Stored.{Stored, refit, zeros_of}
 use Rattle.dm_pool.specs.inner.Stored.{IsStore, stored, low_part, scratch_part, pool_part}
-use Rattle.dm_pool.proofs.Blocks.{elsewhere, written, part_length, refilled, lent_is}
+use Rattle.dm_region.proofs.Written.{elsewhere, written}
+use Rattle.dm_pool.proofs.Blocks.{part_length, refilled, lent_is}
 use Rattle.dm_pool.proofs.Layouts.{pool_of}
-use Rattle.dm_pool.proofs.Parts.{part_in, part_with_part}
+use Rattle.dm_region.proofs.Parts.{part_in, part_with_part}
 use Rattle.dm_pool.proofs.Told.{told_lent}
 
 pub length-zeros_of : (n : ℕ) → length (zeros_of n) ≡ n

@@ -1,3 +1,4 @@
 pub mod Ends
+pub mod Holes
 pub mod Parts
 pub mod inner

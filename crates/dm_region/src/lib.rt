@@ -3,6 +3,7 @@
 #![tactic(auto)]
 
 mod cells;
+mod filling;
 mod region;
 
 pub use cells::ends_mut;

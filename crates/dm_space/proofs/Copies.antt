@@ -8,7 +8,8 @@ use Rattle.std.specs.Prelude.{slice_index_or, min}
 use Rattle.dm_region.specs.Parts.{part, with_part}
 use Rattle.dm_region.proofs.Bytes.{length-with_part}
 use Rattle.dm_pool.specs.Blocks.{with_content}
-use Rattle.dm_pool.proofs.Blocks.{part_length, set_twice, twice}
+use Rattle.dm_region.proofs.Written.{twice}
+use Rattle.dm_pool.proofs.Blocks.{part_length, set_twice}
 use Rattle.dm_space.specs.declared.place.Place.{Place}
 use Rattle.dm_space.specs.declared.place.Place.TheVariants.{Low, Page, Rom, Nothing}
 use Rattle.dm_space.specs.Copies.{values, reads, writes, copied_in, copied_out}

@@ -4,7 +4,7 @@ use Rattle.std.proofs.lemmas.List.{length-replicate}
 use Rattle.dm_region.specs.Parts.{with_part}
 use Rattle.dm_pool.specs.Blocks.{zeros}
 use Rattle.dm_pool.proofs.Blocks.{resized_bytes, fitted_is}
-use Rattle.dm_pool.proofs.Parts.{copied_part}
+use Rattle.dm_region.proofs.Parts.{copied_part}
 use Rattle.dm_pool.proofs.pool.move_block.Goals as goal
 
 pub returns : goal.returns

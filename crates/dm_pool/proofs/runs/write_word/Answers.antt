@@ -1,7 +1,8 @@
 use Rattle.std.proofs.Common.{◌≡◌, ◌+◌, ◌-◌, ap, ◌∙◌, length, take, drop, arith}
 use Rattle.dm_region.specs.Parts.{part}
-use Rattle.dm_pool.proofs.Blocks.{elsewhere, part_length}
-use Rattle.dm_pool.proofs.Parts.{mid_part}
+use Rattle.dm_region.proofs.Written.{elsewhere}
+use Rattle.dm_pool.proofs.Blocks.{part_length}
+use Rattle.dm_region.proofs.Parts.{mid_part}
 use Rattle.dm_pool.proofs.runs.write_word.Goals as goal
 
 pub returns-clause-kept : goal.returns-clause-kept

@@ -2,7 +2,7 @@ use Rattle.std.proofs.Common.{◌*◌, None, [], get_or, sym, ap, ◌∙◌, ari
 use Rattle.dm_pool.specs.Stored.{Stored}
 use Rattle.dm_pool.specs.inner.Stored.{pool_part}
 use Rattle.dm_pool.proofs.Blocks.{content_of}
-use Rattle.dm_pool.proofs.Parts.{part_in}
+use Rattle.dm_region.proofs.Parts.{part_in}
 use Rattle.dm_pool.proofs.store.Store.bytes.Goals as goal
 
 pub place_of-place-requires : goal.place_of-place-requires

@@ -3,7 +3,7 @@ use Rattle.dm_pool.specs.Blocks.{with_content}
 use Rattle.dm_pool.specs.Stored.{Stored, refit}
 use Rattle.dm_pool.specs.inner.Stored.{pool_part}
 use Rattle.dm_pool.proofs.Blocks.{content_of}
-use Rattle.dm_pool.proofs.Parts.{part_in}
+use Rattle.dm_region.proofs.Parts.{part_in}
 use Rattle.dm_pool.proofs.Stored.{block_store, block_stored}
 use Rattle.dm_pool.proofs.store.Store.bytes_mut.Goals as goal
 

@@ -7,7 +7,7 @@ use Rattle.dm_pool.specs.Stored.{Stored}
 use Rattle.dm_pool.proofs.Fits.{tells_gaps}
 use Rattle.dm_pool.proofs.Blocks.{part_length}
 use Rattle.dm_pool.proofs.Layouts.{pool_of}
-use Rattle.dm_pool.proofs.Parts.{parts_joined}
+use Rattle.dm_region.proofs.Parts.{parts_joined}
 use Rattle.dm_pool.proofs.Stored.{pool_fits, pool_told}
 use Rattle.dm_pool.proofs.store.Store.free_list.Goals as goal
 
