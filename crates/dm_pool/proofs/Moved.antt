@@ -1,5 +1,5 @@
 -- Bytes of one block, copied into another or the same one.
-use Rattle.std.proofs.Common.{◌≡◌, ℕ, ◌+◌, ◌*◌, ◌≤◌, List, [], length, get_or, Some, None, sym, ap, ◌∙◌, subst, arith}
+use Rattle.std.proofs.Common.{◌≡◌, Bool, true, ℕ, ◌+◌, ◌*◌, ◌≤◌, List, [], length, get_or, Some, None, sym, ap, ◌∙◌, subst, arith}
 use Rattle.dm_region.specs.Parts.{part, with_part}
 use Rattle.dm_region.proofs.Bytes.{length-with_part}
 use Rattle.dm_pool.specs.declared.extent.Extent.{Extent}
@@ -12,7 +12,7 @@ use Rattle.dm_pool.proofs.Blocks.{part_length, refilled, content_of}
 use Rattle.dm_region.proofs.Parts.{part_in, part_rewritten}
 use Rattle.dm_pool.proofs.Stored.{block_left, block_store, block_stored}
 
-module _ (xs : List ℕ) (l : Layout) (i j : ℕ) (a b : Extent) (from to len : ℕ) (s : IsStore xs l) (laid : IsLaid l.units l.places) (based : AreBased l.places)
+module _ (xs : List ℕ) (l : Layout) (i j : ℕ) (a b : Extent) (from to len : ℕ) (s : IsStore xs l true) (laid : IsLaid l.units l.places) (based : AreBased l.places)
     (at : get_or l.places i None ≡ Some a) (goes : get_or l.places j None ≡ Some b) (source : from + len ≤ a.units * 1024) (destination : to + len ≤ b.units * 1024) where
   abbrev p : List ℕ
   p = pool_part xs l.units
@@ -66,8 +66,8 @@ module _ (xs : List ℕ) (l : Layout) (i j : ℕ) (a b : Extent) (from to len : 
       ∙ ap (λ (o : List ℕ). with_part xs (0x310000 + b.base * 1024) (b.units * 1024) (with_part o to len bytes)) here
       ∙ ap (λ (w : List ℕ). with_part xs (0x310000 + b.base * 1024) (b.units * 1024) w) (sym (refilled (b.units * 1024) (part xs (0x310000 + b.base * 1024) (b.units * 1024)) left left_long))
 
-  pub moved_store : IsStore copied l
-  moved_store = subst (λ (ys : List ℕ). IsStore ys l) (sym as_left) (block_store xs l j b left s laid based goes)
+  pub moved_store : IsStore copied l true
+  moved_store = subst (λ (ys : List ℕ). IsStore ys l true) (sym as_left) (block_store xs l j b left s laid based goes)
 
   refitted : refit (get_or (contents_of l.places p) j []) left ≡ left
   refitted =
@@ -85,7 +85,7 @@ module _ (xs : List ℕ) (l : Layout) (i j : ℕ) (a b : Extent) (from to len : 
       ap (λ (ys : List ℕ). stored ys l) as_left ∙ block_stored xs l j b left s laid based goes ∙ ap with_blocks (ap (with_content (blocks_in l p) j) refitted ∙ as_moved)
 
 -- what lies within a block's bytes lies within its units
-pub within_units : (xs : List ℕ) (l : Layout) (v : Stored) (i n : ℕ) (a : Extent) → IsStore xs l → IsLaid l.units l.places → stored xs l ≡ v → get_or l.places i None ≡ Some a → n ≤ length (get_or v.blocks.contents i []) → n ≤ a.units * 1024
+pub within_units : {u : Bool} (xs : List ℕ) (l : Layout) (v : Stored) (i n : ℕ) (a : Extent) → IsStore xs l u → IsLaid l.units l.places → stored xs l ≡ v → get_or l.places i None ≡ Some a → n ≤ length (get_or v.blocks.contents i []) → n ≤ a.units * 1024
 within_units xs l v i n a s laid is at h =
     let p = pool_part xs l.units in
     let pool_is = part_length xs 0x310000 (l.units * 1024) (omega (arith, s.whole)) in

@@ -10,20 +10,20 @@ ghost use Rattle.dm_pool.specs.inner.Order.{IsCut, IsToldIn};
 use crate::extent::{Extent, UNIT};
 use crate::table::Table;
 use byteorder::{ByteOrder, LittleEndian};
+use dm_region::Region;
 
 /// Stands for no run, where else the first unit of a run stands.
 const NOWHERE: u32 = u32::MAX;
 
 /// The free runs of a pool, as its bytes list them: the first four bytes of a run are its length in units, the next
 /// four the unit where the next run begins, low byte first.
-#[derive(Clone, Copy)]
-pub struct RunList<'a> {
-    /// The bytes of the pool, those of its blocks among them.
-    pub bytes: &'a [u8],
-    /// The unit where the first run begins; FFFFFFFFh where there is none.
+#[derive(Drop)]
+pub struct RunList {
+    /// All bytes of a store: the low bytes, the scratch bytes, and from the byte 310000h on those of the pool, its
+    /// blocks among them.
+    pub region: Region,
+    /// The unit of the pool where the first run begins; FFFFFFFFh where there is none.
     pub first: u32,
-    /// All bytes of the store, in its one region: the low bytes, the scratch bytes, and those of the pool.
-    pub region: &'a [u8],
 }
 
 /// The first eight bytes of a run of free units.

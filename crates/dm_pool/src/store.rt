@@ -1,5 +1,5 @@
 //! The bytes of a machine, in one region: low memory by linear address, scratch bytes, and a pool of units of 1 KiB.
-ghost use Rattle.std.specs.Prelude.{◌≡◌, ◌↔◌, IsTrue, ◌+◌, ◌*◌, ◌^◌, ◌<◌, ◌≤◌, Some, None, [], ◌++◌, get_or, length, IfOk, IfSome, IsErrOf, MatchOption};
+ghost use Rattle.std.specs.Prelude.{◌≡◌, ◌↔◌, IsTrue, ◌+◌, ◌*◌, ◌^◌, ◌<◌, ◌≤◌, Some, None, [], ◌++◌, ◌-◌, true, take, drop, get_or, length, IfOk, IfSome, IsErrOf, MatchOption};
 ghost use Rattle.std.specs.Borrow.{sem};
 ghost use Rattle.std.specs.Bool.{MatchBool};
 ghost use Rattle.dm_pool.specs.Blocks.{no_blocks, taken, resized, without, moved_bytes, contents_of, IsAt, IsLive, IsPool};
@@ -9,6 +9,7 @@ ghost use Rattle.dm_pool.specs.Stored.{zeros_of, units_of, IsTooLarge};
 ghost use Rattle.dm_pool.specs.Lending.{LendsLow, LendsScratch, LendsBlock};
 ghost use Rattle.dm_pool.specs.Parts.{HasPart, part_bytes, part_copied};
 ghost use Rattle.dm_pool.specs.inner.Parts.{IsLaidOut, IsSpan};
+ghost use Rattle.dm_pool.specs.inner.Stored.{IsKept, stored};
 
 use crate::block::Block;
 use crate::extent::{Extent, UNIT};
@@ -39,17 +40,19 @@ const POOL: usize = LOW + SCRATCH;
 pub struct Store {
     region: Region,
     table: Table,
+    /// Whether the pool is in use: its bytes are written, the free ones with the free list. Before, it has no block.
+    in_use: bool,
 }
 
 impl Model for Store {
     ghost use Rattle.dm_pool.specs.Stored.{Stored};
-    ghost use Rattle.dm_pool.specs.inner.Stored.{IsStore, stored};
+    ghost use Rattle.dm_pool.specs.inner.Stored.{IsKept, stored};
 
     ghost Value = { Stored };
 
-    ghost view = { λ s. stored s.region s.table };
+    ghost view = { λ s. stored s.region.bytes s.table };
 
-    ghost invariant = { λ s. IsStore s.region s.table };
+    ghost invariant = { λ s. IsKept s.region s.table s.in_use };
 }
 
 /// Why no store was made.
@@ -63,11 +66,11 @@ pub enum NewError {
     Memory,
 }
 
-/// A region of `len` zeros; `AllocError` if the allocation fails. (It is a function of its own so that no proof writes
-/// out the zeros of a large region.)
+/// A region of `len` bytes that count as zeros; `AllocError` if the allocation fails. (It is a function of its own so
+/// that no proof writes out the zeros of a large region.)
 #[tactic(auto, unfolding(crate::specs::Stored::zeros_of))]
 fn blank(alloc: Global, len: usize) -> Result<Region, AllocError>
-    ensures { IfOk result (λ region. region ≡ zeros_of len) }
+    ensures { IfOk result (λ region. region ≡ record { bytes = zeros_of len; from = 0; to = len }) }
 {
     Region::new(alloc, len)
 }
@@ -81,10 +84,12 @@ fn store_of(alloc: Global, units: usize) -> Result<Store, AllocError>
     ensures blocks { IfOk result (λ store. store.blocks ≡ no_blocks units) }
 {
     let mut region = blank(alloc, POOL + units * UNIT)?;
-    let mut table = Table::new(units);
-    let first = runs::spell(&table, region.part_mut(POOL, units * UNIT));
-    table.set_first(first);
-    Ok(Store { region, table })
+    region.fill_up(LOW);
+    Ok(Store {
+        region,
+        table: Table::new(units),
+        in_use: false,
+    })
 }
 
 /// How many bytes the pool has.
@@ -93,6 +98,32 @@ fn pool_len(table: &Table) -> usize
 {
     table.recall();
     table.units() * UNIT
+}
+
+/// Puts the pool of a store to use, if it is not yet: writes zeros into its bytes, and the free list into these. What
+/// the store holds stays.
+fn use_pool(region: &mut Region, table: &mut Table, in_use: &mut bool)
+    requires { IsKept region.old table.old in_use.old }
+    ensures in_use { in_use.new ≡ true }
+    ensures kept { IsKept region.new table.new true }
+    ensures stored { stored region.new.bytes table.new ≡ stored region.old.bytes table.old }
+{
+    if *in_use {
+        return;
+    }
+    region.fill_down(POOL);
+    let len = pool_len(table);
+    let first = runs::spell(table, region.part_mut(POOL, len));
+    table.set_first(first);
+    *in_use = true;
+}
+
+/// The byte `end` of the region, or 0 if it lies in the pool.
+fn below_pool(end: usize) -> usize
+    ensures below { result ≤ 0x310000 }
+    ensures same { end ≤ 0x310000 → result ≡ end }
+{
+    if end <= POOL { end } else { 0 }
 }
 
 /// Where a block lies in the pool.
@@ -153,6 +184,7 @@ impl Store {
         Ok(Store {
             region: self.region.duplicate(alloc)?,
             table: self.table.duplicate(),
+            in_use: self.in_use,
         })
     }
 
@@ -175,21 +207,25 @@ impl Store {
         self.region.part_mut(0, LOW)
     }
 
-    /// The 200000h scratch bytes.
+    /// The scratch bytes up to the last that was asked for by `scratch_mut` or `copy`; the others of the 200000h are
+    /// zeros.
     pub fn scratch(&self) -> &[u8]
-        ensures value { result.now ≡ self.now.scratch }
-        ensures length { length result.now ≡ 0x200000 }
+        ensures value { self.now.scratch ≡ result.now ++ zeros_of (0x200000 - length result.now) }
+        ensures length { length self.now.scratch ≡ 0x200000 }
+        ensures within { length result.now ≤ 0x200000 }
     {
-        self.region.part(LOW, SCRATCH)
+        self.region.part(LOW, self.region.hole() - LOW)
     }
 
-    /// The 200000h scratch bytes, lent to be written. All other bytes stay.
-    pub fn scratch_mut(&mut self) -> &mut [u8]
-        ensures* writes_back { sem 𝓛 (LendsScratch self.entry result) }
-        ensures value { result.now ≡ self.old.scratch }
-        ensures length { length result.now ≡ 0x200000 }
+    /// The first `len` of the 200000h scratch bytes, lent to be written. All other bytes stay.
+    pub fn scratch_mut(&mut self, len: usize) -> &mut [u8]
+        requires { len ≤ 0x200000 }
+        ensures* writes_back { sem 𝓛 (LendsScratch self.entry len result) }
+        ensures value { result.now ≡ take len self.old.scratch }
+        ensures length { length result.now ≡ len }
     {
-        self.region.part_mut(LOW, SCRATCH)
+        self.region.fill_up(LOW + len);
+        self.region.part_mut(LOW, len)
     }
 
     /// Takes a block of `units` units as [`Store::take`] does, and returns its number, or None where that does.
@@ -197,6 +233,7 @@ impl Store {
         ensures taken { MatchOption result ((taken self.old.blocks units ≡ None) × (self.new ≡ self.old)) (λ slot. (taken self.old.blocks units ≡ Some (slot, self.new.blocks)) × (self.new ≡ record self.old { blocks = self.new.blocks })) }
         ensures small { IfSome result (λ slot. slot < 576) }
     {
+        use_pool(&mut self.region, &mut self.table, &mut self.in_use);
         let len = pool_len(&self.table);
         pool::take(&mut self.table, self.region.part_mut(POOL, len), units)
     }
@@ -314,6 +351,8 @@ impl Store {
         self.table.recall();
         let from = start_of(&self.table, source) + from;
         let to = start_of(&self.table, destination) + to;
+        self.region
+            .fill_up(below_pool(from + len).max(below_pool(to + len)));
         self.region.copy(from, to, len);
     }
 
@@ -321,36 +360,48 @@ impl Store {
     pub fn largest(&self) -> usize
         ensures { result ≡ largest (gaps self.now.blocks.places self.now.blocks.units) }
     {
-        let len = pool_len(&self.table);
-        runs::largest(&self.table, self.region.part(POOL, len))
+        if self.in_use {
+            let len = pool_len(&self.table);
+            runs::largest(&self.table, self.region.part(POOL, len))
+        } else {
+            self.table.units()
+        }
     }
 
     /// How many units of the pool are in no block.
     pub fn free(&self) -> usize
         ensures { result ≡ free_units (gaps self.now.blocks.places self.now.blocks.units) }
     {
-        let len = pool_len(&self.table);
-        runs::free_units(&self.table, self.region.part(POOL, len))
+        if self.in_use {
+            let len = pool_len(&self.table);
+            runs::free_units(&self.table, self.region.part(POOL, len))
+        } else {
+            self.table.units()
+        }
     }
 
-    /// The bytes of the pool, with its free runs, as a test of the free list reads them. Blocks do not overlap in these
-    /// bytes, and the free ones list the gaps, rising, from the first run on. The pool's bytes follow the low bytes and
-    /// the scratch bytes in one region.
-    pub fn free_list(&self) -> RunList<'_>
-        ensures region { result.region.now ≡ self.now.low ++ (self.now.scratch ++ result.bytes.now) }
-        ensures sizes { (length self.now.low ≡ 0x110000) × (length self.now.scratch ≡ 0x200000) }
-        ensures blocks { IsPool self.now.blocks.units self.now.blocks.places result.bytes.now }
-        ensures based { AreBased self.now.blocks.places }
-        ensures contents { contents_of self.now.blocks.places result.bytes.now ≡ self.now.blocks.contents }
-        ensures free { Spells result.bytes.now result.first (gaps self.now.blocks.places self.now.blocks.units) }
+    /// Gives the store up for its region: the low bytes, the scratch bytes, and the bytes of the pool with its free runs,
+    /// as a test of the free list reads them. Blocks do not overlap in the bytes of the pool, and the free ones list the
+    /// gaps, rising, from the first run on.
+    pub fn into_free_list(self) -> RunList
+        ensures region { result.region.bytes ≡ self.low ++ (self.scratch ++ drop 0x310000 result.region.bytes) }
+        ensures filled { result.region.to ≤ result.region.from }
+        ensures sizes { (length self.low ≡ 0x110000) × (length self.scratch ≡ 0x200000) }
+        ensures blocks { IsPool self.blocks.units self.blocks.places (drop 0x310000 result.region.bytes) }
+        ensures based { AreBased self.blocks.places }
+        ensures contents { contents_of self.blocks.places (drop 0x310000 result.region.bytes) ≡ self.blocks.contents }
+        ensures free { Spells (drop 0x310000 result.region.bytes) result.first (gaps self.blocks.places self.blocks.units) }
     {
-        self.table.recall();
-        let len = pool_len(&self.table);
-        RunList {
-            bytes: self.region.part(POOL, len),
-            first: self.table.first(),
-            region: self.region.part(0, POOL + len),
-        }
+        let Store {
+            mut region,
+            mut table,
+            mut in_use,
+        } = self;
+        use_pool(&mut region, &mut table, &mut in_use);
+        region.fill_up(POOL);
+        table.recall();
+        let first = table.first();
+        RunList { region, first }
     }
 
     /// How many blocks of `units` units, at least 1, fit into the gaps, each whole in one gap.
@@ -358,7 +409,11 @@ impl Store {
         requires { 0 < units }
         ensures { result ≡ count_fitting units (gaps self.now.blocks.places self.now.blocks.units) }
     {
-        let len = pool_len(&self.table);
-        runs::count_fitting(&self.table, self.region.part(POOL, len), units)
+        if self.in_use {
+            let len = pool_len(&self.table);
+            runs::count_fitting(&self.table, self.region.part(POOL, len), units)
+        } else {
+            self.table.units() / units
+        }
     }
 }

@@ -61,7 +61,7 @@ twice xs a z P N M ea ez le =
 pub part_length : (xs : List ℕ) (P N : ℕ) → P + N ≤ length xs → length (part xs P N) ≡ N
 part_length xs P N in' = omega (arith, length-take N (drop P xs), length-drop P xs)
 
-part_more : (xs : List ℕ) (at n k : ℕ) → part xs at (n + k) ≡ part xs at n ++ part xs (at + n) k
+pub part_more : (xs : List ℕ) (at n k : ℕ) → part xs at (n + k) ≡ part xs at n ++ part xs (at + n) k
 part_more xs at n k = take-add n k (drop at xs) ∙ ap (λ l. part xs at n ++ take k l) (drop-drop n at xs)
 
 -- the first n bytes from `from` on, and then the next k, copied to a place apart from all of them

@@ -1,6 +1,6 @@
 //! A region: bytes of fixed number in one allocation. Its hole is a run of bytes that no memory holds yet: they count as
 //! zeros, and are written as zeros before they are lent.
-ghost use Rattle.std.specs.Prelude.{◌≡◌, ◌+◌, ◌-◌, ◌^◌, ◌<◌, ◌≤◌, ◌⊎◌, ◌++◌, max, min, length, replicate, IfOk, take};
+ghost use Rattle.std.specs.Prelude.{◌≡◌, ◌+◌, ◌-◌, ◌^◌, ◌<◌, ◌≤◌, ◌⊎◌, ◌++◌, max, min, length, replicate, IfOk};
 ghost use Rattle.std.specs.Borrow.{sem};
 ghost use Rattle.dm_region.specs.Holes.{IsOutside};
 ghost use Rattle.dm_region.specs.Parts.{part, with_part, LendsPart};
@@ -144,12 +144,13 @@ impl Region {
         }
     }
 
-    /// The bytes before the hole.
-    pub fn front(&self) -> &[u8]
-        ensures value { result.now ≡ take self.now.from self.now.bytes }
-        ensures zeros { part self.now.bytes self.now.from (self.now.to - self.now.from) ≡ replicate (self.now.to - self.now.from) 0 }
+    /// How many bytes lie before the hole.
+    pub fn hole(&self) -> usize
+        ensures value { result ≡ self.now.from }
+        ensures within { result ≤ length self.now.bytes }
+        ensures zeros { part self.now.bytes result (self.now.to - result) ≡ replicate (self.now.to - result) 0 }
     {
-        self.part(0, self.from)
+        self.from
     }
 
     /// The `len` bytes from byte `from` on.
