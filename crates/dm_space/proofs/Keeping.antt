@@ -1,13 +1,14 @@
 -- Pages that windows show stay as large as they are while other blocks come, go and change, and while bytes are written
 use Rattle.std.specs.Prelude.{IfSome, MatchOption}
 use Rattle.std.specs.Bool.{MatchBool}
-use Rattle.std.proofs.Common.{◌≡◌, ◌≢◌, ℕ, suc, zero, ◌+◌, ◌≤◌, Bool, true, false, List, [], ◌∷◌, Option, Some, None, length, get_or, set, refl, sym, ◌∙◌, ap, subst}
+use Rattle.std.proofs.Common.{◌≡◌, ◌≢◌, ℕ, suc, zero, ◌+◌, ◌≤◌, Bool, true, false, List, [], ◌∷◌, Option, Some, None, ◌++◌, take, drop, length, get_or, set, refl, sym, ◌∙◌, ap, subst, arith}
 use Rattle.std.proofs.Math.Bool.{true≢false}
 use Rattle.std.proofs.lemmas.Option.{none-some, same_Some}
-use Rattle.std.proofs.lemmas.List.{get_or-set_other}
+use Rattle.std.proofs.lemmas.List.{get_or-set_other, length-take, length-take-le, take_all, drop_all, append-nil, append_assoc}
 use Rattle.std.specs.List.{length_refill}
 use Rattle.dm_region.specs.Parts.{part, with_part}
 use Rattle.dm_region.proofs.Bytes.{length-with_part}
+use Rattle.dm_region.proofs.Parts.{part_in}
 use Rattle.dm_pool.specs.declared.extent.Extent.{Extent}
 use Rattle.dm_pool.specs.Gaps.{first_empty, lowest}
 use Rattle.dm_pool.specs.Blocks.{Blocks, placed, taken, without, with_block, with_content, at_base, moved_bytes, resized_from, new_base, resized, fitted, zeros}
@@ -131,3 +132,19 @@ module _ (s : Stored) (windows : List (Option ℕ)) (a20 : Bool) where
       let copied = part (get_or s.blocks.contents i []) from len in
       with_store t (moved_bytes s.blocks i from j to len) e
       (content_fits m j (with_part (get_or s.blocks.contents j []) to len copied) (length-with_part (get_or s.blocks.contents j []) copied to len b (part_length (get_or s.blocks.contents i []) from len a)) h.fits) h
+
+-- the scratch bytes after a loan of the first at + n of them, through which ws were written to the n from `at` on
+pub front_lent : (old now new ws : List ℕ) (at n : ℕ) → at + n ≤ length old → length ws ≡ n → now ≡ take (at + n) old → length new ≡ length now → new ≡ with_part now at n ws
+    → refit old (take (at + n) new) ≡ with_part old at n ws
+front_lent old now new ws at n fits long e same h =
+    let m = at + n in
+    let count : length new ≡ m = same ∙ ap length e ∙ length-take-le m old fits in
+    let first : take at (take m old) ≡ take at old = part_in old 0 m 0 at (omega arith) in
+    let behind : drop m (take m old) ≡ [] = drop_all m (take m old) (omega (arith, length-take m old)) in
+    let written : new ≡ take at old ++ ws
+    = h ∙ ap (λ (l : List ℕ). with_part l at n ws) e ∙ ap (λ (l : List ℕ). l ++ (ws ++ drop m (take m old))) first ∙ ap (λ (l : List ℕ). take at old ++ (ws ++ l)) behind ∙ ap (λ (l : List ℕ). take at old ++ l) (append-nil ws) in
+    let all : new ++ drop m old ≡ with_part old at n ws = ap (λ (l : List ℕ). l ++ drop m old) written ∙ append_assoc (take at old) ws (drop m old) in
+    ap (refit old) (take_all m new (omega (arith, count)))
+    ∙ ap (λ k. take (length old) (new ++ drop k old)) count
+    ∙ ap (take (length old)) all
+    ∙ take_all (length old) (with_part old at n ws) (omega (arith, length-with_part old ws at n fits long))

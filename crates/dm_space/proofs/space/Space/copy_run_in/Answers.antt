@@ -1,20 +1,17 @@
 use Rattle.std.proofs.Common.{List, ℕ, ◌≡◌, length, replicate, ap, ◌∙◌, sym, arith}
+use Rattle.std.proofs.lemmas.List.{length-replicate}
 use Rattle.dm_region.specs.Parts.{part, with_part}
 use Rattle.dm_region.proofs.Bytes.{length-with_part}
-use Rattle.dm_pool.specs.Stored.{Stored, refit}
-use Rattle.dm_pool.proofs.Blocks.{part_length, refilled}
+use Rattle.dm_pool.specs.Stored.{Stored}
+use Rattle.dm_pool.proofs.Blocks.{part_length}
 use Rattle.dm_space.specs.declared.place.Place.TheVariants.{Low, Page, Rom, Nothing}
 use Rattle.dm_space.specs.Copies.{values, copied_in}
 use Rattle.dm_space.specs.Memory.{Held, place, page_bytes}
 use Rattle.dm_space.specs.inner.Memory.{held}
 use Rattle.dm_space.specs.Rom.{rom}
-use Rattle.dm_space.proofs.Copies.{low-fits, page-fits, rom-fits, all-there, in-run}
-use Rattle.dm_space.proofs.Keeping.{held_scratch}
+use Rattle.dm_space.proofs.Copies.{length-values, low-fits, page-fits, rom-fits, all-there, in-run}
+use Rattle.dm_space.proofs.Keeping.{held_scratch, front_lent}
 use Rattle.dm_space.proofs.space.Space.copy_run_in.Goals as goal
-
--- the scratch bytes after the loan of them
-lent : (old now new ws : List ℕ) (at n : ℕ) → now ≡ old → length new ≡ length now → new ≡ with_part now at n ws → refit old new ≡ with_part old at n ws
-lent old now new ws at n e l h = refilled (length old) old new (l ∙ ap length e) ∙ h ∙ ap (λ (xs : List ℕ). with_part xs at n ws) e
 
 pub copy-requires-clause-source : goal.copy-requires-clause-source
 copy-requires-clause-source c =
@@ -70,7 +67,7 @@ pub returns-in-Rom : goal.returns-in-Rom
 returns-in-Rom c =
     let s = c.self.inside in
     ap (λ (xs : List ℕ). held (record s.store { scratch = xs }) s.windows s.a20)
-    (lent s.store.scratch c.scratch_mut.result.now c.read_rom.new.bytes (values rom c.in-Rom.from c.args.len) c.args.at c.args.len c.scratch_mut.ensures.value c.read_rom.auto.bytes c.read_rom.ensures)
+    (front_lent s.store.scratch c.scratch_mut.result.now c.read_rom.new.bytes (values rom c.in-Rom.from c.args.len) c.args.at c.args.len (omega (arith, c.requires.scratch, c.self.invariant.scratch_length)) (length-values rom c.in-Rom.from c.args.len) c.scratch_mut.ensures.value c.read_rom.auto.bytes c.read_rom.ensures)
     ∙ in-run (held s.store s.windows s.a20) c.args.linear c.args.len (Rom c.in-Rom.from) c.self.invariant (ap (λ (h : Held). place h.memory c.args.linear) c.self.view_is ∙ sym c.place.ensures.place ∙ c.in-Rom.is) c.requires.some c.requires.run c.requires.addresses c.args.at
     ∙ ap (λ (h : Held). copied_in h c.args.linear c.args.at c.args.len) c.self.view_is
 
@@ -78,6 +75,6 @@ pub returns-in-Nothing : goal.returns-in-Nothing
 returns-in-Nothing c =
     let s = c.self.inside in
     ap (λ (xs : List ℕ). held (record s.store { scratch = xs }) s.windows s.a20)
-    (lent s.store.scratch c.scratch_mut-in-Nothing.result.now c.read_nothing.new.bytes (replicate c.args.len 0xFF) c.args.at c.args.len c.scratch_mut-in-Nothing.ensures.value c.read_nothing.auto.bytes c.read_nothing.ensures)
+    (front_lent s.store.scratch c.scratch_mut-in-Nothing.result.now c.read_nothing.new.bytes (replicate c.args.len 0xFF) c.args.at c.args.len (omega (arith, c.requires.scratch, c.self.invariant.scratch_length)) (length-replicate c.args.len 0xFF) c.scratch_mut-in-Nothing.ensures.value c.read_nothing.auto.bytes c.read_nothing.ensures)
     ∙ in-run (held s.store s.windows s.a20) c.args.linear c.args.len (Nothing) c.self.invariant (ap (λ (h : Held). place h.memory c.args.linear) c.self.view_is ∙ sym c.place.ensures.place ∙ c.in-Nothing.is) c.requires.some c.requires.run c.requires.addresses c.args.at
     ∙ ap (λ (h : Held). copied_in h c.args.linear c.args.at c.args.len) c.self.view_is
