@@ -18,7 +18,7 @@ fn append(space: &mut Space, at: usize, bytes: &[u8]) -> usize
     ensures next { result ≡ at + length bytes.now }
 {
     let next = at + bytes.len();
-    space.scratch_mut()[at..next].copy_from_slice(bytes);
+    space.scratch_mut(next)[at..next].copy_from_slice(bytes);
     next
 }
 
@@ -30,7 +30,8 @@ fn closing(space: &Space, variables: usize) -> &'static [u8]
     ensures count { length (take variables space.now.scratch) ≡ variables }
     ensures few { length result.now ≤ 2 }
 {
-    let _variables = &space.scratch()[..variables];
+    // The call is for the proof alone, which needs the length that its contract promises.
+    let _scratch = space.scratch();
     if variables == 0 { &[0, 0] } else { &[0] }
 }
 

@@ -38,7 +38,7 @@ fn relocate(space: &mut Space, image: &Image, start: u16) -> usize
     ensures length { result ≡ min (length (Rattle.dm_load.specs.Image.image image.now)) 0x110000 }
 {
     let count = image.bytes().len().min(RELOCATED);
-    image.relocated(start, &mut space.scratch_mut()[0..count]);
+    image.relocated(start, space.scratch_mut(count));
     count
 }
 

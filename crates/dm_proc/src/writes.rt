@@ -1,7 +1,7 @@
 //! Writing bytes to guest memory from a segment upwards, at the start of a process, for an overlay, and for the vectors
 //! that an end restores. A block here is the run of bytes that is written, which may be longer than 64 KiB; segments
 //! wrap. What is written to ROM, or where there is no memory, is lost.
-ghost use Rattle.std.specs.Prelude.{◌≡◌, ◌+◌, ◌<◌, ◌≤◌, length, take};
+ghost use Rattle.std.specs.Prelude.{◌≡◌, ◌+◌, ◌<◌, ◌≤◌, get_or, length, take};
 ghost use Rattle.dm_proc.specs.Writes.{apply, block, block_address, upwards};
 ghost use Rattle.dm_space.specs.Memory.{poke};
 
@@ -38,6 +38,15 @@ pub(crate) fn write_bytes(space: &mut Space, segment: u16, bytes: &[u8])
     write_from(space, segment, 0, bytes);
 }
 
+/// Byte `at` of the scratch part.
+fn scratch_byte(space: &Space, at: usize) -> u8
+    ensures byte { result ≡ get_or space.now.scratch at 0 }
+    ensures length { length space.now.scratch ≡ 0x200000 }
+{
+    let bytes = space.scratch();
+    if at < bytes.len() { bytes[at] } else { 0 }
+}
+
 /// Writes the first `count` bytes of the scratch part, which no guest address shows, to the block at a segment. The
 /// scratch part stays.
 pub(crate) fn write_scratch(space: &mut Space, segment: u16, count: usize)
@@ -45,7 +54,7 @@ pub(crate) fn write_scratch(space: &mut Space, segment: u16, count: usize)
     ensures { space.new ≡ record space.old { memory = apply (block space.old.memory.a20 segment (take count space.old.scratch)) space.old.memory } }
 {
     for at in 0..count {
-        let byte = space.scratch()[at];
+        let byte = scratch_byte(space, at);
         write_byte(space, segment, at, byte);
     }
 }

@@ -12,13 +12,14 @@ use std::alloc::Global;
 /// A region of some zeros.
 pub(crate) fn make_region(rt: &impl Print, alloc: Global) -> Result<()> {
     let call = "Region::new";
-    let region = match Region::new(alloc, 3) {
+    let mut region = match Region::new(alloc, 3) {
         Ok(region) => region,
         Err(_) => {
             tell_refused(rt, call, true)?;
             Region::new(alloc, 3)?
         }
     };
+    region.fill_up(3);
     let zeros = region.part(0, region.len()) == [0, 0, 0].as_slice();
     tell(rt, call, if zeros { "three zeros" } else { "others" })
 }

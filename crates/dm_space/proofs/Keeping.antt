@@ -12,7 +12,7 @@ use Rattle.dm_region.proofs.Parts.{part_in}
 use Rattle.dm_pool.specs.declared.extent.Extent.{Extent}
 use Rattle.dm_pool.specs.Gaps.{first_empty, lowest}
 use Rattle.dm_pool.specs.Blocks.{Blocks, placed, taken, without, with_block, with_content, at_base, moved_bytes, resized_from, new_base, resized, fitted, zeros}
-use Rattle.dm_pool.specs.Stored.{Stored, refit}
+use Rattle.dm_pool.specs.Stored.{Stored, refit, zeros_of}
 use Rattle.dm_pool.proofs.Blocks.{vacant, part_length}
 use Rattle.dm_space.specs.Memory.{Memory, IsHeld, Fits, IsPage, page_bytes, with_blocks}
 use Rattle.dm_space.specs.inner.Memory.{held}
@@ -148,3 +148,12 @@ front_lent old now new ws at n fits long e same h =
     ∙ ap (λ k. take (length old) (new ++ drop k old)) count
     ∙ ap (take (length old)) all
     ∙ take_all (length old) (with_part old at n ws) (omega (arith, length-with_part old ws at n fits long))
+
+-- bytes behind which zeros stand, read at any index
+pub byte_behind : (xs : List ℕ) (n at : ℕ) → get_or (xs ++ zeros_of n) at 0 ≡ get_or xs at 0
+unfolding zeros_of
+byte_behind [] zero at = refl
+byte_behind [] (suc n) zero = refl
+byte_behind [] (suc n) (suc at) = byte_behind [] n at
+byte_behind (x ∷ xs) n zero = refl
+byte_behind (x ∷ xs) n (suc at) = byte_behind xs n at

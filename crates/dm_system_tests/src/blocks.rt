@@ -188,6 +188,27 @@ fn a_duplicate_has_blocks_of_its_own(rt: HostRuntime) -> Result<(), Fail> {
     Ok(())
 }
 
+/// The scratch bytes are lent from the first on; behind those that were asked for they are zeros, in a duplicate too.
+#[test]
+fn scratch_bytes_come_as_asked_for(rt: HostRuntime) -> Result<(), Fail> {
+    let mut store = made(rt.alloc(), 0, 16)?;
+    store.scratch_mut(2).copy_from_slice(b"ab");
+    same(&rt, "two", store.scratch(), b"ab".as_slice());
+    let mut twin = store.duplicate(rt.alloc())?;
+    let first = store.take(4).ok_or("no room")?;
+    fill(&mut store, first, 7);
+    same(&rt, "still two", store.scratch(), b"ab".as_slice());
+    store.scratch_mut(4)[3] = b'd';
+    same(&rt, "four", store.scratch(), b"ab\0d".as_slice());
+    same(&rt, "the block", is_sound(&store, first, 4096, 7), true);
+    same(&rt, "two in the duplicate", twin.scratch(), b"ab".as_slice());
+    same(&rt, "free in the duplicate", twin.free(), 16);
+    let second = twin.take(4).ok_or("no room")?;
+    same(&rt, "zeros", is_sound(&twin, second, 4096, 0), true);
+    same(&rt, "free then", (twin.free(), store.free()), (12, 12));
+    Ok(())
+}
+
 /// Definitions: dm_pool Blocks Blocks IsAt IsLive no_blocks taken placed zeros without resized new_base at_base fitted
 /// Definitions: dm_pool Gaps is_clear is_free lowest first_empty gaps Run largest free_units count_fitting
 /// Definitions: dm_pool FreeList AreBased
@@ -277,10 +298,14 @@ fn sizes_have_bounds(rt: HostRuntime) {
     );
     same(&rt, "nothing", made(alloc, 0, 0).is_ok(), true);
     match made(alloc, 512, 15_360) {
-        Ok(store) => {
+        Ok(mut store) => {
             same(&rt, "free units", store.free(), 23_552);
+            same(&rt, "largest gap", store.largest(), 23_552);
+            same(&rt, "pages", store.count_fitting(16), 1472);
             same(&rt, "low bytes", store.low().len(), 0x11_0000);
-            same(&rt, "scratch bytes", store.scratch().len(), 0x20_0000);
+            same(&rt, "scratch bytes", store.scratch().len(), 0);
+            let scratch = store.scratch_mut(0x20_0000).len();
+            same(&rt, "scratch bytes lent", scratch, 0x20_0000);
         }
         Err(_) => same(&rt, "the largest sizes", false, true),
     }

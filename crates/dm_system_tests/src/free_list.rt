@@ -2,19 +2,24 @@
 
 use crate::checks::same;
 use dm_pool::{Block, Sizes, Store, UNIT};
+use std::alloc::{AllocError, Global};
 use std::test::Fail;
 
+/// The byte of a store's region where the pool begins.
+const POOL: usize = 0x31_0000;
+
 /// The first eight bytes of a unit of the pool, where a free run keeps its length and the unit of the next one.
-fn beginning(store: &Store, unit: usize) -> [u8; 8] {
+fn beginning(alloc: Global, store: &Store, unit: usize) -> Result<[u8; 8], AllocError> {
+    let list = store.duplicate(alloc)?.into_free_list();
+    let region = list.region.part(0, list.region.len());
     let mut bytes = [0; 8];
     if unit < 4 {
-        let at = unit * UNIT;
-        let pool = store.free_list().bytes;
-        if at + 8 <= pool.len() {
-            bytes.copy_from_slice(&pool[at..at + 8]);
+        let at = POOL + unit * UNIT;
+        if at + 8 <= region.len() {
+            bytes.copy_from_slice(&region[at..at + 8]);
         }
     }
-    bytes
+    Ok(bytes)
 }
 
 fn give(store: &mut Store, block: Option<Block>) {
@@ -45,7 +50,7 @@ fn free_bytes_tell_the_gaps(rt: HostRuntime) -> Result<(), Fail> {
     same(
         &rt,
         "one run of four units",
-        beginning(&store, 0),
+        beginning(rt.alloc(), &store, 0)?,
         [4, 0, 0, 0, 0xFF, 0xFF, 0xFF, 0xFF],
     );
     let _first = store.take(1);
@@ -56,36 +61,36 @@ fn free_bytes_tell_the_gaps(rt: HostRuntime) -> Result<(), Fail> {
     same(
         &rt,
         "a run of one unit",
-        beginning(&store, 1),
+        beginning(rt.alloc(), &store, 1)?,
         [1, 0, 0, 0, 0xFF, 0xFF, 0xFF, 0xFF],
     );
     give(&mut store, fourth);
     same(
         &rt,
         "the next run is at unit 3",
-        beginning(&store, 1),
+        beginning(rt.alloc(), &store, 1)?,
         [1, 0, 0, 0, 3, 0, 0, 0],
     );
     same(
         &rt,
         "the last run",
-        beginning(&store, 3),
+        beginning(rt.alloc(), &store, 3)?,
         [1, 0, 0, 0, 0xFF, 0xFF, 0xFF, 0xFF],
     );
     give(&mut store, third);
     same(
         &rt,
         "three units are one run",
-        beginning(&store, 1),
+        beginning(rt.alloc(), &store, 1)?,
         [3, 0, 0, 0, 0xFF, 0xFF, 0xFF, 0xFF],
     );
     let two = store.take(2);
     same(&rt, "units 1 and 2", base_of(&store, two), Some(1));
-    same(&rt, "zeros", beginning(&store, 1), [0; 8]);
+    same(&rt, "zeros", beginning(rt.alloc(), &store, 1)?, [0; 8]);
     same(
         &rt,
         "the run that is left",
-        beginning(&store, 3),
+        beginning(rt.alloc(), &store, 3)?,
         [1, 0, 0, 0, 0xFF, 0xFF, 0xFF, 0xFF],
     );
     same(&rt, "no more two units", store.take(2).is_none(), true);
@@ -109,11 +114,12 @@ fn all_bytes_are_one_region(rt: HostRuntime) -> Result<(), Fail> {
     };
     let mut store = Store::new(rt.alloc(), sizes)?;
     put_first(store.low_mut(), 1);
-    put_first(store.scratch_mut(), 2);
-    let region = store.free_list().region;
+    put_first(store.scratch_mut(1), 2);
+    let list = store.into_free_list();
+    let region = list.region.part(0, list.region.len());
     same(&rt, "all bytes", region.len(), 0x31_1000);
     same(&rt, "low bytes first", region.first().copied(), Some(1));
     same(&rt, "then scratch", region.get(0x11_0000).copied(), Some(2));
-    same(&rt, "then 4 units", region.get(0x31_0000).copied(), Some(4));
+    same(&rt, "then 4 units", region.get(POOL).copied(), Some(4));
     Ok(())
 }

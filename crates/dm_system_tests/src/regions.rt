@@ -8,9 +8,10 @@ use std::test::Fail;
 
 /// A region of the ten letters from `a` to `j`.
 fn letters(alloc: Global) -> Result<Region, AllocError>
-    ensures { IfOk result (λ region. length region ≡ 10) }
+    ensures { IfOk result (λ region. (length region.bytes ≡ 10) × (region.from ≡ 10)) }
 {
     let mut region = Region::new(alloc, 10)?;
+    region.fill_up(10);
     region.part_mut(0, 10).copy_from_slice(b"abcdefghij");
     Ok(region)
 }
@@ -20,9 +21,36 @@ fn regions_begin_as_zeros(rt: HostRuntime) -> Result<(), Fail> {
     let empty = Region::new(rt.alloc(), 0)?;
     same(&rt, "length", empty.len(), 0);
     same(&rt, "bytes", empty.part(0, 0), b"".as_slice());
-    let region = Region::new(rt.alloc(), 10)?;
+    let mut region = Region::new(rt.alloc(), 10)?;
     same(&rt, "length", region.len(), 10);
+    same(&rt, "hole", region.hole(), 0);
+    region.fill_up(10);
+    same(&rt, "filled", region.hole(), 10);
     same(&rt, "bytes", region.part(0, 10), [0; 10].as_slice());
+    Ok(())
+}
+
+/// Definitions: dm_region Holes Holed IsOutside
+#[test]
+fn a_hole_counts_as_zeros(rt: HostRuntime) -> Result<(), Fail> {
+    let mut region = Region::new(rt.alloc(), 10)?;
+    region.fill_up(3);
+    region.fill_up(2);
+    region.fill_down(7);
+    region.fill_down(8);
+    same(&rt, "hole", region.hole(), 3);
+    region.part_mut(0, 3).copy_from_slice(b"abc");
+    region.part_mut(7, 3).copy_from_slice(b"xyz");
+    region.copy(0, 8, 2);
+    region.copy(7, 1, 2);
+    same(&rt, "before the hole", region.part(0, 3), b"axa".as_slice());
+    same(&rt, "behind it", region.part(7, 3), b"xab".as_slice());
+    let mut twin = region.duplicate(rt.alloc())?;
+    same(&rt, "hole of the duplicate", twin.hole(), 3);
+    twin.fill_up(7);
+    same(&rt, "no hole", twin.part(0, 10), b"axa\0\0\0\0xab".as_slice());
+    region.fill_down(3);
+    same(&rt, "no hole", region.part(2, 8), b"a\0\0\0\0xab".as_slice());
     Ok(())
 }
 

@@ -453,7 +453,7 @@ fn bytes_are_copied_out_across_borders(rt: HostRuntime) -> Result<(), Fail> {
     ];
     for (linear, (segment, offset), bytes) in rows {
         let (mut space, _page) = bordered(rt.alloc())?;
-        space.scratch_mut()[0x1F_FFFC..0x20_0000].copy_from_slice(&[0x51, 0x52, 0x53, 0x54]);
+        space.scratch_mut(0x20_0000)[0x1F_FFFC..0x20_0000].copy_from_slice(&[0x51, 0x52, 0x53, 0x54]);
         copy_out(&mut space, 0x1F_FFFC, linear, 4);
         space.set_a20(true);
         let mut found = [0; 4];
@@ -471,9 +471,9 @@ fn later_bytes_are_copied_over_earlier_ones(rt: HostRuntime) -> Result<(), Fail>
     let (mut space, page) = bordered(rt.alloc())?;
     // both windows show one page, so each place is written twice
     show(&mut space, 1, page);
-    space.scratch_mut()[0x0000] = 0x61;
-    space.scratch_mut()[0x0001] = 0x62;
-    space.scratch_mut()[0x4000] = 0x63;
+    space.scratch_mut(0x4001)[0x0000] = 0x61;
+    space.scratch_mut(0x4001)[0x0001] = 0x62;
+    space.scratch_mut(0x4001)[0x4000] = 0x63;
     copy_out(&mut space, 0x0000, 0xE0000, 0x4001);
     same(
         &rt,

@@ -6,10 +6,10 @@ use Rattle.dm_proc.proofs.writes.write_scratch.Goals as goal
 pub loop-at-preserved : goal.loop-at-preserved
 loop-at-preserved c =
     let w = c.loop-at.invariant in
-    let long : length c.args.space.now.scratch ≡ 0x200000 = ap length (sym w.scratch) ∙ ap length (sym c.scratch.ensures.bytes) ∙ c.scratch.ensures.length in
+    let long : length c.args.space.now.scratch ≡ 0x200000 = ap length (sym w.scratch) ∙ c.scratch_byte-byte.ensures.length in
     let within : c.loop-at.at < length (take c.args.count c.args.space.now.scratch) = omega (arith, length-take c.args.count c.args.space.now.scratch) in
-    let byte : get_or c.scratch.result.now c.loop-at.at 0 ≡ get_or (take c.args.count c.args.space.now.scratch) c.loop-at.at 0
-    = ap (λ ys. get_or ys c.loop-at.at 0) (c.scratch.ensures.bytes ∙ w.scratch) ∙ sym (get_or-take c.args.count c.args.space.now.scratch c.loop-at.at 0 c.loop-at-test.true) in
+    let byte : c.scratch_byte-byte.result ≡ get_or (take c.args.count c.args.space.now.scratch) c.loop-at.at 0
+    = c.scratch_byte-byte.ensures.byte ∙ ap (λ ys. get_or ys c.loop-at.at 0) w.scratch ∙ sym (get_or-take c.args.count c.args.space.now.scratch c.loop-at.at 0 c.loop-at-test.true) in
     written-more _ _ _ _ _ _ _ _ _ w within (omega arith) byte c.write_byte.ensures
 
 pub loop-at-init : goal.loop-at-init
