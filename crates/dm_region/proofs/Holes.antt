@@ -21,9 +21,9 @@ module _ (cs : List (Option ℕ)) (a b : ℕ) (h : IsHoled cs a b) where
   filled_off p len i fits off le lt = elim off [
     | inl under ↦ h.below i (omega (arith, lt, under))
     | inr more ↦ elim more [
-        | inl over ↦ h.above i (omega (arith, le, over)) (omega (arith, lt, fits))
-        | inr none ↦ elim (cases_lt i a) [ inl under ↦ h.below i under | inr over ↦ h.above i (omega (arith, none, over)) (omega (arith, lt, fits)) ]
-      ]
+      | inl over ↦ h.above i (omega (arith, le, over)) (omega (arith, lt, fits))
+      | inr none ↦ elim (cases_lt i a) [ inl under ↦ h.below i under | inr over ↦ h.above i (omega (arith, none, over)) (omega (arith, lt, fits)) ]
+    ]
   ]
 
   pub run_off : (p len : ℕ) → p + len ≤ length cs → Misses a b p len → IsRun cs p len
@@ -195,10 +195,10 @@ whole_of cs a b n xs ys h le within e front last =
     let rest : part bs b (n - b) ≡ drop (a + (b - a)) bs = take_all (n - b) (drop b bs) (omega (arith, length-drop b bs, count)) ∙ ap (λ k. drop k bs) (sym next) in
     let bytes : xs ++ (replicate (n - length xs - length ys) 0 ++ ys) ≡ bs
     = ap (λ (l : List ℕ). l ++ (replicate (n - length xs - length ys) 0 ++ ys)) front
-      ∙ ap (λ k. part bs 0 a ++ (replicate k 0 ++ ys)) gap
-      ∙ ap (λ (l : List ℕ). part bs 0 a ++ (replicate (b - a) 0 ++ l)) (last ∙ rest)
-      ∙ ap (λ (l : List ℕ). part bs 0 a ++ (l ++ drop (a + (b - a)) bs)) (sym (hole_zeros cs a b h a (b - a) (omega arith) (omega (arith, le)) (omega (arith, e, within))))
-      ∙ same_part bs a (b - a) in
+    ∙ ap (λ k. part bs 0 a ++ (replicate k 0 ++ ys)) gap
+    ∙ ap (λ (l : List ℕ). part bs 0 a ++ (replicate (b - a) 0 ++ l)) (last ∙ rest)
+    ∙ ap (λ (l : List ℕ). part bs 0 a ++ (l ++ drop (a + (b - a)) bs)) (sym (hole_zeros cs a b h a (b - a) (omega arith) (omega (arith, le)) (omega (arith, e, within))))
+    ∙ same_part bs a (b - a) in
     ap (λ (l : List ℕ). record { bytes = l; from = length xs; to = n - length ys }) bytes
     ∙ ap (λ (k : ℕ). record { bytes = bs; from = k; to = n - length ys }) one
     ∙ ap (λ (k : ℕ). record { bytes = bs; from = a; to = k }) end

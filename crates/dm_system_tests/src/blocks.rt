@@ -201,7 +201,12 @@ fn scratch_bytes_come_as_asked_for(rt: HostRuntime) -> Result<(), Fail> {
     store.scratch_mut(4)[3] = b'd';
     same(&rt, "four", store.scratch(), b"ab\0d".as_slice());
     same(&rt, "the block", is_sound(&store, first, 4096, 7), true);
-    same(&rt, "two in the duplicate", twin.scratch(), b"ab".as_slice());
+    same(
+        &rt,
+        "two in the duplicate",
+        twin.scratch(),
+        b"ab".as_slice(),
+    );
     same(&rt, "free in the duplicate", twin.free(), 16);
     let second = twin.take(4).ok_or("no room")?;
     same(&rt, "zeros", is_sound(&twin, second, 4096, 0), true);

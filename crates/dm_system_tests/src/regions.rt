@@ -48,9 +48,19 @@ fn a_hole_counts_as_zeros(rt: HostRuntime) -> Result<(), Fail> {
     let mut twin = region.duplicate(rt.alloc())?;
     same(&rt, "hole of the duplicate", twin.hole(), 3);
     twin.fill_up(7);
-    same(&rt, "no hole", twin.part(0, 10), b"axa\0\0\0\0xab".as_slice());
+    same(
+        &rt,
+        "no hole",
+        twin.part(0, 10),
+        b"axa\0\0\0\0xab".as_slice(),
+    );
     region.fill_down(3);
-    same(&rt, "no hole", region.part(2, 8), b"a\0\0\0\0xab".as_slice());
+    same(
+        &rt,
+        "no hole",
+        region.part(2, 8),
+        b"a\0\0\0\0xab".as_slice(),
+    );
     Ok(())
 }
 

@@ -453,7 +453,9 @@ fn bytes_are_copied_out_across_borders(rt: HostRuntime) -> Result<(), Fail> {
     ];
     for (linear, (segment, offset), bytes) in rows {
         let (mut space, _page) = bordered(rt.alloc())?;
-        space.scratch_mut(0x20_0000)[0x1F_FFFC..0x20_0000].copy_from_slice(&[0x51, 0x52, 0x53, 0x54]);
+        space.scratch_mut(0x20_0000)[0x1F_FFFC..0x20_0000].copy_from_slice(&[
+            0x51, 0x52, 0x53, 0x54,
+        ]);
         copy_out(&mut space, 0x1F_FFFC, linear, 4);
         space.set_a20(true);
         let mut found = [0; 4];

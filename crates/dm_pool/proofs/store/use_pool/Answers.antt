@@ -46,4 +46,4 @@ returns-clause-stored c =
     let bytes = ap (λ (h : Holed). h.bytes) c.fill_down.ensures in
     pool_stored xs w t.units N c.set_first.new.self whole c.pool_len-len.ensures long units told
     ∙ same_stored _ _ _ _ _ _ (ap low_part bytes) (ap scratch_part bytes)
-      (none_blocks t.units c.set_first.new.self w (units ∙ sym (none_units t.units)) (ap (λ (l : Layout). l.places) c.set_first.ensures ∙ none) ∙ sym (none_blocks t.units t _ (sym (none_units t.units)) none))
+    (none_blocks t.units c.set_first.new.self w (units ∙ sym (none_units t.units)) (ap (λ (l : Layout). l.places) c.set_first.ensures ∙ none) ∙ sym (none_blocks t.units t _ (sym (none_units t.units)) none))

@@ -47,22 +47,24 @@ copy-requires-clause-source c =
     let s = c.self.inside in
     let from = within_span s.region.bytes s.table c.args.self.now c.args.source c.start_of.result c.start_of.ensures.span.0 (c.args.from + c.args.len) c.self.invariant.store c.recall.ensures.laid c.self.view_is c.start_of.ensures.span.1 c.requires.source.1 in
     let room = span_fits s.region.bytes s.table s.in_use c.self.invariant.store c.recall.ensures.laid c.args.source c.start_of.result c.start_of.ensures.span.0 c.start_of.ensures.span.1 in
-    let up = c.fill_up.ensures in let k = c.self.invariant in
-    (omega (arith, from, room, ap (λ (h : Holed). length h.bytes) up),
+    let up = c.fill_up.ensures in let k = c.self.invariant in (
+      omega (arith, from, room, ap (λ (h : Holed). length h.bytes) up),
       span_outside s.region s.table s.in_use k c.args.source c.start_of.result c.start_of.ensures.span.0 (c.start_of.result + c.args.from) c.args.len c.fill_up.new.self.from c.fill_up.new.self.to c.start_of.ensures.span.1
-      (omega arith) (omega (arith, from))
-      (λ below. omega (arith, ap (λ (h : Holed). h.from) up, c.below_pool.ensures.same below)) (ap (λ (h : Holed). h.to) up))
+          (omega arith) (omega (arith, from))
+          (λ below. omega (arith, ap (λ (h : Holed). h.from) up, c.below_pool.ensures.same below)) (ap (λ (h : Holed). h.to) up),
+    )
 
 pub copy-requires-clause-destination : goal.copy-requires-clause-destination
 copy-requires-clause-destination c =
     let s = c.self.inside in
     let to = within_span s.region.bytes s.table c.args.self.now c.args.destination c.start_of-2.result c.start_of-2.ensures.span.0 (c.args.to + c.args.len) c.self.invariant.store c.recall.ensures.laid c.self.view_is c.start_of-2.ensures.span.1 c.requires.destination.1 in
     let room = span_fits s.region.bytes s.table s.in_use c.self.invariant.store c.recall.ensures.laid c.args.destination c.start_of-2.result c.start_of-2.ensures.span.0 c.start_of-2.ensures.span.1 in
-    let up = c.fill_up.ensures in let k = c.self.invariant in
-    (omega (arith, to, room, ap (λ (h : Holed). length h.bytes) up),
+    let up = c.fill_up.ensures in let k = c.self.invariant in (
+      omega (arith, to, room, ap (λ (h : Holed). length h.bytes) up),
       span_outside s.region s.table s.in_use k c.args.destination c.start_of-2.result c.start_of-2.ensures.span.0 (c.start_of-2.result + c.args.to) c.args.len c.fill_up.new.self.from c.fill_up.new.self.to c.start_of-2.ensures.span.1
-      (omega arith) (omega (arith, to))
-      (λ below. omega (arith, ap (λ (h : Holed). h.from) up, c.below_pool-2.ensures.same below)) (ap (λ (h : Holed). h.to) up))
+          (omega arith) (omega (arith, to))
+          (λ below. omega (arith, ap (λ (h : Holed). h.from) up, c.below_pool-2.ensures.same below)) (ap (λ (h : Holed). h.to) up),
+    )
 
 pub invariant_of-self : goal.invariant_of-self
 invariant_of-self c =
