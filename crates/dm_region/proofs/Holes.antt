@@ -1,5 +1,5 @@
 -- The places of a region with a hole.
-use Rattle.std.proofs.Common.{◌≡◌, ℕ, ◌+◌, ◌-◌, ◌<◌, ◌≤◌, ◌⊎◌, inl, inr, List, [], ◌∷◌, ◌++◌, map, length, take, drop, get_or, replicate, Option, Some, None, refl, sym, ap, ◌∙◌, subst, arith}
+use Rattle.std.proofs.Common.{◌≡◌, ℕ, ◌+◌, ◌-◌, ◌<◌, ◌≤◌, ◌⊎◌, inl, inr, List, ◌++◌, map, length, take, drop, replicate, Option, None, refl, sym, ap, ◌∙◌, arith}
 use Rattle.std.proofs.lemmas.Bool.{cases_lt}
 use Rattle.std.proofs.lemmas.List.{length-map, length-replicate, length-append, take-replicate, drop-replicate, drop_all, length-drop, take_all, append_assoc, append-nil}
 use Rattle.std.proofs.Math.Seq.{take-append-add}
@@ -10,7 +10,7 @@ use Rattle.dm_region.specs.inner.Lends.{spliced}
 use Rattle.dm_region.specs.inner.Places.{somes, IsFilled, IsRun, IsEmptyRun, or_zero, IsHoled, emptied}
 use Rattle.dm_region.proofs.Places.{somes-map}
 use Rattle.dm_region.proofs.Written.{part_length}
-use Rattle.dm_region.proofs.Runs.{run_of, none_in, all_none, none_bytes, zeros_in, same_part, bytes_in, put, put_length, put_before, put_behind, put_in, put_filled, put_bytes_are, emptied_length, emptied_behind, emptied_none}
+use Rattle.dm_region.proofs.Runs.{run_of, none_in, all_none, none_bytes, zeros_in, same_part, bytes_in, put_length, put_before, put_behind, put_in, put_filled, put_bytes_are, emptied_length, emptied_behind, emptied_none}
 
 -- the len places from p on are none of those from a on, below b
 abbrev pub Misses : ℕ → ℕ → ℕ → ℕ → Type 0
@@ -97,9 +97,6 @@ module _ (cs : List (Option ℕ)) (a b : ℕ) (h : IsHoled cs a b) where
 
     long : length (refill n (somes (take n (drop p cs))) w) ≡ n
     long = sym (length_refill n (somes (take n (drop p cs))) w (omega (arith, ap length old_is, part_length (map or_zero cs) p n (omega (arith, fits, length-map cs or_zero)))))
-
-    abbrev pub left : List (Option ℕ)
-    left = spliced cs p n (refill n (somes (take n (drop p cs))) w)
 
     pub left_holed : IsHoled (spliced cs p n (refill n (somes (take n (drop p cs))) w)) a b
     left_holed = put_off (refill n (somes (take n (drop p cs))) w) p n long fits off

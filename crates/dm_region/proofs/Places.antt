@@ -1,11 +1,8 @@
 -- The values of places that are all filled.
-use Rattle.std.proofs.Common.{◌≡◌, List, [], ◌∷◌, map, Some, refl, sym, ap, ◌∙◌}
+use Rattle.std.proofs.Common.{◌≡◌, List, [], ◌∷◌, map, Some, refl, ap}
 use Rattle.dm_region.specs.inner.Places.{somes}
 
 module _ {X : Type 0} where
   pub somes-map : (xs : List X) → somes (map Some xs) ≡ xs
   somes-map [] = refl
   somes-map (x ∷ xs) = ap (λ l. x ∷ l) (somes-map xs)
-
-  pub same_values : (xs ys : List X) → map Some xs ≡ map Some ys → xs ≡ ys
-  same_values xs ys e = sym (somes-map xs) ∙ ap somes e ∙ somes-map ys

@@ -1,9 +1,9 @@
 -- A run of a list written over, and what stands at each index then; the places of a region by index.
-use Rattle.std.proofs.Common.{◌≡◌, ℕ, zero, suc, ◌+◌, ◌-◌, ◌<◌, ◌≤◌, ◌⊎◌, inl, inr, List, [], ◌∷◌, ◌++◌, map, length, take, drop, set, get_or, replicate, Option, Some, None, refl, sym, ap, ◌∙◌, subst, arith}
+use Rattle.std.proofs.Common.{◌≡◌, ℕ, zero, suc, ◌+◌, ◌-◌, ◌<◌, ◌≤◌, ◌⊎◌, inl, inr, List, [], ◌∷◌, ◌++◌, map, length, take, drop, set, get_or, replicate, Option, Some, None, refl, sym, ap, ◌∙◌, arith}
 use Rattle.std.proofs.lemmas.List.{length-append, length-take, length-drop, length-map, length-replicate, take-map, drop-map, map-append, get_or_append_left, take-append-drop, drop-drop}
 use Rattle.std.proofs.lemmas.Bool.{cases_lt}
 use Rattle.dm_region.specs.Parts.{with_part}
-use Rattle.dm_region.specs.inner.Places.{IsFilled, IsRun, IsEmptyRun, emptied, or_zero, IsHoled}
+use Rattle.dm_region.specs.inner.Places.{IsFilled, emptied, or_zero}
 use Rattle.dm_region.specs.inner.Lends.{spliced}
 use Rattle.dm_region.proofs.Bytes.{map_get}
 

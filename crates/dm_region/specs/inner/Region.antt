@@ -1,5 +1,5 @@
 -- What holds of the fields of a `Region`, and what contracts see of it.
-use Rattle.std.specs.Prelude.{◌≡◌, ℕ, ◌^◌, ◌<◌, ◌≤◌, List, map, length}
+use Rattle.std.specs.Prelude.{◌≡◌, ◌^◌, ◌<◌, ◌≤◌, map, length}
 use Rattle.dm_region.specs.Holes.{Holed}
 use Rattle.dm_region.specs.inner.Places.{or_zero, IsHoled}
 use Rattle.dm_region.specs.declared.region.Region.TheInside.{Inside}

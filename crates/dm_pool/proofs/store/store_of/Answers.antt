@@ -1,9 +1,7 @@
-use Rattle.std.proofs.Common.{◌≡◌, ◌+◌, ◌*◌, ◌≤◌, ℕ, Bool, true, false, max, length, refl, sym, ap, ◌∙◌, subst, arith}
+use Rattle.std.proofs.Common.{◌≡◌, ◌+◌, ◌*◌, max, length, sym, ap, ◌∙◌, arith}
 use Rattle.std.proofs.Math.Bool.{false≢true}
 use Rattle.dm_region.specs.Holes.{Holed}
 use Rattle.dm_pool.specs.inner.Order.{Layout, no_layout}
-use Rattle.dm_pool.specs.inner.Stored.{IsKept, IsStore}
-use Rattle.dm_pool.specs.Stored.{Stored, zeros_of}
 use Rattle.dm_pool.proofs.Fresh.{low_zeros, scratch_zeros, none_units, none_blocks}
 use Rattle.dm_pool.proofs.Stored.{length-zeros_of}
 use Rattle.dm_pool.proofs.store.store_of.Goals as goal

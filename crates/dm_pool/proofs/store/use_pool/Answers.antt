@@ -1,4 +1,4 @@
-use Rattle.std.proofs.Common.{◌≡◌, ◌+◌, ◌*◌, ◌≤◌, ℕ, Bool, true, false, min, length, refl, sym, ap, ◌∙◌, subst, arith}
+use Rattle.std.proofs.Common.{◌+◌, ◌*◌, ◌≤◌, length, sym, ap, ◌∙◌, subst, arith}
 use Rattle.dm_region.specs.Holes.{Holed}
 use Rattle.dm_region.proofs.Written.{part_length}
 use Rattle.dm_pool.specs.inner.FreeList.{Tells}

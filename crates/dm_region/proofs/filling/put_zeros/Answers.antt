@@ -1,4 +1,4 @@
-use Rattle.std.proofs.Common.{◌≡◌, ℕ, ◌+◌, ◌<◌, List, length, set, get_or, Option, Some, None, refl, sym, ap, ◌∙◌, arith}
+use Rattle.std.proofs.Common.{ℕ, ◌+◌, List, length, set, get_or, Option, Some, None, sym, ap, ◌∙◌, arith}
 use Rattle.dm_region.proofs.Runs.{zeros_next, zeros_put}
 use Rattle.dm_region.proofs.filling.put_zeros.Goals as goal
 

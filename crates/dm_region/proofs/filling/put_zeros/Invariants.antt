@@ -1,4 +1,4 @@
-use Rattle.std.proofs.Common.{◌≡◌, replicate, take}
+use Rattle.std.proofs.Common.{◌≡◌, replicate}
 use Rattle.dm_region.specs.inner.Lends.{spliced}
 use Rattle.dm_region.proofs.filling.put_zeros.Given as goal
 

@@ -1,5 +1,4 @@
-use Rattle.std.proofs.Common.{◌≡◌, ◌+◌, ◌-◌, ◌<◌, ◌≤◌, ℕ, List, Option, map, None, replicate, length, sym, ap, ◌∙◌, subst, arith}
-use Rattle.dm_region.specs.Holes.{Holed}
+use Rattle.std.proofs.Common.{◌≡◌, ◌+◌, ◌-◌, ℕ, List, Option, map, length, sym, ap, ◌∙◌, subst, arith}
 use Rattle.dm_region.specs.inner.Lends.{spliced}
 use Rattle.dm_region.specs.inner.Places.{or_zero, IsHoled}
 use Rattle.dm_region.proofs.Holes.{ends_holed, ends_long, ends_bytes}

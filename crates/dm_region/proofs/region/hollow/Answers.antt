@@ -1,5 +1,4 @@
 use Rattle.std.proofs.Common.{List, ℕ, map, ap, ◌∙◌}
-use Rattle.dm_region.specs.Holes.{Holed}
 use Rattle.dm_region.specs.inner.Places.{or_zero}
 use Rattle.dm_region.proofs.Runs.{none_bytes}
 use Rattle.dm_region.proofs.region.hollow.Goals as goal

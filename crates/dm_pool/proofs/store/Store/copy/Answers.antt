@@ -1,9 +1,9 @@
-use Rattle.std.proofs.Common.{◌≤◌, max, length, List, ℕ, ◌+◌, sym, ap, ◌∙◌, subst, arith}
+use Rattle.std.proofs.Common.{length, ◌+◌, sym, ap, ◌∙◌, subst, arith}
 use Rattle.dm_region.specs.Parts.{part, with_part}
 use Rattle.dm_pool.specs.Parts.{part_copied}
 use Rattle.dm_pool.specs.Stored.{Stored}
 use Rattle.dm_region.specs.Holes.{Holed}
-use Rattle.dm_pool.specs.inner.Stored.{IsStore, IsKept, stored}
+use Rattle.dm_pool.specs.inner.Stored.{IsKept, stored}
 use Rattle.dm_pool.proofs.Stored.{up_kept, with_kept}
 use Rattle.dm_pool.proofs.Copied.{laid_out, span_fits, span_outside, copied_store, copied_stored, within_span}
 use Rattle.dm_pool.proofs.store.Store.copy.Goals as goal

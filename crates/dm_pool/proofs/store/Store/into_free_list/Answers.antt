@@ -1,4 +1,4 @@
-use Rattle.std.proofs.Common.{◌≡◌, ◌+◌, ◌*◌, ◌≤◌, List, ℕ, ◌++◌, drop, length, refl, sym, ap, ◌∙◌, subst, arith}
+use Rattle.std.proofs.Common.{◌≡◌, List, ℕ, ◌++◌, drop, length, refl, sym, ap, ◌∙◌, subst, arith}
 use Rattle.dm_region.specs.Holes.{Holed}
 use Rattle.dm_region.specs.Parts.{part}
 use Rattle.dm_region.proofs.Written.{part_length}
@@ -7,7 +7,6 @@ use Rattle.dm_pool.specs.Blocks.{contents_of, IsPool}
 use Rattle.dm_pool.specs.FreeList.{AreBased, Spells}
 use Rattle.dm_pool.specs.Stored.{Stored}
 use Rattle.dm_pool.specs.inner.Order.{IsToldIn}
-use Rattle.dm_pool.specs.inner.Stored.{pool_part}
 use Rattle.dm_pool.proofs.Fits.{tells_gaps}
 use Rattle.dm_pool.proofs.Layouts.{pool_of}
 use Rattle.dm_pool.proofs.Stored.{pool_behind, whole_parts}

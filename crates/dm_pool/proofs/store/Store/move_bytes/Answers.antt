@@ -1,4 +1,4 @@
-use Rattle.std.proofs.Common.{◌+◌, None, List, ℕ, get_or, sym, ap, ◌∙◌, subst, inl, inr, arith}
+use Rattle.std.proofs.Common.{◌+◌, None, get_or, sym, ap, ◌∙◌, subst, inl, inr, arith}
 use Rattle.dm_pool.specs.Blocks.{moved_bytes}
 use Rattle.dm_pool.specs.Stored.{Stored}
 use Rattle.dm_pool.specs.inner.Stored.{IsStore, IsKept, stored}

@@ -1,6 +1,4 @@
-use Rattle.std.proofs.Common.{◌≡◌, ◌+◌, ◌-◌, ◌++◌, ◌≤◌, ℕ, List, length, inl, sym, subst, ◌∙◌, ap, arith}
-use Rattle.dm_region.specs.Parts.{part}
-use Rattle.dm_region.specs.Holes.{Holed}
+use Rattle.std.proofs.Common.{◌-◌, ◌++◌, ℕ, List, length, inl, sym, ◌∙◌, ap, arith}
 use Rattle.dm_region.proofs.Written.{part_length}
 use Rattle.dm_pool.specs.Stored.{Stored, zeros_of}
 use Rattle.dm_pool.proofs.Fresh.{scratch_split}

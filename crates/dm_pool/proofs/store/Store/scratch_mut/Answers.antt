@@ -1,6 +1,5 @@
-use Rattle.std.proofs.Common.{◌≡◌, ◌+◌, ◌*◌, ◌≤◌, ℕ, List, take, max, length, refl, sym, ◌∙◌, ap, inl, inr, subst, arith}
+use Rattle.std.proofs.Common.{◌≡◌, ◌+◌, ◌*◌, ◌≤◌, take, length, refl, sym, ◌∙◌, ap, inl, inr, subst, arith}
 use Rattle.dm_region.specs.Holes.{Holed}
-use Rattle.dm_region.specs.Parts.{part}
 use Rattle.dm_region.proofs.Parts.{part_in}
 use Rattle.dm_region.proofs.Written.{part_length}
 use Rattle.dm_pool.specs.Stored.{Stored, refit}

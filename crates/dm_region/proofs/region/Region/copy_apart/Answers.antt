@@ -1,8 +1,7 @@
-use Rattle.std.proofs.Common.{◌≡◌, ◌+◌, ◌-◌, ◌<◌, ◌≤◌, ◌⊎◌, ℕ, List, length, inl, inr, sym, ap, ◌∙◌, subst, arith}
-use Rattle.dm_region.specs.Holes.{Holed, IsOutside}
+use Rattle.std.proofs.Common.{◌+◌, ◌≤◌, ◌⊎◌, ℕ, List, inl, inr, ap, ◌∙◌, arith}
+use Rattle.dm_region.specs.Holes.{Holed}
 use Rattle.dm_region.specs.Parts.{part, with_part}
-use Rattle.dm_region.proofs.Written.{copied_more, part_length}
-use Rattle.dm_region.proofs.Bytes.{length-with_part}
+use Rattle.dm_region.proofs.Written.{copied_more}
 use Rattle.dm_region.proofs.region.Region.copy_apart.Goals as goal
 
 pub overflow_add-from : goal.overflow_add-from

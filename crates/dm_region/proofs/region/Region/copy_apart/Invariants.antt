@@ -1,5 +1,4 @@
 use Rattle.std.proofs.Common.{◌≡◌, ◌-◌, ◌≤◌}
-use Rattle.dm_region.specs.Holes.{Holed}
 use Rattle.dm_region.specs.Parts.{part, with_part}
 use Rattle.dm_region.proofs.region.Region.copy_apart.Given as goal
 

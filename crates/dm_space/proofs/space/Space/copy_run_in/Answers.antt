@@ -1,6 +1,6 @@
-use Rattle.std.proofs.Common.{List, ℕ, ◌≡◌, length, replicate, ap, ◌∙◌, sym, arith}
+use Rattle.std.proofs.Common.{List, ℕ, replicate, ap, ◌∙◌, sym, arith}
 use Rattle.std.proofs.lemmas.List.{length-replicate}
-use Rattle.dm_region.specs.Parts.{part, with_part}
+use Rattle.dm_region.specs.Parts.{part}
 use Rattle.dm_region.proofs.Bytes.{length-with_part}
 use Rattle.dm_pool.specs.Stored.{Stored}
 use Rattle.dm_pool.proofs.Blocks.{part_length}
