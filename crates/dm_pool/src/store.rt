@@ -380,9 +380,9 @@ impl Store {
         }
     }
 
-    /// Gives the store up for its region: the low bytes, the scratch bytes, and the bytes of the pool with its free runs,
-    /// as a test of the free list reads them. Blocks do not overlap in the bytes of the pool, and the free ones list the
-    /// gaps, rising, from the first run on.
+    /// Gives the store up for its region: the low bytes, the scratch bytes, and the bytes of the pool with its free
+    /// runs, as a test of the free list reads them. Blocks do not overlap in the bytes of the pool, and the free ones
+    /// list the gaps, rising, from the first run on.
     pub fn into_free_list(self) -> RunList
         ensures region { result.region.bytes ≡ self.low ++ (self.scratch ++ drop 0x310000 result.region.bytes) }
         ensures filled { result.region.to ≤ result.region.from }

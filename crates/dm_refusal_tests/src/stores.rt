@@ -7,20 +7,25 @@ use dm_console::Console;
 use dm_pool::{NewError, Sizes, Store};
 use dm_proc::{AddError, Programs};
 use dm_region::Region;
-use std::alloc::Global;
+use std::alloc::{AllocError, Global};
+
+/// Whether a region of three bytes is three zeros; `AllocError` if no region is made.
+fn are_zeros(alloc: Global) -> Result<bool, AllocError> {
+    let mut region = Region::new(alloc, 3)?;
+    region.fill_up(3);
+    Ok(region.part(0, 3) == [0, 0, 0].as_slice())
+}
 
 /// A region of some zeros.
 pub(crate) fn make_region(rt: &impl Print, alloc: Global) -> Result<()> {
     let call = "Region::new";
-    let mut region = match Region::new(alloc, 3) {
-        Ok(region) => region,
+    let zeros = match are_zeros(alloc) {
+        Ok(zeros) => zeros,
         Err(_) => {
             tell_refused(rt, call, true)?;
-            Region::new(alloc, 3)?
+            are_zeros(alloc)?
         }
     };
-    region.fill_up(3);
-    let zeros = region.part(0, region.len()) == [0, 0, 0].as_slice();
     tell(rt, call, if zeros { "three zeros" } else { "others" })
 }
 

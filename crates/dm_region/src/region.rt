@@ -1,5 +1,5 @@
-//! A region: bytes of fixed number in one allocation. Its hole is a run of bytes that no memory holds yet: they count as
-//! zeros, and are written as zeros before they are lent.
+//! A region: bytes of fixed number in one allocation. Its hole is a run of bytes that were not written yet: they count
+//! as zeros, and are written as zeros before they are lent.
 ghost use Rattle.std.specs.Prelude.{◌≡◌, ◌+◌, ◌-◌, ◌^◌, ◌<◌, ◌≤◌, ◌⊎◌, ◌++◌, max, min, length, replicate, IfOk};
 ghost use Rattle.std.specs.Borrow.{sem};
 ghost use Rattle.dm_region.specs.Holes.{IsOutside};

@@ -1,5 +1,5 @@
 //! Regions of bytes: parts that are written, copies that overlap, two parts at once, and lengths that fail.
-ghost use Rattle.std.specs.Prelude.{◌≡◌, IfOk, length};
+ghost use Rattle.std.specs.Prelude.{◌≡◌, ◌≤◌, IfOk, length};
 
 use crate::checks::same;
 use dm_region::{Region, ends_mut};
@@ -8,12 +8,20 @@ use std::test::Fail;
 
 /// A region of the ten letters from `a` to `j`.
 fn letters(alloc: Global) -> Result<Region, AllocError>
-    ensures { IfOk result (λ region. (length region.bytes ≡ 10) × (region.from ≡ 10)) }
+    ensures { IfOk result (λ region. (length region.bytes ≡ 10) × (region.from ≡ 10) × (region.to ≡ 10)) }
 {
     let mut region = Region::new(alloc, 10)?;
     region.fill_up(10);
     region.part_mut(0, 10).copy_from_slice(b"abcdefghij");
     Ok(region)
+}
+
+/// All bytes of a region that has no hole.
+fn all(region: &Region) -> &[u8]
+    requires { region.now.to ≤ region.now.from }
+    ensures { result.now ≡ region.now.bytes }
+{
+    region.part(0, region.len())
 }
 
 #[test]
@@ -26,7 +34,7 @@ fn regions_begin_as_zeros(rt: HostRuntime) -> Result<(), Fail> {
     same(&rt, "hole", region.hole(), 0);
     region.fill_up(10);
     same(&rt, "filled", region.hole(), 10);
-    same(&rt, "bytes", region.part(0, 10), [0; 10].as_slice());
+    same(&rt, "bytes", all(&region), [0; 10].as_slice());
     Ok(())
 }
 
@@ -48,12 +56,7 @@ fn a_hole_counts_as_zeros(rt: HostRuntime) -> Result<(), Fail> {
     let mut twin = region.duplicate(rt.alloc())?;
     same(&rt, "hole of the duplicate", twin.hole(), 3);
     twin.fill_up(7);
-    same(
-        &rt,
-        "no hole",
-        twin.part(0, 10),
-        b"axa\0\0\0\0xab".as_slice(),
-    );
+    same(&rt, "no hole", all(&twin), b"axa\0\0\0\0xab".as_slice());
     region.fill_down(3);
     same(
         &rt,
@@ -69,11 +72,11 @@ fn a_duplicate_has_bytes_of_its_own(rt: HostRuntime) -> Result<(), Fail> {
     let mut region = letters(rt.alloc())?;
     let mut twin = region.duplicate(rt.alloc())?;
     same(&rt, "length", twin.len(), 10);
-    same(&rt, "bytes", twin.part(0, 10), b"abcdefghij".as_slice());
+    same(&rt, "bytes", all(&twin), b"abcdefghij".as_slice());
     twin.part_mut(0, 1).fill(b'x');
     region.part_mut(9, 1).fill(b'y');
-    same(&rt, "twin", twin.part(0, 10), b"xbcdefghij".as_slice());
-    same(&rt, "region", region.part(0, 10), b"abcdefghiy".as_slice());
+    same(&rt, "twin", all(&twin), b"xbcdefghij".as_slice());
+    same(&rt, "region", all(&region), b"abcdefghiy".as_slice());
     let empty = Region::new(rt.alloc(), 0)?.duplicate(rt.alloc())?;
     same(&rt, "length of an empty one", empty.len(), 0);
     Ok(())
@@ -104,7 +107,7 @@ fn parts_are_read_and_written(rt: HostRuntime) -> Result<(), Fail> {
         let mut region = letters(rt.alloc())?;
         same(&rt, "part", region.part(from, len), part);
         region.part_mut(from, len).fill(b'x');
-        same(&rt, "filled", region.part(0, 10), filled);
+        same(&rt, "filled", all(&region), filled);
     }
     Ok(())
 }
@@ -129,7 +132,7 @@ fn copies_read_before_they_write(rt: HostRuntime) -> Result<(), Fail> {
     for (from, to, len, copied) in rows {
         let mut region = letters(rt.alloc())?;
         region.copy(from, to, len);
-        same(&rt, "copied", region.part(0, 10), copied.as_slice());
+        same(&rt, "copied", all(&region), copied.as_slice());
     }
     Ok(())
 }
@@ -153,7 +156,7 @@ fn two_parts_are_written_at_once(rt: HostRuntime) -> Result<(), Fail> {
         let (first, second) = ends_mut(region.part_mut(from, span), len, other);
         first.fill(b'x');
         second.fill(b'y');
-        same(&rt, "filled", region.part(0, 10), filled.as_slice());
+        same(&rt, "filled", all(&region), filled.as_slice());
     }
     Ok(())
 }
@@ -164,7 +167,7 @@ fn bytes_move_upwards(rt: HostRuntime) -> Result<(), Fail> {
     let mut region = letters(rt.alloc())?;
     let (first, second) = ends_mut(region.part_mut(1, 8), 3, 5);
     second.copy_from_slice(first);
-    same(&rt, "bytes", region.part(0, 10), b"abcdefbcdj".as_slice());
+    same(&rt, "bytes", all(&region), b"abcdefbcdj".as_slice());
     Ok(())
 }
 
@@ -174,7 +177,7 @@ fn bytes_move_downwards(rt: HostRuntime) -> Result<(), Fail> {
     let mut region = letters(rt.alloc())?;
     let (first, second) = ends_mut(region.part_mut(1, 6), 3, 3);
     first.copy_from_slice(second);
-    same(&rt, "bytes", region.part(0, 10), b"aefgefghij".as_slice());
+    same(&rt, "bytes", all(&region), b"aefgefghij".as_slice());
     Ok(())
 }
 
