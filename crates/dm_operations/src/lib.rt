@@ -27,5 +27,5 @@ pub use shifts::{
 };
 pub use stack::{
     InterruptOperation, StackOperation, act_on_interrupt, act_on_interrupt_low, pop_flags,
-    pop_segment_low, pop_to, push_flags, push_register,
+    pop_to, push_flags, push_register,
 };
