@@ -3,4 +3,4 @@ pub mod Unseen
 pub mod Map
 mod ByWidth
 mod Upwards
-mod Compared
+mod Elements

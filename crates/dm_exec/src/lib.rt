@@ -2,6 +2,7 @@
 #![tactic(auto)]
 
 mod control;
+mod each;
 mod effect;
 mod far;
 mod jumps;
@@ -9,7 +10,6 @@ mod laws;
 mod moves;
 mod operation;
 mod repetitions;
-mod searches;
 mod strings;
 
 pub use control::change_flag;
