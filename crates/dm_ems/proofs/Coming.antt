@@ -19,7 +19,7 @@ use Rattle.dm_ems.specs.Consistent.{IsUsed, IsConsistent, HasNumbers}
 use Rattle.dm_ems.specs.Calls.{need, with_slot}
 use Rattle.dm_ems.specs.Handles.{allocate}
 use Rattle.dm_ems.specs.Coming.{IsNewPage, HasPages}
-use Rattle.dm_ems.specs.Laws.{PagesCome}
+use Rattle.dm_ems.specs.inner.Laws.{PagesCome}
 use Rattle.dm_ems.proofs.Consistent.{consistent_append, appended_handles, appended_room}
 use Rattle.dm_ems.proofs.NewBlock.{taken_new}
 use Rattle.dm_ems.proofs.HandleBlocks.{blocks_pushed, count_blocks, none_in}

@@ -24,7 +24,7 @@ use Rattle.dm_ems.specs.Calls.{left, need, slot, with_slot, with_memory}
 use Rattle.dm_ems.specs.Handles.{allocate, deallocate}
 use Rattle.dm_ems.specs.Maps.{map_page, save_map, restore_map, showing}
 use Rattle.dm_ems.specs.Names.{set_name, is_name_of_other}
-use Rattle.dm_ems.specs.Laws.{StartIsConsistent, CallsKeepConsistency, WritesKeepConsistency}
+use Rattle.dm_ems.specs.inner.Laws.{StartIsConsistent, CallsKeepConsistency, WritesKeepConsistency}
 use Rattle.dm_ems.proofs.Owned.{each_block}
 use Rattle.dm_ems.proofs.Consistent.{consistent_append, consistent_appended, consistent_cut, consistent_slot}
 use Rattle.dm_ems.proofs.HandleBlocks.{none_left}

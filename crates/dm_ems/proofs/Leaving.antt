@@ -20,7 +20,7 @@ use Rattle.dm_ems.specs.Calls.{left, need, slot, with_slot, with_memory}
 use Rattle.dm_ems.specs.Handles.{allocate, deallocate}
 use Rattle.dm_ems.specs.Maps.{map_page, save_map, restore_map, showing}
 use Rattle.dm_ems.specs.Names.{set_name, is_name_of_other}
-use Rattle.dm_ems.specs.Laws.{CallsLeaveOutside}
+use Rattle.dm_ems.specs.inner.Laws.{CallsLeaveOutside}
 use Rattle.dm_ems.proofs.Owned.{placed, IsPlaced, elsewhere, owned_pushed, owned_removed, block_pushed, block_last}
 use Rattle.dm_ems.proofs.NewBlock.{IsNew, taken_new}
 

@@ -15,16 +15,14 @@ use Rattle.dm_ems.proofs.Leaving.{calls_leave, leaves_all, leaves_shaped}
 use Rattle.dm_ems_move.proofs.Keeping.{moves_keep}
 use Rattle.dm_ems_move.proofs.Leaving.{moves_leave}
 use Rattle.dm_ems_move.proofs.Shown.{bytes_shaped}
-use Rattle.dm_ems_calls.specs.declared.functions.Function.{Function}
-use Rattle.dm_ems_calls.specs.declared.functions.Function.TheVariants as function
 use Rattle.dm_ems_calls.specs.Caller.{Caller}
 use Rattle.dm_ems_calls.specs.Handles.{tell_pages, allocate, deallocate, count_handles, count_pages, list_pages, reallocate}
 use Rattle.dm_ems_calls.specs.Windows.{map_page, save_map, restore_map, whole_map, map_many}
 use Rattle.dm_ems_calls.specs.Names.{get_name, set_name, handle_name, list_names, find_name, directory}
 use Rattle.dm_ems_calls.specs.Regions.{move_region, exchange_region, regions}
 use Rattle.dm_ems_calls.specs.Frame.{list_frame, mappable}
-use Rattle.dm_ems_calls.specs.Functions.{function_of, call}
-use Rattle.dm_ems_calls.specs.Laws.{ExpandedMemoryCallsKeep}
+use Rattle.dm_ems_calls.specs.Functions.{call}
+use Rattle.dm_ems_calls.specs.inner.Laws.{ExpandedMemoryCallsKeep}
 
 -- what a call does to the tables and the memory
 record Keeps (c d : Caller) : Type 0 where
@@ -162,30 +160,31 @@ mappable_keeps c =
 
 -- ---- all calls
 
-call_keeps : (c : Caller) (f : Function) → Keeps c (call c f)
-call_keeps c function.Status = nothing c _
-call_keeps c function.Frame = nothing c _
-call_keeps c function.Pages = tell_pages_keeps c
-call_keeps c function.Allocate = allocate_keeps c
-call_keeps c function.MapPage = map_page_keeps c
-call_keeps c function.Deallocate = deallocate_keeps c
-call_keeps c function.Version = nothing c _
-call_keeps c function.SaveMap = save_map_keeps c
-call_keeps c function.RestoreMap = restore_map_keeps c
-call_keeps c function.HandleCount = count_handles_keeps c
-call_keeps c function.PageCount = count_pages_keeps c
-call_keeps c function.PageList = list_pages_keeps c
-call_keeps c function.WholeMap = whole_map_keeps c
-call_keeps c function.MapMany = map_many_keeps c
-call_keeps c function.Reallocate = reallocate_keeps c
-call_keeps c function.HandleName = handle_name_keeps c
-call_keeps c function.Directory = directory_keeps c
-call_keeps c function.Regions = regions_keeps c
-call_keeps c function.Mappable = mappable_keeps c
-call_keeps c function.Unknown = nothing c _
+call_keeps : (c : Caller) (n : ℕ) → Keeps c (call c n)
+call_keeps c n =
+    choice c (n == 0x40) _ _ (nothing c _)
+    (choice c (n == 0x41) _ _ (nothing c _)
+    (choice c (n == 0x42) _ _ (tell_pages_keeps c)
+    (choice c (n == 0x43) _ _ (allocate_keeps c)
+    (choice c (n == 0x44) _ _ (map_page_keeps c)
+    (choice c (n == 0x45) _ _ (deallocate_keeps c)
+    (choice c (n == 0x46) _ _ (nothing c _)
+    (choice c (n == 0x47) _ _ (save_map_keeps c)
+    (choice c (n == 0x48) _ _ (restore_map_keeps c)
+    (choice c (n == 0x4B) _ _ (count_handles_keeps c)
+    (choice c (n == 0x4C) _ _ (count_pages_keeps c)
+    (choice c (n == 0x4D) _ _ (list_pages_keeps c)
+    (choice c (n == 0x4E) _ _ (whole_map_keeps c)
+    (choice c (n == 0x50) _ _ (map_many_keeps c)
+    (choice c (n == 0x51) _ _ (reallocate_keeps c)
+    (choice c (n == 0x53) _ _ (handle_name_keeps c)
+    (choice c (n == 0x54) _ _ (directory_keeps c)
+    (choice c (n == 0x57) _ _ (regions_keeps c)
+    (choice c (n == 0x58) _ _ (mappable_keeps c)
+    (nothing c _)))))))))))))))))))
 
 pub keep : ExpandedMemoryCallsKeep
 keep = record {
-  consistency = λ c. (call_keeps c (function_of (byte_of c.cpu Ah))).consistency;
-  outside = λ c. (call_keeps c (function_of (byte_of c.cpu Ah))).outside;
+  consistency = λ c. (call_keeps c (byte_of c.cpu Ah)).consistency;
+  outside = λ c. (call_keeps c (byte_of c.cpu Ah)).outside;
 }

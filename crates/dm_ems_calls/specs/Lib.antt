@@ -5,4 +5,4 @@ pub mod Names
 pub mod Frame
 pub mod Regions
 pub mod Functions
-pub mod Laws
+pub mod inner

@@ -2,3 +2,4 @@
 pub mod Sides
 pub mod Tables
 pub mod Walks
+pub mod Laws

@@ -1,5 +1,5 @@
 -- Calls keep the tables and the memory consistent, and leave what is outside.
-use Rattle.std.proofs.Common.{Bool, true, false}
+use Rattle.std.proofs.Common.{ℕ, ◌==◌, Bool, true, false, cond}
 use Rattle.dm_ins.specs.declared.operand.ByteRegister.TheVariants.{Ah}
 use Rattle.dm_cpu.specs.Cpu.{byte_of}
 use Rattle.dm_xms.specs.Tables.{Extended}
@@ -7,15 +7,13 @@ use Rattle.dm_xms.specs.Consistent.{IsConsistent}
 use Rattle.dm_xms.specs.Outside.{LeavesOutside}
 use Rattle.dm_xms.proofs.Consistent.{calls_keep}
 use Rattle.dm_xms.proofs.Leaving.{calls_leave, leaves_all}
-use Rattle.dm_xms_calls.specs.declared.functions.Function.{Function}
-use Rattle.dm_xms_calls.specs.declared.functions.Function.TheVariants as function
 use Rattle.dm_xms_calls.specs.Caller.{Caller}
 use Rattle.dm_xms_calls.specs.Area.{take_area, release_area}
 use Rattle.dm_xms_calls.specs.Line.{enable_globally, disable_globally, enable_locally, disable_locally}
 use Rattle.dm_xms_calls.specs.Blocks.{tell_free, allocate, deallocate, move_memory, lock, unlock, tell_information, reallocate}
 use Rattle.dm_xms_calls.specs.Uppers as uppers
-use Rattle.dm_xms_calls.specs.Functions.{function_of, call}
-use Rattle.dm_xms_calls.specs.Laws.{ExtendedMemoryCallsKeep}
+use Rattle.dm_xms_calls.specs.Functions.{call}
+use Rattle.dm_xms_calls.specs.inner.Laws.{ExtendedMemoryCallsKeep}
 
 -- what a call does to the tables and the memory
 record Keeps (x y : Extended) : Type 0 where
@@ -24,6 +22,10 @@ record Keeps (x y : Extended) : Type 0 where
 
 nothing : (x : Extended) → Keeps x x
 nothing x = record { consistency = λ l. l; outside = leaves_all x }
+
+choice : (c : Caller) (b : Bool) (d e : Caller) → Keeps c.x d.x → Keeps c.x e.x → Keeps c.x (cond b d e).x
+choice c true d e h g = h
+choice c false d e h g = g
 
 take_area_keeps : (c : Caller) → Keeps c.x (take_area c).x
 unfolding take_area
@@ -96,30 +98,31 @@ unfolding uppers.resize
 resize_keeps true c = nothing c.x
 resize_keeps false c = record { consistency = calls_keep.resizing c.x c.cpu.dx c.cpu.bx; outside = calls_leave.resizing c.x c.cpu.dx c.cpu.bx }
 
-call_keeps : (upper : Bool) (c : Caller) (f : Function) → Keeps c.x (call upper c f).x
-call_keeps upper c function.Version = nothing c.x
-call_keeps upper c function.TakeArea = take_area_keeps c
-call_keeps upper c function.ReleaseArea = release_area_keeps c
-call_keeps upper c function.EnableGlobally = enable_globally_keeps c
-call_keeps upper c function.DisableGlobally = disable_globally_keeps c
-call_keeps upper c function.EnableLocally = enable_locally_keeps c
-call_keeps upper c function.DisableLocally = disable_locally_keeps c
-call_keeps upper c function.Line = nothing c.x
-call_keeps upper c function.FreeMemory = tell_free_keeps c
-call_keeps upper c function.Allocate = allocate_keeps c
-call_keeps upper c function.Deallocate = deallocate_keeps c
-call_keeps upper c function.Move = move_memory_keeps c
-call_keeps upper c function.Lock = lock_keeps c
-call_keeps upper c function.Unlock = unlock_keeps c
-call_keeps upper c function.Information = tell_information_keeps c
-call_keeps upper c function.Reallocate = reallocate_keeps c
-call_keeps upper c function.RequestUpper = request_keeps upper c
-call_keeps upper c function.ReleaseUpper = release_keeps upper c
-call_keeps upper c function.ResizeUpper = resize_keeps upper c
-call_keeps upper c function.Unknown = nothing c.x
+call_keeps : (upper : Bool) (c : Caller) (n : ℕ) → Keeps c.x (call upper c n).x
+call_keeps upper c n =
+    choice c (n == 0x00) _ _ (nothing c.x)
+    (choice c (n == 0x01) _ _ (take_area_keeps c)
+    (choice c (n == 0x02) _ _ (release_area_keeps c)
+    (choice c (n == 0x03) _ _ (enable_globally_keeps c)
+    (choice c (n == 0x04) _ _ (disable_globally_keeps c)
+    (choice c (n == 0x05) _ _ (enable_locally_keeps c)
+    (choice c (n == 0x06) _ _ (disable_locally_keeps c)
+    (choice c (n == 0x07) _ _ (nothing c.x)
+    (choice c (n == 0x08) _ _ (tell_free_keeps c)
+    (choice c (n == 0x09) _ _ (allocate_keeps c)
+    (choice c (n == 0x0A) _ _ (deallocate_keeps c)
+    (choice c (n == 0x0B) _ _ (move_memory_keeps c)
+    (choice c (n == 0x0C) _ _ (lock_keeps c)
+    (choice c (n == 0x0D) _ _ (unlock_keeps c)
+    (choice c (n == 0x0E) _ _ (tell_information_keeps c)
+    (choice c (n == 0x0F) _ _ (reallocate_keeps c)
+    (choice c (n == 0x10) _ _ (request_keeps upper c)
+    (choice c (n == 0x11) _ _ (release_keeps upper c)
+    (choice c (n == 0x12) _ _ (resize_keeps upper c)
+    (nothing c.x)))))))))))))))))))
 
 pub keep : ExtendedMemoryCallsKeep
 keep = record {
-  consistency = λ upper c. (call_keeps upper c (function_of (byte_of c.cpu Ah))).consistency;
-  outside = λ upper c. (call_keeps upper c (function_of (byte_of c.cpu Ah))).outside;
+  consistency = λ upper c. (call_keeps upper c (byte_of c.cpu Ah)).consistency;
+  outside = λ upper c. (call_keeps upper c (byte_of c.cpu Ah)).outside;
 }

@@ -4,4 +4,4 @@ pub mod Line
 pub mod Blocks
 pub mod Uppers
 pub mod Functions
-pub mod Laws
+pub mod inner
