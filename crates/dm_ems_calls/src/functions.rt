@@ -23,6 +23,7 @@ const NO_FUNCTION: u8 = 0x84;
 
 /// Does one function of INT 67h, on the registers, the tables and the memory. The scratch part of the space may be
 /// overwritten.
+#[tactic(auto, unfolding(crate::specs::Functions::call))]
 fn call(cpu: &mut Cpu, ems: &mut Ems, space: &mut Space, number: u8)
     requires { IsConsistent (expanded ems.old space.old.memory) }
     ensures { caller cpu.new ems.new space.new.memory ≡ call (caller cpu.old ems.old space.old.memory) number }

@@ -22,6 +22,7 @@ const NO_FUNCTION: u8 = 0x80;
 
 /// Does one function of the driver, on the registers, the tables and the memory. `upper` is whether upper memory
 /// belongs to the arena of DOS. The scratch part of the space may be overwritten.
+#[tactic(auto, unfolding(crate::specs::Functions::call))]
 fn call(cpu: &mut Cpu, xms: &mut Xms, space: &mut Space, upper: bool, number: u8)
     requires { IsConsistent (extended xms.old space.old.memory) }
     ensures { caller cpu.new xms.new space.new.memory ≡ call upper (caller cpu.old xms.old space.old.memory) number }
