@@ -1,10 +1,10 @@
 -- The functions of INT 67h: LIM EMS 4.0, section 3. AH is the status, 0 for success; registers that are not named stay.
 -- An error sets AH alone, except in 51h, and changes neither tables nor memory.
 use Rattle.std.specs.Prelude.{ℕ, ◌==◌, if◌then◌else◌, Option, Some, None}
+use Rattle.std.specs.Option.{option_map_or}
 use Rattle.dm_ins.specs.declared.operand.ByteRegister.TheVariants.{Al, Ah}
 use Rattle.dm_cpu.specs.declared.cpu.Cpu.{Cpu}
 use Rattle.dm_cpu.specs.Cpu.{byte_of, with_byte}
-use Rattle.dm_ems.specs.declared.status.Status.{Status}
 use Rattle.dm_ems.specs.declared.status.Status.TheVariants.{NoSubfunction}
 use Rattle.dm_ems.specs.Status.{code_of}
 use Rattle.dm_ems.specs.Tables.{unallocated}
@@ -24,15 +24,10 @@ abbrev pub numbered : Cpu → Option ℕ → Cpu
 numbered cpu None = cpu
 numbered cpu (Some n) = with_byte cpu Al n
 
--- the status byte of 51h for a handle in use: that of the error, 0 if there is none
-abbrev pub status_of : Option Status → ℕ
-status_of None = 0
-status_of (Some e) = code_of e
-
 -- the registers after 51h for a handle in use: BX is its number of pages, also where it could not be changed, and AH
--- is the status
+-- is the status: that of the error, 0 if there is none
 abbrev pub recounted : Cpu → Reallocated → Cpu
-recounted cpu r = with_status (record cpu { bx = r.pages }) (status_of r.refused)
+recounted cpu r = with_status (record cpu { bx = r.pages }) (option_map_or code_of r.refused 0)
 
 -- 53h, by the number in AL; status 8Fh for another one
 unfoldable pub handle_name : Caller → ℕ → Caller

@@ -1,6 +1,6 @@
 -- The map of the frame as bytes (LIM EMS 4.0, function 15; INT 67h function 4Eh): for each window the handle and the
 -- logical page that it shows, two words, or FFFFh twice where it shows nothing. (The standard leaves the form open.)
-use Rattle.std.specs.Prelude.{ℕ, ◌+◌, ◌*◌, ◌==◌, ◌&&◌, if◌then◌else◌, List, [], ◌∷◌, ◌++◌, slice_get, slice_index_or, Option, Some, None, Result, Ok, Err}
+use Rattle.std.specs.Prelude.{ℕ, ◌+◌, ◌*◌, ◌==◌, ◌&&◌, if◌then◌else◌, List, [], ◌∷◌, ◌++◌, slice_get, slice_index_or, Option, Some, None, unwrap_or, Result, Ok, Err}
 use Rattle.dm_space.specs.Memory.{Memory}
 use Rattle.dm_ems.specs.declared.status.Status.{Status}
 use Rattle.dm_ems.specs.declared.status.Status.TheVariants.{NoSubfunction, BadMap}
@@ -13,14 +13,9 @@ use Rattle.dm_moves.specs.Buffers.{word_after}
 
 -- ---- from windows to bytes
 
--- a page's handle and logical number; FFFFh twice without a page
-abbrev pub or_none : Option (ℕ × ℕ) → ℕ × ℕ
-or_none None = (0xFFFF, 0xFFFF)
-or_none (Some n) = n
-
 -- the handle and the logical page that a window shows; FFFFh twice where it shows no page
 abbrev pub numbers : List Page → Option ℕ → ℕ × ℕ
-numbers pages window = or_none (numbers_of pages window)
+numbers pages window = unwrap_or (numbers_of pages window) (0xFFFF, 0xFFFF)
 
 -- a handle and a logical page as four bytes, two words with the low byte first
 abbrev pub map_entry : ℕ × ℕ → List ℕ
