@@ -2,3 +2,4 @@
 pub mod Calls
 pub mod Tables
 pub mod Laws
+pub mod Consistent

@@ -13,18 +13,13 @@ use Rattle.dm_moves.specs.Buffers.{word_after}
 
 -- ---- from windows to bytes
 
--- the handle and the logical page that a window shows; FFFFh twice where it shows no page
-abbrev pub numbers : List Page → Option ℕ → ℕ × ℕ
-numbers pages window = unwrap_or (numbers_of pages window) (0xFFFF, 0xFFFF)
-
--- a handle and a logical page as four bytes, two words with the low byte first
-abbrev pub map_entry : ℕ × ℕ → List ℕ
-map_entry n = word_bytes n.0 ++ word_bytes n.1
-
--- the bytes of the map of these windows, four for each
+-- the bytes of the map of these windows, four for each: the handle and the logical page that the window shows, or FFFFh
+-- twice, as two words
 abbrev pub map_entries : List Page → List (Option ℕ) → List ℕ
 map_entries pages [] = []
-map_entries pages (window ∷ windows) = map_entry (numbers pages window) ++ map_entries pages windows
+map_entries pages (window ∷ windows) =
+    let n = unwrap_or (numbers_of pages window) (0xFFFF, 0xFFFF) in
+    (word_bytes n.0 ++ word_bytes n.1) ++ map_entries pages windows
 
 -- ---- from bytes to windows
 

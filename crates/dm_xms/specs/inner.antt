@@ -3,3 +3,4 @@ pub mod Sides
 pub mod Tables
 pub mod Walks
 pub mod Laws
+pub mod Consistent
