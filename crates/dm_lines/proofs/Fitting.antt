@@ -1,5 +1,5 @@
 -- The numbers in a statement fit their types.
-use Rattle.std.proofs.Common.{◌≡◌, ℕ, ◌+◌, ◌-◌, ◌*◌, ◌<◌, ◌^◌, Bool, true, false, not, List, [], ◌∷◌, ◌++◌, Option, Some, None, option_map, leb, refl, subst, arith}
+use Rattle.std.proofs.Common.{◌≡◌, ℕ, ◌+◌, ◌-◌, ◌*◌, ◌<◌, ◌^◌, Bool, true, false, not, List, [], ◌∷◌, ◌++◌, Option, Some, None, option_map, leb, refl, sym, subst, arith}
 use Rattle.std.specs.Prelude.{◌==◌, if◌then◌else◌, nat_le, nat_lt, length, take, is_some}
 use Rattle.std.specs.List.{AllByRecursion}
 use Rattle.std.proofs.lemmas.Bool.Decides.{nat_tests}
@@ -25,7 +25,9 @@ use Rattle.dm_lines.specs.declared.term.Value.{Value}
 use Rattle.dm_lines.specs.declared.term.Term.{Term}
 use Rattle.dm_lines.specs.declared.term.Term.TheVariants as term
 use Rattle.dm_lines.specs.declared.statement.Instruction.{Instruction}
-use Rattle.dm_lines.specs.Words.{all_words, spelling_of, meaning_of, keyword_token, reserved}
+use Rattle.dm_lines.specs.Words.{reserved}
+use Rattle.dm_lines.specs.inner.Words.{all_words, spelling_of, meaning_of, keyword_token}
+use Rattle.dm_lines.proofs.Rows.{reserved_is}
 use Rattle.dm_lines.specs.Tokens.{uppercase, is_word_byte, digit_of, magnitude_of, number_of, padded_of, or_name, word_token, closed, with_front, then_tokens, marked, inside_quotes, lexed, tokens_of}
 use Rattle.dm_lines.specs.Operands.{minus, amount_of, added_of, plain, parsed_value, amount_word, base_at, based, onto, is_close, inside, memory_of, far_pointer, from_number, term_of, begin, is_comma, parts, term_pair, terms_of}
 use Rattle.dm_lines.specs.Statements as line
@@ -86,8 +88,7 @@ meaning_fits (reserved_word.Alias a) = tt
 meaning_fits (reserved_word.Keyword k) = keyword_fits k
 
 reserved_fits : (w : List ℕ) → Holds TokenFits (reserved w)
-unfolding reserved
-reserved_fits w = by (named spelling_of all_words w)
+reserved_fits w = subst (Holds TokenFits) (sym (reserved_is w)) (by (named spelling_of all_words w))
   where
     by : (o : Option Reserved) → Holds TokenFits (option_map meaning_of o)
     by None = tt

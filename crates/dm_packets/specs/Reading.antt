@@ -21,8 +21,8 @@ abbrev pub one_more : Option (List ℕ) → ℕ → Option (List ℕ)
 one_more None b = None
 one_more (Some content) b = if length content == 0x4000 then None else Some (content ++ b ∷ [])
 
--- a packet that is not too long, by its content and its check digits: damaged if these are wrong, or if the content ends in
--- an escape
+-- a packet that is not too long, by its content and its check digits: damaged if these are wrong, or if the content ends
+-- in an escape
 abbrev pub whole_packet : List ℕ → ℕ → ℕ → Received
 whole_packet content high low =
     if is_checked (checksum_of content) high low then option_map_or Packet (unescaped content) Damaged else Damaged
