@@ -43,6 +43,10 @@ then_holds : {A B : Type 0} (P : A → Type 0) (Q : B → Type 0) (o : Option A)
 then_holds P Q None f h g = tt
 then_holds P Q (Some x) f h g = g x h
 
+map_holds : {A B : Type 0} (P : A → Type 0) (Q : B → Type 0) (o : Option A) (f : A → B) → Holds P o → ((x : A) → P x → Q (f x)) → Holds Q (option_map f o)
+map_holds P Q None f h g = tt
+map_holds P Q (Some x) f h g = g x h
+
 either_holds : {A : Type 0} (P : A → Type 0) (c : Bool) (x y : Option A) → Holds P x → Holds P y → Holds P (if c then x else y)
 either_holds P true x y h k = h
 either_holds P false x y h k = k
@@ -104,7 +108,7 @@ word_fits w = either_holds TokenFits _ _ _ (then_holds (λ n. n < 2 ^ 16) TokenF
 
 closed_fits : (w : List ℕ) → Holds TokensFit (closed w)
 closed_fits [] = tt
-closed_fits (b ∷ w) = then_holds TokenFits TokensFit (word_token (b ∷ w)) (λ x. Some (x ∷ [])) (word_fits (b ∷ w)) (λ x h. (h, tt))
+closed_fits (b ∷ w) = map_holds TokenFits TokensFit (word_token (b ∷ w)) (λ x. x ∷ []) (word_fits (b ∷ w)) (λ x h. (h, tt))
 
 append_fits : (xs ys : List Token) → TokensFit xs → TokensFit ys → TokensFit (xs ++ ys)
 append_fits [] ys h k = k
@@ -168,7 +172,7 @@ plain_fits None h = tt
 plain_fits (Some n) h = h
 
 value_fits : (ts : List Token) → TokensFit ts → Holds ValueFits (parsed_value ts)
-value_fits (t.Name l ∷ ts) h = then_holds AmountFits ValueFits (added_of ts) (λ n. Some (record { label = Some l; amount = n })) (added_fits ts h.1) (λ n k. k)
+value_fits (t.Name l ∷ ts) h = map_holds AmountFits ValueFits (added_of ts) (λ n. record { label = Some l; amount = n }) (added_fits ts h.1) (λ n k. k)
 value_fits ts h = plain_fits (amount_of ts) (amount_fits ts h)
 
 abbrev RestFits : {A : Type 0} → A × List Token → Type 0
@@ -187,8 +191,8 @@ base_fits (t.Word Bx ∷ ts) h = h.1
 base_fits _ h = tt
 
 based_fits : (s : Size) (o : Option (Base × List Token)) (ts : List Token) → Holds RestFits o → TokensFit ts → Holds TermFits (based s o ts)
-based_fits s None ts h k = then_holds ValueFits TermFits (parsed_value ts) (λ v. Some (term.Address s v)) (value_fits ts k) (λ v m. m)
-based_fits s (Some b) ts h k = then_holds AmountFits TermFits (added_of b.1) _ (added_fits b.1 h) (λ n m. m)
+based_fits s None ts h k = map_holds ValueFits TermFits (parsed_value ts) (term.Address s) (value_fits ts k) (λ v m. m)
+based_fits s (Some b) ts h k = map_holds AmountFits TermFits (added_of b.1) (term.Memory s b.0) (added_fits b.1 h) (λ n m. m)
 
 onto_fits : (x : Token) (o : Option (List Token)) → TokenFits x → Holds TokensFit o → Holds TokensFit (onto x o)
 onto_fits x None h k = tt
@@ -207,12 +211,12 @@ word_of_fits (Plus n) h = h
 word_of_fits (Minus n) h = omega arith
 
 far_fits : (n : Amount) (ts : List Token) → AmountFits n → TokensFit ts → Holds TermFits (far_pointer n ts)
-far_fits n ts h k = then_holds AmountFits TermFits (amount_of ts) _ (amount_fits ts k) (λ m l. (word_of_fits n h, word_of_fits m l))
+far_fits n ts h k = map_holds AmountFits TermFits (amount_of ts) (λ m. term.Far (amount_word n) (amount_word m)) (amount_fits ts k) (λ m l. (word_of_fits n h, word_of_fits m l))
 
 number_term_fits : (ts : List Token) → TokensFit ts → Holds TermFits (from_number ts)
 number_term_fits (t.Number n ∷ t.Colon ∷ ts) h = far_fits (Plus n) ts h.0 h.1.1
 number_term_fits (t.Minus ∷ t.Number n ∷ t.Colon ∷ ts) h = then_holds AmountFits TermFits (minus n) _ (minus_fits n h.1.0) (λ m k. far_fits m ts k h.1.1.1)
-number_term_fits ts h = then_holds ValueFits TermFits (parsed_value ts) (λ v. Some (term.Number v)) (value_fits ts h) (λ v m. m)
+number_term_fits ts h = map_holds ValueFits TermFits (parsed_value ts) term.Number (value_fits ts h) (λ v m. m)
 
 term_fits : (ts : List Token) → TokensFit ts → Holds TermFits (term_of ts)
 unfolding term_of
@@ -245,7 +249,7 @@ TermsFit x = TermFits x.0 × TermFits x.1
 
 pair_fits : (ps : List (List Token)) → PartsFit ps → Holds TermsFit (term_pair ps)
 unfolding PartsFit
-pair_fits (p ∷ []) h = then_holds TermFits TermsFit (term_of p) _ (term_fits p h.0) (λ x k. (k, tt))
+pair_fits (p ∷ []) h = map_holds TermFits TermsFit (term_of p) (λ x. (x, term.Nothing)) (term_fits p h.0) (λ x k. (k, tt))
 pair_fits (p ∷ q ∷ []) h = then_holds TermFits TermsFit (term_of p) _ (term_fits p h.0) (λ x k. then_holds TermFits TermsFit (term_of q) (λ y. Some (x, y)) (term_fits q h.1.0) (λ y l. (k, l)))
 pair_fits _ h = tt
 
@@ -256,12 +260,12 @@ terms_fit (x ∷ ts) h = pair_fits (parts (x ∷ ts)) (parts_fit (x ∷ ts) h)
 -- ---- statements
 
 mnemonic_fits : (ts : List Token) → TokensFit ts → Holds RestFits (mnemonic_at ts)
-mnemonic_fits (t.Mnemonic m ∷ t.Short ∷ ts) h = then_holds (λ j. Unit {0}) RestFits (line.short_of m) (λ j. Some (j, ts)) (any (line.short_of m)) (λ j k. h.1.1)
+mnemonic_fits (t.Mnemonic m ∷ t.Short ∷ ts) h = map_holds (λ j. Unit {0}) RestFits (line.short_of m) (λ j. (j, ts)) (any (line.short_of m)) (λ j k. h.1.1)
   where
     any : (o : Option Mnemonic) → Holds (λ j. Unit {0}) o
     any None = tt
     any (Some j) = tt
-mnemonic_fits (t.Mnemonic m ∷ t.Far ∷ ts) h = then_holds (λ j. Unit {0}) RestFits (line.far_mnemonic m) (λ j. Some (j, ts)) (any (line.far_mnemonic m)) (λ j k. h.1.1)
+mnemonic_fits (t.Mnemonic m ∷ t.Far ∷ ts) h = map_holds (λ j. Unit {0}) RestFits (line.far_mnemonic m) (λ j. (j, ts)) (any (line.far_mnemonic m)) (λ j k. h.1.1)
   where
     any : (o : Option Mnemonic) → Holds (λ j. Unit {0}) o
     any None = tt
@@ -339,9 +343,9 @@ words_fit (p ∷ ps) h = then_list_fits ValueFits (list_of_one (parsed_value p))
 item_fits : (ts : List Token) → TokensFit ts → Holds ItemFits (item_of ts)
 unfolding ListFits
 item_fits [] h = tt
-item_fits (t.DataBytes ∷ ts) h = then_holds (ListFits AmountFits) ItemFits (line.byte_items (parts ts)) (λ bs. Some (line.bytes bs)) (bytes_fit (parts ts) (parts_fit ts h.1)) (λ bs k. k)
-item_fits (t.DataWords ∷ ts) h = then_holds (ListFits ValueFits) ItemFits (word_items (parts ts)) (λ ws. Some (line.words ws)) (words_fit (parts ts) (parts_fit ts h.1)) (λ ws k. k)
-item_fits ts h = then_holds InstructionFits ItemFits (instruction_of ts) (λ i. Some (instruction i)) (instruction_fits ts h) (λ i k. k)
+item_fits (t.DataBytes ∷ ts) h = map_holds (ListFits AmountFits) ItemFits (line.byte_items (parts ts)) line.bytes (bytes_fit (parts ts) (parts_fit ts h.1)) (λ bs k. k)
+item_fits (t.DataWords ∷ ts) h = map_holds (ListFits ValueFits) ItemFits (word_items (parts ts)) line.words (words_fit (parts ts) (parts_fit ts h.1)) (λ ws k. k)
+item_fits ts h = map_holds InstructionFits ItemFits (instruction_of ts) instruction (instruction_fits ts h) (λ i k. k)
 
 abbrev StatementFits : Statement → Type 0
 StatementFits s = ItemFits s.item

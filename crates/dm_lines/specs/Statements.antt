@@ -1,7 +1,7 @@
 -- The statement of a line: a label, and an instruction or data. None says that the tokens, or the line, are none.
 -- Source: Intel 8086 Family User's Manual, section 2.9 (statements of ASM-86); which of its forms there are is this
 -- machine's own (docs/DECISIONS.md).
-use Rattle.std.specs.Prelude.{ℕ, Bool, true, false, List, [], ◌∷◌, ◌++◌, length, Option, Some, None, is_some, nat_lt, if◌then◌else◌}
+use Rattle.std.specs.Prelude.{ℕ, Bool, true, false, List, [], ◌∷◌, ◌++◌, length, Option, Some, None, is_some, nat_lt, if◌then◌else◌, option_map}
 use Rattle.dm_ins.specs.declared.operand.WordRegister.TheVariants.{Ax}
 use Rattle.dm_ins.specs.declared.action.Mnemonic.{Mnemonic}
 use Rattle.dm_ins.specs.declared.action.Mnemonic.TheVariants as op
@@ -100,12 +100,8 @@ far_mnemonic _ = None
 
 -- the mnemonic of one or two words at the front, and the tokens after it
 abbrev pub mnemonic_at : List Token → Option (Mnemonic × List Token)
-mnemonic_at (t.Mnemonic m ∷ t.Short ∷ ts) = do
-  j ← short_of m
-  Some (j, ts)
-mnemonic_at (t.Mnemonic m ∷ t.Far ∷ ts) = do
-  j ← far_mnemonic m
-  Some (j, ts)
+mnemonic_at (t.Mnemonic m ∷ t.Short ∷ ts) = option_map (λ j. (j, ts)) (short_of m)
+mnemonic_at (t.Mnemonic m ∷ t.Far ∷ ts) = option_map (λ j. (j, ts)) (far_mnemonic m)
 mnemonic_at (t.Mnemonic m ∷ ts) = Some (m, ts)
 mnemonic_at _ = None
 
@@ -159,15 +155,9 @@ instruction_of ts = do
 -- what the tokens after a label are: nothing, the data of DB or DW, or an instruction
 abbrev pub item_of : List Token → Option Item
 item_of [] = Some nothing
-item_of (t.DataBytes ∷ ts) = do
-  bs ← byte_items (parts ts)
-  Some (bytes bs)
-item_of (t.DataWords ∷ ts) = do
-  ws ← word_items (parts ts)
-  Some (words ws)
-item_of ts = do
-  i ← instruction_of ts
-  Some (instruction i)
+item_of (t.DataBytes ∷ ts) = option_map bytes (byte_items (parts ts))
+item_of (t.DataWords ∷ ts) = option_map words (word_items (parts ts))
+item_of ts = option_map instruction (instruction_of ts)
 
 -- the statement of this label, if there is one, and this item
 abbrev pub labelled : Option Name'.Name → Option Item → Option Statement

@@ -1,7 +1,7 @@
 -- The tokens of a line: words, numbers, signs and quoted text. None says that the bytes are no tokens.
 -- Source: Intel 8086 Family User's Manual, section 2.9 (statements, names and constants of ASM-86); the bounds of
 -- names and numbers are this machine's own.
-use Rattle.std.specs.Prelude.{ℕ, ◌+◌, ◌-◌, ◌*◌, Bool, true, false, not, ◌&&◌, ◌||◌, ◌==◌, List, [], ◌∷◌, ◌++◌, length, Option, Some, None, nat_le, if◌then◌else◌, replicate, take, drop, slice_index}
+use Rattle.std.specs.Prelude.{ℕ, ◌+◌, ◌-◌, ◌*◌, Bool, true, false, not, ◌&&◌, ◌||◌, ◌==◌, List, [], ◌∷◌, ◌++◌, length, Option, Some, None, nat_le, if◌then◌else◌, replicate, take, drop, slice_index, option_map}
 use Rattle.dm_ins.specs.Walks.{◌>>=◌}
 use Rattle.dm_lines.specs.Words.{reserved}
 use Rattle.dm_lines.specs.declared.token.Name as Name'
@@ -60,9 +60,7 @@ word_token w =
 -- the token of the word w, which has ended, as a list; no token for an empty w, and None if w is no word
 abbrev pub closed : List ℕ → Option (List Token)
 closed [] = Some []
-closed (b ∷ w) = do
-  t ← word_token (b ∷ w)
-  Some (t ∷ [])
+closed (b ∷ w) = option_map (λ t. t ∷ []) (word_token (b ∷ w))
 
 -- the tokens xs in front of those of the bytes behind them on the line; None without those
 abbrev pub with_front : List Token → Option (List Token) → Option (List Token)
