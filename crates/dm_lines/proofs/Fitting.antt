@@ -28,10 +28,10 @@ use Rattle.dm_lines.specs.declared.statement.Instruction.{Instruction}
 use Rattle.dm_lines.specs.Words.{reserved}
 use Rattle.dm_lines.specs.inner.Words.{all_words, spelling_of, meaning_of, keyword_token}
 use Rattle.dm_lines.proofs.Rows.{reserved_is}
-use Rattle.dm_lines.specs.Tokens.{uppercase, is_word_byte, digit_of, magnitude_of, number_of, padded_of, or_name, word_token, closed, with_front, then_tokens, marked, inside_quotes, lexed, tokens_of}
-use Rattle.dm_lines.specs.Operands.{minus, amount_of, added_of, plain, parsed_value, amount_word, base_at, based, onto, is_close, inside, memory_of, far_pointer, from_number, term_of, begin, is_comma, parts, term_pair, terms_of}
+use Rattle.dm_lines.specs.Tokens.{uppercase, is_word_byte, digit_of, magnitude_of, number_of, padded_of, or_name, word_token, closed, joined_to, then_list, marked, inside_quotes, lexed, tokens_of}
+use Rattle.dm_lines.specs.Operands.{minus, amount_of, added_of, parsed_value, amount_word, base_at, based, onto, is_close, inside, memory_of, far_pointer, from_number, term_of, begin, is_comma, parts, term_pair, terms_of}
 use Rattle.dm_lines.specs.Statements as line
-use Rattle.dm_lines.specs.Statements.{Item, Statement, instruction, joined_to, then_list, list_of_one, letters, bytes_item, word_items, mnemonic_at, prefixed, exchanges, is_memory, with_terms, operated, after_prefixes, instruction_of, item_of, labelled, statement_of, line_of}
+use Rattle.dm_lines.specs.Statements.{Item, Statement, instruction, list_of_one, letters, bytes_item, word_items, mnemonic_at, prefixed, exchanges, is_memory, with_terms, operated, after_prefixes, instruction_of, item_of, statement_of, line_of}
 use Rattle.dm_lines.specs.Laws.{AmountFits, TermFits, ItemFits, NumbersFit}
 
 -- a fact of what is there
@@ -114,11 +114,11 @@ append_fits : (xs ys : List Token) → TokensFit xs → TokensFit ys → TokensF
 append_fits [] ys h k = k
 append_fits (x ∷ xs) ys h k = (h.0, append_fits xs ys h.1 k)
 
-front_fits : (xs : List Token) (r : Option (List Token)) → TokensFit xs → Holds TokensFit r → Holds TokensFit (with_front xs r)
+front_fits : (xs : List Token) (r : Option (List Token)) → TokensFit xs → Holds TokensFit r → Holds TokensFit (joined_to xs r)
 front_fits xs None h k = tt
 front_fits xs (Some ys) h k = append_fits xs ys h k
 
-tokens_then : (o r : Option (List Token)) → Holds TokensFit o → Holds TokensFit r → Holds TokensFit (then_tokens o r)
+tokens_then : (o r : Option (List Token)) → Holds TokensFit o → Holds TokensFit r → Holds TokensFit (then_list o r)
 tokens_then None r h k = tt
 tokens_then (Some xs) r h k = front_fits xs r h k
 
@@ -146,7 +146,7 @@ lexed_fits false w [] h = closed_fits w
 lexed_fits false w (b ∷ bs) h =
     either_holds TokensFit (is_word_byte b) _ _ (lexed_fits false (w ++ uppercase b ∷ []) bs h.1)
     (either_holds TokensFit (b == 59) _ _ (closed_fits w)
-    (tokens_then (closed w) (then_tokens (marked b) (lexed (b == 39) [] bs)) (closed_fits w) (tokens_then (marked b) (lexed (b == 39) [] bs) (marked_fits b) (lexed_fits (b == 39) [] bs h.1))))
+    (tokens_then (closed w) (then_list (marked b) (lexed (b == 39) [] bs)) (closed_fits w) (tokens_then (marked b) (lexed (b == 39) [] bs) (marked_fits b) (lexed_fits (b == 39) [] bs h.1))))
 
 -- ---- operands
 
@@ -167,13 +167,9 @@ added_fits _ h = tt
 abbrev ValueFits : Value → Type 0
 ValueFits v = AmountFits v.amount
 
-plain_fits : (o : Option Amount) → Holds AmountFits o → Holds ValueFits (plain o)
-plain_fits None h = tt
-plain_fits (Some n) h = h
-
 value_fits : (ts : List Token) → TokensFit ts → Holds ValueFits (parsed_value ts)
 value_fits (t.Name l ∷ ts) h = map_holds AmountFits ValueFits (added_of ts) (λ n. record { label = Some l; amount = n }) (added_fits ts h.1) (λ n k. k)
-value_fits ts h = plain_fits (amount_of ts) (amount_fits ts h)
+value_fits ts h = map_holds AmountFits ValueFits (amount_of ts) (λ n. record { label = None; amount = n }) (amount_fits ts h) (λ n k. k)
 
 abbrev RestFits : {A : Type 0} → A × List Token → Type 0
 RestFits x = TokensFit x.1
@@ -350,13 +346,9 @@ item_fits ts h = map_holds InstructionFits ItemFits (instruction_of ts) instruct
 abbrev StatementFits : Statement → Type 0
 StatementFits s = ItemFits s.item
 
-labelled_fits : (l : Option Name'.Name) (o : Option Item) → Holds ItemFits o → Holds StatementFits (labelled l o)
-labelled_fits l None h = tt
-labelled_fits l (Some i) h = h
-
 statement_fits : (ts : List Token) → TokensFit ts → Holds StatementFits (statement_of ts)
-statement_fits (t.Name l ∷ t.Colon ∷ ts) h = labelled_fits (Some l) (item_of ts) (item_fits ts h.1.1)
-statement_fits ts h = labelled_fits None (item_of ts) (item_fits ts h)
+statement_fits (t.Name l ∷ t.Colon ∷ ts) h = map_holds ItemFits StatementFits (item_of ts) (λ i. record { label = Some l; item = i }) (item_fits ts h.1.1) (λ i k. k)
+statement_fits ts h = map_holds ItemFits StatementFits (item_of ts) (λ i. record { label = None; item = i }) (item_fits ts h) (λ i k. k)
 
 line_fits : (line : List ℕ) → AllByRecursion (λ b. b < 2 ^ 8) line → Holds StatementFits (line_of line)
 unfolding line_of tokens_of

@@ -36,15 +36,10 @@ added_of (t.Plus ∷ ts) = amount_of ts
 added_of (t.Minus ∷ t.Number n ∷ []) = minus n
 added_of _ = None
 
--- a number as a value without a label
-abbrev pub plain : Option Amount → Option Value
-plain None = None
-plain (Some n) = Some (record { label = None; amount = n })
-
 -- the value that the tokens are: a number, or a label and a number that is added to it
 abbrev pub parsed_value : List Token → Option Value
 parsed_value (t.Name l ∷ ts) = option_map (λ n. record { label = Some l; amount = n }) (added_of ts)
-parsed_value ts = plain (amount_of ts)
+parsed_value ts = option_map (λ n. record { label = None; amount = n }) (amount_of ts)
 
 -- the word of a number, modulo 10000h
 abbrev pub amount_word : Amount → ℕ
