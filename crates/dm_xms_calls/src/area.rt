@@ -1,4 +1,5 @@
 //! The driver's version and the high memory area (XMS 3.0, functions 00h to 02h). Registers that are not named stay.
+//! (`call false` in their contracts: `upper` matters to 10h to 12h alone.)
 ghost use Rattle.std.specs.Prelude.{◌≡◌, false};
 ghost use Rattle.dm_xms_calls.specs.Caller.{caller};
 ghost use Rattle.dm_xms_calls.specs.Functions.{call};

@@ -1,5 +1,6 @@
 //! Address line A20 (XMS 3.0, functions 03h to 07h). Functions 03h to 06h set AX to 1, or after an error AX to 0 and BL
 //! to its code. The other registers stay.
+//! (`call false` in their contracts: `upper` matters to 10h to 12h alone.)
 ghost use Rattle.std.specs.Prelude.{◌≡◌, false, if◌then◌else◌};
 ghost use Rattle.dm_xms_calls.specs.Caller.{caller, succeeded, refused};
 ghost use Rattle.dm_xms_calls.specs.Functions.{call};
