@@ -113,11 +113,11 @@ def variants(path, name):
 
 
 def numbers_served(crate):
-    """How many numbers the definition `function_of` of a crate gives a function."""
+    """How many numbers the definition `function_of` of a crate gives a function, or its definition `call` an effect."""
     text = specs.text_of(f"crates/{crate}/specs/Functions.antt")
-    found = re.search(r"^function_of number =\n((?:    .*\n)+)", text, re.M)
+    found = re.search(r"^(?:function_of|call(?: upper)? c) number =\n((?:    .*\n)+)", text, re.M)
     if not found:
-        raise Uncounted(f"crates/{crate}/specs/Functions.antt has no `function_of number`")
+        raise Uncounted(f"crates/{crate}/specs/Functions.antt has no table of numbers")
     return len(re.findall(r"\bif number == 0x\w+ then\b", found[1]))
 
 

@@ -12,7 +12,7 @@ use Rattle.dm_arena.specs.Allocation.{Taking, with_cut, Allocates, AllocateRefus
 use Rattle.dm_arena.specs.Owned.{BlockAt, Frees, FreeRefused, BlockRunAt, resized, Resizes, ResizeRefused, ReleaseRefused, Releases, released}
 use Rattle.dm_arena.specs.Pair.{Pairing, Planned, IsPair, with_pair, Placed, Pairs, PairRefused}
 use Rattle.dm_arena.specs.Linking.{BecomesLinked, BecomesUnlinked, IsSo, LinkRefused, Links, TellsLinked}
-use Rattle.dm_arena.specs.Laws.{IgnoresUnseen}
+use Rattle.dm_arena.specs.inner.Unseen.{IgnoresUnseen}
 
 -- two memories show the same bytes at the same places
 record Shows (A B : Memory) : Type 0 where

@@ -1,9 +1,7 @@
 -- Laws of the calls of the arena: each that writes (48h, 49h, 4Ah, 5803h, the two blocks of 4Bh, and the end of a
--- program) has one result; none depends on bytes that no program can see; and what the definitions say where upper
--- memory doesn't belong to the arena.
+-- program) has one result; and what the definitions say where upper memory doesn't belong to the arena.
 use Rattle.std.specs.Prelude.{◌≡◌, ◌==◌, ℕ, Bool, false, List, Result}
 use Rattle.dm_space.specs.Memory.{Memory}
-use Rattle.dm_space.specs.Unseen.{IsUnseen}
 use Rattle.dm_arena.specs.declared.refusal.ArenaRefusal.{ArenaRefusal}
 use Rattle.dm_arena.specs.declared.fit.Strategy.{Strategy}
 use Rattle.dm_arena.specs.Allocation.{Allocates}
@@ -12,7 +10,7 @@ use Rattle.dm_arena.specs.Blocks.{in_effect, is_candidate, prefers, prefers_by}
 use Rattle.dm_blocks.specs.declared.header.Header.{Header}
 use Rattle.dm_blocks.specs.Chain.{is_free, is_parted}
 use Rattle.dm_arena.specs.Pair.{Placed, Pairs}
-use Rattle.dm_arena.specs.Linking.{Links, TellsLinked}
+use Rattle.dm_arena.specs.Linking.{Links}
 
 -- an allocation (48h) has one result, and leaves one memory
 abbrev pub AllocationHasOneAnswer : Type 0
@@ -37,21 +35,6 @@ PairingHasOneAnswer = (upper : Bool) (S : Memory) (strategy : Strategy) (environ
 -- linking the arena with upper memory, or unlinking it (5803h), has one result, and leaves one memory
 abbrev pub LinkingHasOneAnswer : Type 0
 LinkingHasOneAnswer = (S : Memory) (on : Bool) (r q : Result (Unit {0}) ArenaRefusal) (T U : Memory) → Links S on r T → Links S on q U → (r ≡ q) × (T ≡ U)
-
--- each call of the arena, 5802h included, returns the same on memory with this change as without it, and leaves the
--- same memory but for the change
-pub record CallsIgnoreUnseen (change : Memory → Memory) : Type 0 where
-  pub allocation : (upper : Bool) (S T : Memory) (strategy : Strategy) (n owner : ℕ) (r : Result ℕ ArenaRefusal) → Allocates upper S strategy n owner r T → Allocates upper (change S) strategy n owner r (change T)
-  pub freeing : (upper : Bool) (S T : Memory) (segment : ℕ) (r : Result (Unit {0}) ArenaRefusal) → Frees upper S segment r T → Frees upper (change S) segment r (change T)
-  pub resizing : (upper : Bool) (S T : Memory) (segment n : ℕ) (r : Result (Unit {0}) ArenaRefusal) → Resizes upper S segment n r T → Resizes upper (change S) segment n r (change T)
-  pub releasing : (upper : Bool) (S T : Memory) (owner : ℕ) (r : Result (Unit {0}) ArenaRefusal) → Releases upper S owner r T → Releases upper (change S) owner r (change T)
-  pub pairing : (upper : Bool) (S T : Memory) (strategy : Strategy) (environment least most : ℕ) (r : Result Placed ArenaRefusal) → Pairs upper S strategy environment least most r T → Pairs upper (change S) strategy environment least most r (change T)
-  pub telling : (S : Memory) (r : Result Bool ArenaRefusal) → TellsLinked S r → TellsLinked (change S) r
-  pub linking : (S T : Memory) (on : Bool) (r : Result (Unit {0}) ArenaRefusal) → Links S on r T → Links (change S) on r (change T)
-
--- the calls of the arena neither depend on bytes that no program can see nor change them
-abbrev pub IgnoresUnseen : Type 0
-IgnoresUnseen = (change : Memory → Memory) → IsUnseen change → CallsIgnoreUnseen change
 
 -- what the definitions say where upper memory doesn't belong to the arena: a block is free if its owner is 0, each
 -- strategy looks at all free blocks and chooses by its fit alone, no block is the link block, and there is no second

@@ -4,3 +4,4 @@ pub mod Pair
 pub mod Standing
 pub mod Survey
 pub mod Walks
+pub mod Unseen

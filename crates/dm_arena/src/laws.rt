@@ -1,6 +1,6 @@
 //! Laws of `allocate`, `free`, `resize`, `free_all`, the pair of `plan_pair` and `write_pair`, `link` and `linked`:
 //! each is the contract of a function that does nothing. The setting is whether upper memory belongs to the arena.
-ghost use Rattle.dm_arena.specs.Laws.{AllocationHasOneAnswer, FreeingHasOneAnswer, ResizingHasOneAnswer, ReleasingHasOneAnswer, PairingHasOneAnswer, LinkingHasOneAnswer, IgnoresUnseen, IsConventional};
+ghost use Rattle.dm_arena.specs.Laws.{AllocationHasOneAnswer, FreeingHasOneAnswer, ResizingHasOneAnswer, ReleasingHasOneAnswer, PairingHasOneAnswer, LinkingHasOneAnswer, IsConventional};
 
 /// Memory, setting, strategy, size and owner determine what an allocation returns and every byte that it
 /// leaves.
@@ -38,9 +38,4 @@ pub fn linking_has_one_answer()
 /// blocks and chooses by its fit alone, and there are no link block and no second list.
 pub fn arena_is_conventional()
     ensures { IsConventional }
-{}
-
-/// No call of the arena depends on bytes that no address shows, or changes them.
-pub fn ignores_unseen()
-    ensures { IgnoresUnseen }
 {}

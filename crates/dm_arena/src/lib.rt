@@ -23,7 +23,7 @@ mod writing;
 pub use allocation::allocate;
 pub use fit::{Area, Fit, Strategy};
 pub use laws::{
-    allocation_has_one_answer, arena_is_conventional, freeing_has_one_answer, ignores_unseen,
+    allocation_has_one_answer, arena_is_conventional, freeing_has_one_answer,
     linking_has_one_answer, pairing_has_one_answer, releasing_has_one_answer,
     resizing_has_one_answer,
 };

@@ -5,7 +5,8 @@ use Rattle.std.proofs.Math.Seq.{drop-cons, take-suc, take-length}
 use Rattle.std.proofs.lemmas.List.{take-append-drop, append_assoc}
 use Rattle.dm_lines.specs.declared.term.Value.{Value}
 use Rattle.dm_asm.specs.Labels.{Label}
-use Rattle.dm_asm.specs.Codes.{value_word, low_high, AreWordsOf}
+use Rattle.dm_asm.specs.Codes.{value_word, AreWordsOf}
+use Rattle.dm_ins.specs.Spelling.{word_bytes}
 
 -- a list about one of its places
 at_place : {A : Type 0} (xs : List A) (i : ℕ) (x d : A) → i < length xs → x ≡ get_or xs i d → xs ≡ take i xs ++ x ∷ drop (suc i) xs
@@ -38,22 +39,22 @@ somes_same (x ∷ xs) [] h = absurd cc
 somes_same (x ∷ xs) (y ∷ ys) h = let e : x ≡ y = cc in let t : xs ≡ ys = somes_same xs ys cc in cc
 
 -- the bytes of one word more
-flat_snoc : (ws : List ℕ) (w : ℕ) → flat_map low_high (ws ++ w ∷ []) ≡ flat_map low_high ws ++ low_high w
+flat_snoc : (ws : List ℕ) (w : ℕ) → flat_map word_bytes (ws ++ w ∷ []) ≡ flat_map word_bytes ws ++ word_bytes w
 flat_snoc [] w = refl
-flat_snoc (v ∷ ws) w = ap (λ r. low_high v ++ r) (flat_snoc ws w) ∙ sym (append_assoc (low_high v) (flat_map low_high ws) (low_high w))
+flat_snoc (v ∷ ws) w = ap (λ r. word_bytes v ++ r) (flat_snoc ws w) ∙ sym (append_assoc (word_bytes v) (flat_map word_bytes ws) (word_bytes w))
 
-pub words_more : (list : List Label) (vs : List Value) (i : ℕ) (v d : Value) (code : List ℕ) (w : ℕ) (more : List ℕ) → i < length vs → v ≡ get_or vs i d → value_word list v ≡ Some w → more ≡ code ++ low_high w → AreWordsOf list (take i vs) code → AreWordsOf list (take (i + 1) vs) more
+pub words_more : (list : List Label) (vs : List Value) (i : ℕ) (v d : Value) (code : List ℕ) (w : ℕ) (more : List ℕ) → i < length vs → v ≡ get_or vs i d → value_word list v ≡ Some w → more ≡ code ++ word_bytes w → AreWordsOf list (take i vs) code → AreWordsOf list (take (i + 1) vs) more
 words_more list vs i v d code w more h e g b a = record {
   values = a.values ++ w ∷ [];
   are = map_more (value_word list) vs i v d a.values w h e g a.are;
-  bytes = b ∙ ap (λ r. r ++ low_high w) a.bytes ∙ sym (flat_snoc a.values w);
+  bytes = b ∙ ap (λ r. r ++ word_bytes w) a.bytes ∙ sym (flat_snoc a.values w);
 }
 
 pub words_none : (list : List Label) (vs : List Value) (i : ℕ) (v d : Value) (code : List ℕ) → i < length vs → v ≡ get_or vs i d → value_word list v ≡ None → AreWordsOf list vs code → ⊥
 words_none list vs i v d code h e g a = map_none (value_word list) vs i v d a.values h e g a.are
 
 pub words_once : (list : List Label) (vs : List Value) (a b : List ℕ) → AreWordsOf list vs a → AreWordsOf list vs b → a ≡ b
-words_once list vs a b p q = p.bytes ∙ ap (flat_map low_high) (somes_same p.values q.values (sym p.are ∙ q.are)) ∙ sym q.bytes
+words_once list vs a b p q = p.bytes ∙ ap (flat_map word_bytes) (somes_same p.values q.values (sym p.are ∙ q.are)) ∙ sym q.bytes
 
 -- ---- all
 

@@ -7,7 +7,8 @@ use Rattle.dm_lines.specs.Statements.{Item, Statement, nothing, instruction, byt
 use Rattle.dm_words.specs.Laws.{WordsAreOne}
 use Rattle.dm_asm.specs.Labels.{Label, IsFree, find}
 use Rattle.dm_lines.specs.Placing.{amount_byte}
-use Rattle.dm_asm.specs.Codes.{Codes, HasLength, low_high, value_word}
+use Rattle.dm_asm.specs.Codes.{Codes, HasLength, value_word}
+use Rattle.dm_ins.specs.Spelling.{word_bytes}
 use Rattle.dm_asm.specs.Programs.{Sized, Reads, AreRead, total, own_label, labels_from, labels_of, AreOnce, Laid, AreCoded, joined}
 use Rattle.dm_asm.proofs.Chosen.{shape_once}
 use Rattle.dm_asm.proofs.Placed.{some_same}
@@ -128,15 +129,15 @@ same_length f [] (y ∷ ys) h = absurd cc
 same_length f (x ∷ xs) [] h = absurd cc
 same_length f (x ∷ xs) (y ∷ ys) h = let t : length xs ≡ length ys = same_length f xs ys cc in cc
 
-flat_length : (ws : List ℕ) → length (flat_map low_high ws) ≡ 2 * length ws
+flat_length : (ws : List ℕ) → length (flat_map word_bytes ws) ≡ 2 * length ws
 flat_length [] = refl
-flat_length (w ∷ ws) = let h : length (flat_map low_high ws) ≡ 2 * length ws = flat_length ws in omega (arith, h)
+flat_length (w ∷ ws) = let h : length (flat_map word_bytes ws) ≡ 2 * length ws = flat_length ws in omega (arith, h)
 
 pub code_long : WordsAreOne → (labels : List Label) (at : ℕ) (i : Item) (code : List ℕ) (n : ℕ) → Codes labels at i code → HasLength i n → length code ≡ n
 code_long one labels at nothing code n c h = ap length c ∙ sym h
 code_long one labels at (instruction i) code n c h = shape_once one i (length code) n c.shape h
 code_long one labels at (bytes b) code n c h = sym (same_length amount_byte b code c) ∙ sym h
 code_long one labels at (words w) code n c h =
-    let a : length code ≡ length (flat_map low_high c.values) = ap length c.bytes in
+    let a : length code ≡ length (flat_map word_bytes c.values) = ap length c.bytes in
     let b : length w ≡ length c.values = same_length (value_word labels) w c.values c.are in
     omega (arith, a, b, h, flat_length c.values)

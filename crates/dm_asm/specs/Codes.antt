@@ -4,6 +4,7 @@
 use Rattle.std.specs.Prelude.{◌≡◌, ℕ, ◌+◌, ◌*◌, ◌/◌, ◌%◌, List, [], ◌∷◌, length, map, flat_map, Option, Some, IsSome}
 use Rattle.std.specs.List.{AllByRecursion}
 use Rattle.dm_ins.specs.Preferred.{IsPreferred}
+use Rattle.dm_ins.specs.Spelling.{word_bytes}
 use Rattle.dm_ins.specs.Walks.{◌>>=◌}
 use Rattle.dm_ins.specs.declared.ins.Ins.{Ins}
 use Rattle.dm_ins.specs.declared.action.Mnemonic.{Mnemonic}
@@ -40,10 +41,6 @@ abbrev pub value_word : List Label → Value → Option ℕ
 value_word labels v = do
   place ← label_place labels v
   standing v place
-
--- a word of a DW as two bytes, low byte first
-abbrev pub low_high : ℕ → List ℕ
-low_high w = w % 256 ∷ w / 256 ∷ []
 
 -- ---- before labels have places
 
@@ -86,7 +83,7 @@ pub record IsCoded (labels : List Label) (at : ℕ) (i : Instruction) (code : Li
 pub record AreWordsOf (labels : List Label) (vs : List Value) (code : List ℕ) : Type 0 where
   pub values : List ℕ
   pub are : map (value_word labels) vs ≡ map Some values
-  pub bytes : code ≡ flat_map low_high values
+  pub bytes : code ≡ flat_map word_bytes values
 
 -- the bytes of an item at an offset; an item with an unknown label, or a number, label or target out of range, has none
 abbrev pub Codes : List Label → ℕ → Item → List ℕ → Type 0

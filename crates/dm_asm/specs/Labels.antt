@@ -1,6 +1,7 @@
 -- Labels and their places. A place is an offset in the program's segment.
 use Rattle.std.specs.Prelude.{◌≡◌, ℕ, Option, Some, None, List, [], ◌∷◌, if◌then◌else◌}
 use Rattle.std.specs.Str.{bytes_eq}
+use Rattle.std.specs.Option.{option_map_or}
 use Rattle.dm_lines.specs.declared.token.Name as Name'
 use Rattle.dm_lines.specs.declared.term.Value.{Value}
 use Rattle.dm_lines.specs.declared.term.Term.{Term}
@@ -16,14 +17,9 @@ abbrev pub find : Name'.Name → List Label → Option ℕ
 find name [] = None
 find name (l ∷ ls) = if bytes_eq l.name.bytes name.bytes then Some l.place else find name ls
 
--- the place of the label with this name; None if there is none, and 0 without a name
-abbrev pub place_from : List Label → Option Name'.Name → Option ℕ
-place_from labels None = Some 0
-place_from labels (Some name) = find name labels
-
 -- the place of the label of a value; None if it is unknown, and 0 for a number alone
 abbrev pub label_place : List Label → Value → Option ℕ
-label_place labels v = place_from labels v.label
+label_place labels v = option_map_or (λ name. find name labels) v.label (Some 0)
 
 -- the place of the label of an operand; None if it is unknown, and 0 if the operand names none
 abbrev pub term_place : List Label → Term → Option ℕ

@@ -111,7 +111,7 @@ JMP nil/*65279 CLC| too long
 
 /// Definitions: dm_asm Lines lines_of onto ends_line; dm_asm Labels find IsFree label_place term_place
 /// Definitions: dm_asm Codes HasLength HasShape outlined Codes IsCoded AreWordsOf placed_words written_for value_word
-/// Definitions: dm_asm Codes low_high
+/// Definitions: dm_ins Spelling word_bytes
 /// Definitions: dm_asm Programs Assembles Laid AreRead Reads labels_of AreOnce AreCoded total joined longest_program
 #[test]
 fn programs_have_bytes(rt: HostRuntime) -> Result<(), Fail> {

@@ -1,7 +1,7 @@
 -- The debugger command that a typed line asks for.
 -- Source: MS-DOS User's Reference, "DEBUG" (D, E, G, R, T, U); the other commands, the bounds, and the defaults for
 -- numbers that are left out are this machine's own.
-use Rattle.std.specs.Prelude.{ℕ, List, [], ◌∷◌, Option, Some, None}
+use Rattle.std.specs.Prelude.{ℕ, List, [], ◌∷◌, Option, Some, None, option_map}
 use Rattle.dm_command.specs.declared.command.LogicalAddress.{LogicalAddress}
 use Rattle.dm_command.specs.declared.command.Command.{Command}
 use Rattle.dm_command.specs.declared.command.Command.TheVariants as command
@@ -27,37 +27,19 @@ alone _ = None
 -- the command of a line with a name and one word after it, with defaults for the counts of U and D; None if there is
 -- none
 abbrev pub with_one : CommandName → List ℕ → Option Command
-with_one name.Unassemble w = do
-  a ← logical_address w
-  Some (command.Unassemble a 8)
-with_one name.Dump w = do
-  a ← logical_address w
-  Some (command.Dump a 0x80)
-with_one name.Go w = do
-  n ← number_of w
-  Some (command.Go n)
-with_one name.Trace w = do
-  n ← up_to 0x1000 (number_of w)
-  Some (command.Trace n)
-with_one name.Break w = do
-  a ← logical_address w
-  Some (command.Break a)
-with_one name.Clear w = do
-  a ← logical_address w
-  Some (command.Clear a)
+with_one name.Unassemble w = option_map (λ a. command.Unassemble a 8) (logical_address w)
+with_one name.Dump w = option_map (λ a. command.Dump a 0x80) (logical_address w)
+with_one name.Go w = option_map command.Go (number_of w)
+with_one name.Trace w = option_map command.Trace (up_to 0x1000 (number_of w))
+with_one name.Break w = option_map command.Break (logical_address w)
+with_one name.Clear w = option_map command.Clear (logical_address w)
 with_one _ w = None
 
 -- the command of a line with a name (U, D or E), an address and one more word; None if there is none
 abbrev pub at_address : CommandName → LogicalAddress → List ℕ → Option Command
-at_address name.Unassemble a w = do
-  n ← up_to 0x1000 (number_of w)
-  Some (command.Unassemble a n)
-at_address name.Dump a w = do
-  n ← up_to 0x10000 (number_of w)
-  Some (command.Dump a n)
-at_address name.Enter a w = do
-  bytes ← bytes_from_digits w
-  Some (command.Enter a bytes)
+at_address name.Unassemble a w = option_map (command.Unassemble a) (up_to 0x1000 (number_of w))
+at_address name.Dump a w = option_map (command.Dump a) (up_to 0x10000 (number_of w))
+at_address name.Enter a w = option_map (command.Enter a) (bytes_from_digits w)
 at_address _ a w = None
 
 -- the command of a line with a name and two words after it, of which the first is an address; None if there is none

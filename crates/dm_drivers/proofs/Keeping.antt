@@ -6,13 +6,15 @@ use Rattle.dm_state.specs.State.{State, AreConsistent, go}
 use Rattle.dm_state.proofs.Consistent.{expanded_changed, extended_changed, returned_consistent, far_returned_consistent}
 use Rattle.dm_space.specs.declared.entry_points.Driver.{Driver}
 use Rattle.dm_space.specs.declared.entry_points.Driver.TheVariants.{ExpandedMemory, Multiplex, ExtendedMemory}
-use Rattle.dm_drivers.specs.Drivers.{expanded_caller, extended_caller, acted, given_back, driven}
+use Rattle.dm_ems_calls.specs.Caller as expanded
+use Rattle.dm_xms_calls.specs.Caller as extended
+use Rattle.dm_drivers.specs.Drivers.{acted, given_back, driven}
 use Rattle.dm_drivers.specs.Laws.{LeavesTheRest, DriversKeep}
 
 acted_consistent : (s : State) (driver : Driver) → AreConsistent s → AreConsistent (acted s driver)
-acted_consistent s ExpandedMemory l = expanded_changed s _ l (expanded_memory.keep.consistency (expanded_caller s) l.ems) (expanded_memory.keep.outside (expanded_caller s))
+acted_consistent s ExpandedMemory l = expanded_changed s _ l (expanded_memory.keep.consistency (expanded.caller s.cpu s.ems s.memory) l.ems) (expanded_memory.keep.outside (expanded.caller s.cpu s.ems s.memory))
 acted_consistent s Multiplex l = l
-acted_consistent s ExtendedMemory l = extended_changed s _ l (extended_memory.keep.consistency s.upper (extended_caller s) l.xms) (extended_memory.keep.outside s.upper (extended_caller s))
+acted_consistent s ExtendedMemory l = extended_changed s _ l (extended_memory.keep.consistency s.upper (extended.caller s.cpu s.xms s.memory) l.xms) (extended_memory.keep.outside s.upper (extended.caller s.cpu s.xms s.memory))
 
 given_back_consistent : (s : State) (driver : Driver) → AreConsistent s → AreConsistent (given_back s driver)
 given_back_consistent s ExpandedMemory l = returned_consistent s l

@@ -9,29 +9,17 @@ use Rattle.dm_space.specs.declared.entry_points.Driver.{Driver}
 use Rattle.dm_space.specs.declared.entry_points.Driver.TheVariants.{ExpandedMemory, Multiplex, ExtendedMemory}
 use Rattle.dm_drivers.specs.Multiplex.{multiplex_reply}
 
--- what the expanded memory driver acts on: the caller's registers, the driver's tables, and memory
-abbrev pub expanded_caller : State → expanded.Caller
-expanded_caller s = expanded.caller s.cpu s.ems s.memory
-
--- what the extended memory driver acts on: the caller's registers, the driver's tables, and memory
-abbrev pub extended_caller : State → extended.Caller
-extended_caller s = extended.caller s.cpu s.xms s.memory
-
--- the state with the registers, memory and tables that the expanded memory driver leaves
-abbrev pub after_expanded : State → expanded.Caller → State
-after_expanded s c = record s { cpu = c.cpu; memory = c.x.memory; ems = c.x.ems }
-
--- the state with the registers, memory and tables that the extended memory driver leaves
-abbrev pub after_extended : State → extended.Caller → State
-after_extended s c = record s { cpu = c.cpu; memory = c.x.memory; xms = c.x.xms }
-
 -- the state after the driver's call, before the return to the program: registers, memory and the tables of expanded
 -- memory are those that INT 67h (LIM EMS) leaves, or registers, memory and the tables of extended memory those that the
 -- extended memory driver (XMS) leaves; for INT 2Fh, registers alone differ
 abbrev pub acted : State → Driver → State
-acted s ExpandedMemory = after_expanded s (expanded_memory.dispatched (expanded_caller s))
+acted s ExpandedMemory =
+    let c = expanded_memory.dispatched (expanded.caller s.cpu s.ems s.memory) in
+    record s { cpu = c.cpu; memory = c.x.memory; ems = c.x.ems }
 acted s Multiplex = record s { cpu = multiplex_reply s.cpu }
-acted s ExtendedMemory = after_extended s (extended_memory.dispatched s.upper (extended_caller s))
+acted s ExtendedMemory =
+    let c = extended_memory.dispatched s.upper (extended.caller s.cpu s.xms s.memory) in
+    record s { cpu = c.cpu; memory = c.x.memory; xms = c.x.xms }
 
 -- the state after the driver's return: IP, CS and FLAGS are popped after INT 67h and INT 2Fh, IP and CS after the far
 -- call of the extended memory driver; memory, the tables and the count of steps stay

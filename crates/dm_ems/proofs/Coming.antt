@@ -1,6 +1,6 @@
 -- Pages that are promised come.
 use Rattle.std.proofs.Common.{◌≡◌, ◌≢◌, ℕ, zero, suc, ◌+◌, ◌-◌, ◌<◌, ◌≤◌, ◌==◌, Bool, true, false, cond, List, [], ◌∷◌, ◌++◌, Option, Some, None, length, get_or, take, refl, sym, ◌∙◌, ap, subst, arith, length-append}
-use Rattle.std.specs.Prelude.{Result, Ok, Err, All, nat_lt, min, is_some, is_none, count_by}
+use Rattle.std.specs.Prelude.{Result, Ok, Err, All, nat_lt, min, is_some, is_none, position, count_by}
 use Rattle.std.proofs.lemmas.Bool.Decides.{nat_tests}
 use Rattle.std.proofs.lemmas.Option.{none-some}
 use Rattle.std.proofs.lemmas.List.{append_assoc, append-nil}
@@ -14,12 +14,12 @@ use Rattle.dm_pool.proofs.Coming.{comes, taken_leaves}
 use Rattle.dm_ems.specs.declared.status.Status.{Status}
 use Rattle.dm_ems.specs.declared.status.Status.TheVariants.{NoPages, NoHandleLeft, OverTotal, OverFree}
 use Rattle.dm_ems.specs.declared.tables.Handle.{Handle}
-use Rattle.dm_ems.specs.Tables.{Expanded, blank, with_page, appended_page, appended, blocks_of, unallocated, free_handle}
+use Rattle.dm_ems.specs.Tables.{Expanded, blank, with_page, appended_page, appended, blocks_of, unallocated}
 use Rattle.dm_ems.specs.Consistent.{IsUsed, IsConsistent, HasNumbers}
 use Rattle.dm_ems.specs.Calls.{need, with_slot}
 use Rattle.dm_ems.specs.Handles.{allocate}
 use Rattle.dm_ems.specs.Coming.{IsNewPage, HasPages}
-use Rattle.dm_ems.specs.Laws.{PagesCome}
+use Rattle.dm_ems.specs.inner.Laws.{PagesCome}
 use Rattle.dm_ems.proofs.Consistent.{consistent_append, appended_handles, appended_room}
 use Rattle.dm_ems.proofs.NewBlock.{taken_new}
 use Rattle.dm_ems.proofs.HandleBlocks.{blocks_pushed, count_blocks, none_in}
@@ -129,7 +129,7 @@ may_come x n l few e =
 -- ---- a new handle
 
 -- a new handle had no page
-pub unused : (x : Expanded) (h : ℕ) → IsConsistent x → free_handle x.ems ≡ Some h → blocks_of x.ems h ≡ []
+pub unused : (x : Expanded) (h : ℕ) → IsConsistent x → position is_none x.ems.handles ≡ Some h → blocks_of x.ems h ≡ []
 unused x h l e =
     let at = position-Some is_none x.ems.handles h None e in
     none_in x.ems.pages h (λ k lt s. both (get_or x.ems.handles h None) at.1 (subst (IsUsed x.ems.handles) s (l.used k lt)))
@@ -157,7 +157,7 @@ take_none : (n : ℕ) → take {A = ℕ} n [] ≡ []
 take_none zero = refl
 take_none (suc n) = refl
 
-given : (x : Expanded) (n h : ℕ) → IsConsistent x → HasNumbers x → free_handle x.ems ≡ Some h → nat_lt (unallocated x) n ≡ false → HasPages x (appended (with_slot x h (Some blank)) h n) h n
+given : (x : Expanded) (n h : ℕ) → IsConsistent x → HasNumbers x → position is_none x.ems.handles ≡ Some h → nat_lt (unallocated x) n ≡ false → HasPages x (appended (with_slot x h (Some blank)) h n) h n
 given x n h l few e f =
     let z = with_slot x h (Some blank) in
     let may = may_come x n l few f in
@@ -181,7 +181,7 @@ pub pages_come : PagesCome
 unfolding allocate
 pages_come x y n h l few =
     if_has x n (n == 0) (Err NoPages) _ (none_had x n NoPages)
-    (λ _. need_has x n (free_handle x.ems) NoHandleLeft _ (λ k e.
+    (λ _. need_has x n (position is_none x.ems.handles) NoHandleLeft _ (λ k e.
     if_has x n (nat_lt x.ems.total n) (Err OverTotal) _ (none_had x n OverTotal)
     (λ _. if_has x n (nat_lt (unallocated x) n) (Err OverFree) (Ok (k, appended (with_slot x k (Some blank)) k n)) (none_had x n OverFree)
     (λ f z j. is_given x (appended (with_slot x k (Some blank)) k n) z n k j (given x n k l few e f))))) y h

@@ -9,7 +9,8 @@ use Rattle.std.proofs.lemmas.List.{append-nil, length-map, take-append-drop}
 use Rattle.std.proofs.lemmas.List.Sums.{fails_before_first, length-filter}
 use Rattle.dm_ems.specs.declared.tables.Page.{Page}
 use Rattle.dm_ems.specs.Tables.{Tables, Expanded, is_of, is_block, blocks_of, page_count, without_page, forgotten, forgotten_all, cut}
-use Rattle.dm_ems.specs.Consistent.{block_at, handle_at, IsOwned, HasOtherBlock, IsConsistent}
+use Rattle.dm_ems.specs.Consistent.{block_at, handle_at, IsOwned, IsConsistent}
+use Rattle.dm_ems.specs.inner.Consistent.{HasOtherBlock}
 use Rattle.dm_ems.proofs.Owned.{placed}
 use Rattle.dm_ems.proofs.Consistent.{consistent_forget}
 

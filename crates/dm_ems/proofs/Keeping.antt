@@ -1,6 +1,6 @@
 -- Each call keeps the tables and the memory consistent.
 use Rattle.std.proofs.Common.{◌≡◌, ℕ, zero, suc, ◌+◌, ◌-◌, ◌≤◌, Bool, true, false, cond, List, [], ◌∷◌, Option, Some, None, length, get_or, set, refl, sym, ◌∙◌, ap, subst, replicate, arith}
-use Rattle.std.specs.Prelude.{Result, Ok, Err, ◌==◌, nat_lt, nat_le, min, is_some, is_none, IfSome, slice_get}
+use Rattle.std.specs.Prelude.{Result, Ok, Err, ◌==◌, nat_lt, nat_le, min, is_some, is_none, position, IfSome, slice_get}
 use Rattle.std.proofs.lemmas.Bool.Decides.{nat_tests}
 use Rattle.std.proofs.lemmas.List.{get_or-set_same}
 use Rattle.std.proofs.lemmas.List.Quantifiers.{position-Some}
@@ -18,13 +18,13 @@ use Rattle.dm_ems.specs.declared.status.Status.{Status}
 use Rattle.dm_ems.specs.declared.status.Status.TheVariants.{NoPages, NoHandleLeft, OverTotal, OverFree, UnknownHandle, ContextSaved, NoSuchWindow, NoSuchPage, SavedAlready, NoneSaved, NameTaken}
 use Rattle.dm_ems.specs.declared.tables.Handle.{Handle}
 use Rattle.dm_ems.specs.declared.tables.Page.{Page}
-use Rattle.dm_ems.specs.Tables.{Expanded, blank, appended, cut, unallocated, free_handle, blocks_of, with_windows}
+use Rattle.dm_ems.specs.Tables.{Expanded, blank, appended, cut, unallocated, blocks_of, with_windows}
 use Rattle.dm_ems.specs.Consistent.{block_at, IsUsed, IsOwned, ShowsPages, SavesPages, IsConsistent}
 use Rattle.dm_ems.specs.Calls.{left, need, slot, with_slot, with_memory}
 use Rattle.dm_ems.specs.Handles.{allocate, deallocate}
 use Rattle.dm_ems.specs.Maps.{map_page, save_map, restore_map, showing}
 use Rattle.dm_ems.specs.Names.{set_name, is_name_of_other}
-use Rattle.dm_ems.specs.Laws.{StartIsConsistent, CallsKeepConsistency, WritesKeepConsistency}
+use Rattle.dm_ems.specs.inner.Laws.{StartIsConsistent, CallsKeepConsistency, WritesKeepConsistency}
 use Rattle.dm_ems.proofs.Owned.{each_block}
 use Rattle.dm_ems.proofs.Consistent.{consistent_append, consistent_appended, consistent_cut, consistent_slot}
 use Rattle.dm_ems.proofs.HandleBlocks.{none_left}
@@ -55,7 +55,7 @@ refused x e l = record { kept = l }
 pub opened : (x : Expanded) (h : ℕ) → IsConsistent x → IsConsistent (with_slot x h (Some blank))
 opened x h l = consistent_slot x h (Some blank) l tt (λ k lt e. refl)
 
-pub opened_used : (x : Expanded) (h : ℕ) → free_handle x.ems ≡ Some h → IsUsed (with_slot x h (Some blank)).ems.handles h
+pub opened_used : (x : Expanded) (h : ℕ) → position is_none x.ems.handles ≡ Some h → IsUsed (with_slot x h (Some blank)).ems.handles h
 opened_used x h e = let at = position-Some is_none x.ems.handles h None e in ap is_some (get_or-set_same x.ems.handles h (Some blank) None at.0)
 
 -- the machine has as many pages more as can be allocated
@@ -71,7 +71,7 @@ allocate_keeps : (x : Expanded) (n : ℕ) → IsConsistent x → Keeps x (alloca
 unfolding allocate
 allocate_keeps x n l =
     if_keeps x (n == 0) (Err NoPages) _ (refused x NoPages l)
-    (need_keeps x (free_handle x.ems) NoHandleLeft _ l (λ h e.
+    (need_keeps x (position is_none x.ems.handles) NoHandleLeft _ l (λ h e.
     if_keeps x (nat_lt x.ems.total n) (Err OverTotal) _ (refused x OverTotal l)
     (else_keeps x (nat_lt (unallocated x) n) (Err OverFree) (Ok (h, appended (with_slot x h (Some blank)) h n)) (refused x OverFree l)
     (λ f. record { kept = consistent_appended (with_slot x h (Some blank)) h n (opened_used x h e) (has_room x n l f) (opened x h l) }))))

@@ -1,6 +1,6 @@
 -- Calls leave what is outside of expanded memory.
 use Rattle.std.proofs.Common.{◌≡◌, ◌≢◌, ℕ, zero, suc, Bool, true, false, cond, List, [], ◌∷◌, ◌++◌, Option, Some, None, length, set, position, drop, get_or, refl, sym, ◌∙◌, ap, arith, inl, inr, length-append}
-use Rattle.std.specs.Prelude.{Result, Ok, Err, ◌==◌, nat_lt, nat_le, is_some, slice_get}
+use Rattle.std.specs.Prelude.{Result, Ok, Err, ◌==◌, nat_lt, nat_le, is_some, is_none, slice_get}
 use Rattle.std.proofs.lemmas.Bool.{cases_lt}
 use Rattle.std.proofs.lemmas.List.{get_or-set_other}
 use Rattle.std.proofs.lemmas.Option.{none-some}
@@ -13,14 +13,14 @@ use Rattle.dm_ems.specs.declared.status.Status.{Status}
 use Rattle.dm_ems.specs.declared.status.Status.TheVariants.{NoPages, NoHandleLeft, OverTotal, OverFree, UnknownHandle, ContextSaved, NoSuchWindow, NoSuchPage, SavedAlready, NoneSaved, NameTaken}
 use Rattle.dm_ems.specs.declared.tables.Handle.{Handle}
 use Rattle.dm_ems.specs.declared.tables.Page.{Page}
-use Rattle.dm_ems.specs.Tables.{Expanded, blank, appended, appended_page, with_page, cut, forgotten, forgotten_all, without_page, is_block, unallocated, free_handle, blocks_of, with_windows}
+use Rattle.dm_ems.specs.Tables.{Expanded, blank, appended, appended_page, with_page, cut, forgotten, forgotten_all, without_page, is_block, unallocated, blocks_of, with_windows}
 use Rattle.dm_ems.specs.Consistent.{block_at, IsOwned}
 use Rattle.dm_ems.specs.Outside.{LeavesOutside}
 use Rattle.dm_ems.specs.Calls.{left, need, slot, with_slot, with_memory}
 use Rattle.dm_ems.specs.Handles.{allocate, deallocate}
 use Rattle.dm_ems.specs.Maps.{map_page, save_map, restore_map, showing}
 use Rattle.dm_ems.specs.Names.{set_name, is_name_of_other}
-use Rattle.dm_ems.specs.Laws.{CallsLeaveOutside}
+use Rattle.dm_ems.specs.inner.Laws.{CallsLeaveOutside}
 use Rattle.dm_ems.proofs.Owned.{placed, IsPlaced, elsewhere, owned_pushed, owned_removed, block_pushed, block_last}
 use Rattle.dm_ems.proofs.NewBlock.{IsNew, taken_new}
 
@@ -153,7 +153,7 @@ allocate_leaves : (x : Expanded) (n : ℕ) → Leaves x (allocate x n)
 unfolding allocate
 allocate_leaves x n =
     if_leaves x (n == 0) (Err NoPages) _ (refused x NoPages)
-    (need_leaves x (free_handle x.ems) NoHandleLeft _ (λ h.
+    (need_leaves x (position is_none x.ems.handles) NoHandleLeft _ (λ h.
     let y = with_slot x h (Some blank) in
     if_leaves x (nat_lt x.ems.total n) (Err OverTotal) _ (refused x OverTotal)
     (if_leaves x (nat_lt (unallocated x) n) (Err OverFree) (Ok (h, appended y h n)) (refused x OverFree)

@@ -1,5 +1,5 @@
--- That a call which succeeds (43h and 51h) gives a handle all the pages that it asks for (the laws `PagesCome` here and
--- in dm_ems_move).
+-- That a call which succeeds (43h and 51h) gives a handle all the pages that it asks for (the law `PagesCome` of
+-- dm_drivers).
 use Rattle.std.specs.Prelude.{ℕ, ◌≡◌, List, ◌++◌, take, All}
 use Rattle.dm_pool.specs.Blocks.{IsLive, zeros}
 use Rattle.dm_space.specs.Memory.{page_bytes}

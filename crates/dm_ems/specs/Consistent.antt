@@ -24,10 +24,6 @@ IsUsed handles handle = IsSome (slice_index_or handles handle None)
 abbrev pub IsOwned : List Page → ℕ → Type 0
 IsOwned pages block = (k : ℕ) × (k < length pages) × (block_at pages k ≡ block)
 
--- two pages have different blocks
-abbrev pub HasOtherBlock : Page → Page → Type 0
-HasOtherBlock p q = p.block ≢ q.block
-
 -- each window shows a page, if it shows anything
 abbrev pub ShowsPages : List Page → List (Option ℕ) → Type 0
 ShowsPages pages windows = (k : ℕ) → IfSome (slice_index_or windows k None) (IsOwned pages)
@@ -48,7 +44,7 @@ pub record IsConsistent (x : Expanded) : Type 0 where
   pub few : length x.ems.pages ≤ x.ems.total
   pub used : (k : ℕ) → k < length x.ems.pages → IsUsed x.ems.handles (handle_at x.ems.pages k)
   pub owned : (k : ℕ) → k < length x.ems.pages → IsPage x.memory (block_at x.ems.pages k)
-  pub apart : AllPairs HasOtherBlock x.ems.pages
+  pub apart : AllPairs (λ (p : Page) (q : Page). p.block ≢ q.block) x.ems.pages
   pub shown : ShowsPages x.ems.pages x.memory.windows
   pub saved : (handle : ℕ) → SavesPages x.ems.pages (slice_index_or x.ems.handles handle None)
 

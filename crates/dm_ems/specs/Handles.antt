@@ -1,9 +1,9 @@
 -- Handles and their pages (LIM EMS 4.0, functions 3, 4, 6, 12 and 13; INT 67h functions 42h, 43h, 45h, 4Bh and 4Ch).
 -- Errors are tried in the order in which they are written; an error changes neither tables nor memory.
-use Rattle.std.specs.Prelude.{ℕ, nat_lt, ◌==◌, is_some, count_by, if◌then◌else◌, Some, None, Result, Ok, Err}
+use Rattle.std.specs.Prelude.{ℕ, nat_lt, ◌==◌, is_some, is_none, position, count_by, if◌then◌else◌, Some, None, Result, Ok, Err}
 use Rattle.dm_ems.specs.declared.status.Status.{Status}
 use Rattle.dm_ems.specs.declared.status.Status.TheVariants.{NoPages, NoHandleLeft, OverTotal, OverFree, UnknownHandle, ContextSaved}
-use Rattle.dm_ems.specs.Tables.{Expanded, free_handle, unallocated, appended, blank, cut, page_count}
+use Rattle.dm_ems.specs.Tables.{Expanded, unallocated, appended, blank, cut, page_count}
 use Rattle.dm_ems.specs.Calls.{need, slot, with_slot}
 
 -- 43h: a new handle, the lowest that is not in use, gets n pages of zeros, fewer only if the pool has no number left;
@@ -12,7 +12,7 @@ use Rattle.dm_ems.specs.Calls.{need, slot, with_slot}
 unfoldable pub allocate : Expanded → ℕ → Result (ℕ × Expanded) Status
 allocate x n =
     if n == 0 then Err NoPages else
-    need (free_handle x.ems) NoHandleLeft (λ handle.
+    need (position is_none x.ems.handles) NoHandleLeft (λ handle.
     if nat_lt x.ems.total n then Err OverTotal else
     if nat_lt (unallocated x) n then Err OverFree else
     Ok (handle, appended (with_slot x handle (Some blank)) handle n))

@@ -9,5 +9,4 @@ pub mod Maps
 pub mod Names
 pub mod Frame
 pub mod Readers
-pub mod Laws
 pub mod inner

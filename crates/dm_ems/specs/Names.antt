@@ -31,13 +31,11 @@ abbrev pub page_entry : Tables → ℕ → Option Handle → List ℕ
 page_entry ems handle None = []
 page_entry ems handle (Some s) = word_bytes handle ++ word_bytes (page_count ems handle)
 
--- the list of 4Dh: the `page_entry` of each handle in use, in ascending order
-abbrev pub page_entries : Expanded → List ℕ
-page_entries x = in_turn (λ handle. page_entry x.ems handle (slot x handle)) 64
-
--- 4Dh: `page_entries` are written at segment:offset; the result is the number of handles in use. The tables stay
+-- 4Dh: the `page_entry` of each handle in use, in ascending order, are written at segment:offset; the result is the
+-- number of handles in use. The tables stay
 unfoldable pub list_pages : Expanded → ℕ → ℕ → (ℕ × Expanded)
-list_pages x segment offset = (in_use x, writing x segment offset (page_entries x))
+list_pages x segment offset =
+    (in_use x, writing x segment offset (in_turn (λ handle. page_entry x.ems handle (slot x handle)) 64))
 
 -- the entry of a handle in the list of 54h: its number, a word, and its name, eight bytes; nothing if it is not in
 -- use
@@ -45,14 +43,11 @@ abbrev pub name_entry : ℕ → Option Handle → List ℕ
 name_entry handle None = []
 name_entry handle (Some s) = word_bytes handle ++ s.name
 
--- the list of 54h: the `name_entry` of each handle in use, in ascending order
-abbrev pub name_entries : Expanded → List ℕ
-name_entries x = in_turn (λ handle. name_entry handle (slot x handle)) 64
-
--- 54h, AL = 0: `name_entries` are written at segment:offset; the result is the number of handles in use. The tables
--- stay
+-- 54h, AL = 0: the `name_entry` of each handle in use, in ascending order, are written at segment:offset; the result is
+-- the number of handles in use. The tables stay
 unfoldable pub list_names : Expanded → ℕ → ℕ → (ℕ × Expanded)
-list_names x segment offset = (in_use x, writing x segment offset (name_entries x))
+list_names x segment offset =
+    (in_use x, writing x segment offset (in_turn (λ handle. name_entry handle (slot x handle)) 64))
 
 -- the name is eight zeros: a handle with it has no name
 abbrev pub is_no_name : List ℕ → Bool

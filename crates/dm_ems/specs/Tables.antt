@@ -1,6 +1,6 @@
 -- The tables of expanded memory, and how a page is added and removed (LIM EMS 4.0, section 2: handles, logical pages,
 -- mapping registers). A page is a block of 16 units of the pool, 16 KiB.
-use Rattle.std.specs.Prelude.{ℕ, zero, suc, ◌-◌, ◌≤◌, ◌≡◌, Bool, ◌==◌, if◌then◌else◌, List, [], ◌∷◌, ◌++◌, length, map, filter, count_by, position, is_none, remove, drop, min, replicate, Option, Some, None}
+use Rattle.std.specs.Prelude.{ℕ, zero, suc, ◌-◌, ◌≤◌, ◌≡◌, Bool, ◌==◌, if◌then◌else◌, List, [], ◌∷◌, ◌++◌, length, map, filter, count_by, position, remove, drop, min, replicate, Option, Some, None}
 use Rattle.dm_pool.specs.Blocks.{Blocks, taken, without}
 use Rattle.dm_pool.specs.Gaps.{gaps, count_fitting}
 use Rattle.dm_space.specs.Memory.{Memory, with_blocks}
@@ -50,10 +50,6 @@ blocks_of ems handle = map (λ (page : Page). page.block) (filter (is_of handle)
 -- the number of pages of a handle
 abbrev pub page_count : Tables → ℕ → ℕ
 page_count ems handle = count_by (is_of handle) ems.pages
-
--- the lowest handle that is not in use; None if all 64 are
-abbrev pub free_handle : Tables → Option ℕ
-free_handle ems = position is_none ems.handles
 
 -- 42h: the number of pages that can still be allocated: those that fit the gaps of the pool, but not more than are
 -- left of the total

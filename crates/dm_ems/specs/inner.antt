@@ -1,3 +1,5 @@
 -- Definitions that private contracts and proofs alone name.
 pub mod Calls
 pub mod Tables
+pub mod Laws
+pub mod Consistent

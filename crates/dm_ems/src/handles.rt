@@ -18,7 +18,8 @@ const BLANK: Handle = Handle {
 
 impl Ems {
     /// 43h: allocates a new handle, the lowest that is not in use, with `pages` pages of zeros, and returns its
-    /// number. The handle gets fewer only if the pool has no number left; in a machine it has one (`pages_come`).
+    /// number. The handle gets fewer only if the pool has no number left; in a machine it has one (`pages_come` of
+    /// `dm_drivers`).
     ///
     /// # Errors
     ///

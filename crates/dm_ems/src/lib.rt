@@ -6,7 +6,6 @@
 
 mod frame;
 mod handles;
-mod laws;
 mod maps;
 mod names;
 mod pages;
@@ -14,7 +13,6 @@ mod readers;
 mod status;
 mod tables;
 
-pub use laws::{calls_keep_consistency, calls_leave_outside, pages_come, writes_keep_consistency};
 pub use pages::set_windows;
 pub use readers::Holding;
 pub use status::Status;

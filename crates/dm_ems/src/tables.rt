@@ -2,7 +2,7 @@
 //! pool; functions 45h and 51h remove it, and then no window shows it, not even a saved one.
 
 ghost use Rattle.std.specs.Prelude.{◌≡◌, ◌<◌, ◌≤◌, ◌+◌, ◌^◌, map, slice_index_or, slice_set, slice_get, is_some, count_by, position, is_none, remove, length, IfSome, None, ◌++◌, ◌∷◌, []};
-ghost use Rattle.dm_ems.specs.Tables.{new_tables, blocks_of, page_count, free_handle, unmapped_slot, unmapped, unmapped_saved, is_block};
+ghost use Rattle.dm_ems.specs.Tables.{new_tables, blocks_of, page_count, unmapped_slot, unmapped, unmapped_saved, is_block};
 
 use arrayvec::ArrayVec;
 use dm_pool::Block;
@@ -207,7 +207,7 @@ impl Ems {
 
     /// The lowest handle that is not in use; None if all 64 are.
     pub(crate) fn free_handle(&self) -> Option<u16>
-        ensures first { result ≡ free_handle self.now }
+        ensures first { result ≡ position is_none self.now.handles }
         ensures low { IfSome result (λ handle. handle < 64) }
     {
         match first_free(&self.handles) {

@@ -51,3 +51,12 @@ settled_with_status cpu (Err e) set = refused cpu e
 -- does not change
 abbrev pub after_call : {A : Type 0} → Caller → Result (A × Expanded) Status → (A → Cpu) → Caller
 after_call c r set = record { cpu = settled c.cpu (answer r) set; x = left c.x r }
+
+-- the same with registers as in `settled_with_status`
+abbrev pub after_call_with_status : {A : Type 0} → Caller → Result (A × Expanded) Status → (A → Cpu) → Caller
+after_call_with_status c r set = record { cpu = settled_with_status c.cpu (answer r) set; x = left c.x r }
+
+-- the state after a list is written, which cannot fail: `set` of its count, AH is 0, and the tables and memory with the
+-- list
+abbrev pub after_list : Caller → (ℕ × Expanded) → (ℕ → Cpu) → Caller
+after_list c told set = record { cpu = succeeded (set told.0); x = told.1 }

@@ -3,8 +3,7 @@
 ghost use Rattle.std.specs.Prelude.{◌≡◌};
 ghost use Rattle.dm_ems_move.specs.RegionMoves.{moved_code};
 ghost use Rattle.dm_ems_calls.specs.Caller.{with_status, succeeded, refused, settled, settled_with_status};
-ghost use Rattle.dm_ems_calls.specs.Handles.{recounted};
-ghost use Rattle.dm_ems_calls.specs.Windows.{numbered};
+ghost use Rattle.dm_ems_calls.specs.Functions.{recounted, numbered};
 
 use dm_cpu::Cpu;
 use dm_ems::Status;

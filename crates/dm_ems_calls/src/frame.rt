@@ -1,8 +1,10 @@
 //! The driver's version and the page frame (LIM EMS 4.0, functions 2, 7 and 25; INT 67h functions 41h, 46h and 58h).
 //! Other registers than those named stay.
 ghost use Rattle.std.specs.Prelude.{◌≡◌};
-ghost use Rattle.dm_ems_calls.specs.Caller.{caller};
-ghost use Rattle.dm_ems_calls.specs.Frame.{tell_frame, tell_version, list_frame, count_windows, mappable};
+ghost use Rattle.dm_ins.specs.declared.operand.ByteRegister.TheVariants.{Al};
+ghost use Rattle.dm_cpu.specs.Cpu.{with_byte};
+ghost use Rattle.dm_ems_calls.specs.Caller.{caller, succeeded};
+ghost use Rattle.dm_ems_calls.specs.Functions.{call, mappable};
 
 use crate::answers::{refuse, succeed};
 use dm_cpu::Cpu;
@@ -20,18 +22,16 @@ const WINDOWS: u16 = 4;
 const VERSION: u8 = 0x40;
 
 /// 41h: sets BX to the frame's segment, and AH to 0.
-#[tactic(auto, unfolding(crate::specs::Frame::tell_frame))]
 pub(crate) fn tell_frame(cpu: &mut Cpu)
-    ensures { cpu.new ≡ tell_frame cpu.old }
+    ensures { cpu.new ≡ succeeded (record cpu.old { bx = 0xE000 }) }
 {
     cpu.bx = FRAME;
     succeed(cpu);
 }
 
 /// 46h: sets AL to the version, 4.0, and AH to 0.
-#[tactic(auto, unfolding(crate::specs::Frame::tell_version))]
 pub(crate) fn tell_version(cpu: &mut Cpu)
-    ensures { cpu.new ≡ tell_version cpu.old }
+    ensures { cpu.new ≡ succeeded (with_byte cpu.old Al 0x40) }
 {
     cpu.set_byte(ByteRegister::Al, VERSION);
     succeed(cpu);
@@ -39,9 +39,9 @@ pub(crate) fn tell_version(cpu: &mut Cpu)
 
 /// 58h, AL = 0: writes the segments and numbers of the windows, 16 bytes, at ES:DI; sets CX to the number of windows,
 /// and AH to 0.
-#[tactic(auto, unfolding(crate::specs::Frame::list_frame))]
+#[tactic(auto, unfolding(crate::specs::Functions::mappable))]
 fn list_frame(cpu: &mut Cpu, ems: &Ems, space: &mut Space)
-    ensures { caller cpu.new ems.now space.new.memory ≡ list_frame (caller cpu.old ems.now space.old.memory) }
+    ensures { caller cpu.new ems.now space.new.memory ≡ mappable (caller cpu.old ems.now space.old.memory) 0 }
 {
     ems.list_frame(space, cpu.es, cpu.di);
     cpu.cx = WINDOWS;
@@ -49,18 +49,17 @@ fn list_frame(cpu: &mut Cpu, ems: &Ems, space: &mut Space)
 }
 
 /// 58h, AL = 1: sets CX to the number of windows, and AH to 0.
-#[tactic(auto, unfolding(crate::specs::Frame::count_windows))]
 fn count_windows(cpu: &mut Cpu)
-    ensures { cpu.new ≡ count_windows cpu.old }
+    ensures { cpu.new ≡ succeeded (record cpu.old { cx = 4 }) }
 {
     cpu.cx = WINDOWS;
     succeed(cpu);
 }
 
 /// 58h: AL selects whether the windows are listed (0) or counted (1); status 8Fh for another value.
-#[tactic(auto, unfolding(crate::specs::Frame::mappable))]
+#[tactic(auto, unfolding(crate::specs::Functions::call, crate::specs::Functions::mappable))]
 pub(crate) fn mappable(cpu: &mut Cpu, ems: &Ems, space: &mut Space)
-    ensures { caller cpu.new ems.now space.new.memory ≡ mappable (caller cpu.old ems.now space.old.memory) }
+    ensures { caller cpu.new ems.now space.new.memory ≡ call (caller cpu.old ems.now space.old.memory) 0x58 }
 {
     match cpu.byte(ByteRegister::Al) {
         0 => list_frame(cpu, ems, space),

@@ -3,7 +3,7 @@ ghost use Rattle.std.specs.Prelude.{◌≡◌};
 ghost use Rattle.dm_ems.specs.Tables.{expanded};
 ghost use Rattle.dm_ems.specs.Consistent.{IsConsistent};
 ghost use Rattle.dm_ems_calls.specs.Caller.{caller};
-ghost use Rattle.dm_ems_calls.specs.Functions.{no_function, call, dispatched};
+ghost use Rattle.dm_ems_calls.specs.Functions.{call, dispatched};
 
 use crate::answers::succeed;
 use crate::frame::{mappable, tell_frame, tell_version};
@@ -21,107 +21,34 @@ use dm_space::Space;
 /// The status of a function that the driver does not have.
 const NO_FUNCTION: u8 = 0x84;
 
-/// A function of INT 67h, by its number in AH.
-#[derive(Clone, Copy, Debug, PartialEq, Eq)]
-pub(crate) enum Function {
-    /// 40h: returns success, as the driver is there.
-    Status,
-    /// 41h: returns the frame's segment in BX.
-    Frame,
-    /// 42h: returns in BX the number of pages that can still be allocated, in DX that of all pages.
-    Pages,
-    /// 43h: allocates a new handle with BX pages, and returns it in DX.
-    Allocate,
-    /// 44h: makes window AL show logical page BX of handle DX, or nothing for page FFFFh.
-    MapPage,
-    /// 45h: frees handle DX and its pages; handle 0 stays in use.
-    Deallocate,
-    /// 46h: returns the version in AL.
-    Version,
-    /// 47h: saves, under handle DX, what the windows show.
-    SaveMap,
-    /// 48h: makes the windows show what was saved under handle DX.
-    RestoreMap,
-    /// 4Bh: returns in BX the number of handles in use.
-    HandleCount,
-    /// 4Ch: returns in BX the number of pages of handle DX.
-    PageCount,
-    /// 4Dh: writes the handles in use and their numbers of pages at ES:DI.
-    PageList,
-    /// 4Eh: writes the map of all windows at ES:DI, sets them from the map at DS:SI, does both, or returns its size.
-    WholeMap,
-    /// 50h: makes windows show pages of handle DX, as CX pairs at DS:SI say.
-    MapMany,
-    /// 51h: changes the number of pages of handle DX to BX, and returns in BX the number that it then has.
-    Reallocate,
-    /// 53h: writes the name of handle DX at ES:DI, or sets it from DS:SI.
-    HandleName,
-    /// 54h: writes all names at ES:DI, searches for the one at DS:SI, or returns the number of all handles.
-    Directory,
-    /// 57h: moves or exchanges regions of memory.
-    Regions,
-    /// 58h: writes the segments and numbers of the windows at ES:DI, or only returns how many windows there are.
-    Mappable,
-    /// Any other number.
-    Unknown,
-}
-
-/// The function that a value of AH selects.
-fn function_of(number: u8) -> Function
-    ensures { result ≡ Rattle.dm_ems_calls.specs.Functions.function_of number }
-{
-    match number {
-        0x40 => Function::Status,
-        0x41 => Function::Frame,
-        0x42 => Function::Pages,
-        0x43 => Function::Allocate,
-        0x44 => Function::MapPage,
-        0x45 => Function::Deallocate,
-        0x46 => Function::Version,
-        0x47 => Function::SaveMap,
-        0x48 => Function::RestoreMap,
-        0x4B => Function::HandleCount,
-        0x4C => Function::PageCount,
-        0x4D => Function::PageList,
-        0x4E => Function::WholeMap,
-        0x50 => Function::MapMany,
-        0x51 => Function::Reallocate,
-        0x53 => Function::HandleName,
-        0x54 => Function::Directory,
-        0x57 => Function::Regions,
-        0x58 => Function::Mappable,
-        _ => Function::Unknown,
-    }
-}
-
 /// Does one function of INT 67h, on the registers, the tables and the memory. The scratch part of the space may be
 /// overwritten.
-#[tactic(auto, unfolding(crate::specs::Functions::no_function))]
-fn call(cpu: &mut Cpu, ems: &mut Ems, space: &mut Space, function: Function)
+#[tactic(auto, unfolding(crate::specs::Functions::call))]
+fn call(cpu: &mut Cpu, ems: &mut Ems, space: &mut Space, number: u8)
     requires { IsConsistent (expanded ems.old space.old.memory) }
-    ensures { caller cpu.new ems.new space.new.memory ≡ call (caller cpu.old ems.old space.old.memory) function }
+    ensures { caller cpu.new ems.new space.new.memory ≡ call (caller cpu.old ems.old space.old.memory) number }
 {
-    match function {
-        Function::Status => succeed(cpu),
-        Function::Frame => tell_frame(cpu),
-        Function::Pages => tell_pages(cpu, ems, space),
-        Function::Allocate => allocate(cpu, ems, space),
-        Function::MapPage => map_page(cpu, ems, space),
-        Function::Deallocate => deallocate(cpu, ems, space),
-        Function::Version => tell_version(cpu),
-        Function::SaveMap => save_map(cpu, ems, space),
-        Function::RestoreMap => restore_map(cpu, ems, space),
-        Function::HandleCount => count_handles(cpu, ems, space),
-        Function::PageCount => count_pages(cpu, ems, space),
-        Function::PageList => list_pages(cpu, ems, space),
-        Function::WholeMap => whole_map(cpu, ems, space),
-        Function::MapMany => map_many(cpu, ems, space),
-        Function::Reallocate => reallocate(cpu, ems, space),
-        Function::HandleName => handle_name(cpu, ems, space),
-        Function::Directory => directory(cpu, ems, space),
-        Function::Regions => move_or_exchange(cpu, ems, space),
-        Function::Mappable => mappable(cpu, ems, space),
-        Function::Unknown => cpu.set_byte(ByteRegister::Ah, NO_FUNCTION),
+    match number {
+        0x40 => succeed(cpu),
+        0x41 => tell_frame(cpu),
+        0x42 => tell_pages(cpu, ems, space),
+        0x43 => allocate(cpu, ems, space),
+        0x44 => map_page(cpu, ems, space),
+        0x45 => deallocate(cpu, ems, space),
+        0x46 => tell_version(cpu),
+        0x47 => save_map(cpu, ems, space),
+        0x48 => restore_map(cpu, ems, space),
+        0x4B => count_handles(cpu, ems, space),
+        0x4C => count_pages(cpu, ems, space),
+        0x4D => list_pages(cpu, ems, space),
+        0x4E => whole_map(cpu, ems, space),
+        0x50 => map_many(cpu, ems, space),
+        0x51 => reallocate(cpu, ems, space),
+        0x53 => handle_name(cpu, ems, space),
+        0x54 => directory(cpu, ems, space),
+        0x57 => move_or_exchange(cpu, ems, space),
+        0x58 => mappable(cpu, ems, space),
+        _ => cpu.set_byte(ByteRegister::Ah, NO_FUNCTION),
     }
 }
 
@@ -134,6 +61,6 @@ pub fn expanded_memory_call(cpu: &mut Cpu, ems: &mut Ems, space: &mut Space)
     requires { IsConsistent (expanded ems.old space.old.memory) }
     ensures { caller cpu.new ems.new space.new.memory ≡ dispatched (caller cpu.old ems.old space.old.memory) }
 {
-    let function = function_of(cpu.byte(ByteRegister::Ah));
-    call(cpu, ems, space, function);
+    let number = cpu.byte(ByteRegister::Ah);
+    call(cpu, ems, space, number);
 }

@@ -6,10 +6,8 @@ mod answers;
 mod frame;
 mod functions;
 mod handles;
-mod laws;
 mod names;
 mod regions;
 mod windows;
 
 pub use functions::expanded_memory_call;
-pub use laws::expanded_memory_calls_keep;

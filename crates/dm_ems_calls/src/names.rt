@@ -2,8 +2,8 @@
 //! each sets AH to the status, 0 for success; an error sets AH alone, and leaves tables and memory as they are. Other
 //! registers than those named stay.
 ghost use Rattle.std.specs.Prelude.{◌≡◌};
-ghost use Rattle.dm_ems_calls.specs.Caller.{caller};
-ghost use Rattle.dm_ems_calls.specs.Names.{get_name, set_name, handle_name, list_names, find_name, tell_handles, directory};
+ghost use Rattle.dm_ems_calls.specs.Caller.{caller, succeeded};
+ghost use Rattle.dm_ems_calls.specs.Functions.{call, directory, handle_name};
 
 use crate::answers::{refuse, settle, settle_dx, succeed};
 use dm_cpu::Cpu;
@@ -15,18 +15,18 @@ use dm_space::Space;
 const HANDLES: u16 = 64;
 
 /// 53h, AL = 0: writes the eight bytes of the name of the handle in DX at ES:DI.
-#[tactic(auto, unfolding(crate::specs::Names::get_name))]
+#[tactic(auto, unfolding(crate::specs::Functions::handle_name))]
 fn get_name(cpu: &mut Cpu, ems: &Ems, space: &mut Space)
-    ensures { caller cpu.new ems.now space.new.memory ≡ get_name (caller cpu.old ems.now space.old.memory) }
+    ensures { caller cpu.new ems.now space.new.memory ≡ handle_name (caller cpu.old ems.now space.old.memory) 0 }
 {
     let res = ems.get_name(space, cpu.dx, cpu.es, cpu.di);
     settle(cpu, res);
 }
 
 /// 53h, AL = 1: sets the name of the handle in DX to the eight bytes at DS:SI.
-#[tactic(auto, unfolding(crate::specs::Names::set_name))]
+#[tactic(auto, unfolding(crate::specs::Functions::handle_name))]
 fn set_name(cpu: &mut Cpu, ems: &mut Ems, space: &Space)
-    ensures { caller cpu.new ems.new space.now.memory ≡ set_name (caller cpu.old ems.old space.now.memory) }
+    ensures { caller cpu.new ems.new space.now.memory ≡ handle_name (caller cpu.old ems.old space.now.memory) 1 }
 {
     let res = ems.set_name(space, cpu.dx, cpu.ds, cpu.si);
     settle(cpu, res);
@@ -34,9 +34,9 @@ fn set_name(cpu: &mut Cpu, ems: &mut Ems, space: &Space)
 
 /// 53h: AL selects whether the name of the handle in DX is written at ES:DI (0) or set from DS:SI (1); status 8Fh for
 /// another value.
-#[tactic(auto, unfolding(crate::specs::Names::handle_name))]
+#[tactic(auto, unfolding(crate::specs::Functions::call, crate::specs::Functions::handle_name))]
 pub(crate) fn handle_name(cpu: &mut Cpu, ems: &mut Ems, space: &mut Space)
-    ensures { caller cpu.new ems.new space.new.memory ≡ handle_name (caller cpu.old ems.old space.old.memory) }
+    ensures { caller cpu.new ems.new space.new.memory ≡ call (caller cpu.old ems.old space.old.memory) 0x53 }
 {
     match cpu.byte(ByteRegister::Al) {
         0 => get_name(cpu, ems, space),
@@ -47,9 +47,9 @@ pub(crate) fn handle_name(cpu: &mut Cpu, ems: &mut Ems, space: &mut Space)
 
 /// 54h, AL = 0: writes the handles in use and their names at ES:DI, a word and eight bytes each;
 /// sets AL to the number of handles in use.
-#[tactic(auto, unfolding(crate::specs::Names::list_names))]
+#[tactic(auto, unfolding(crate::specs::Functions::directory))]
 fn list_names(cpu: &mut Cpu, ems: &Ems, space: &mut Space)
-    ensures { caller cpu.new ems.now space.new.memory ≡ list_names (caller cpu.old ems.now space.old.memory) }
+    ensures { caller cpu.new ems.now space.new.memory ≡ directory (caller cpu.old ems.now space.old.memory) 0 }
 {
     let count = ems.list_names(space, cpu.es, cpu.di);
     cpu.set_byte(ByteRegister::Al, count as u8);
@@ -58,18 +58,17 @@ fn list_names(cpu: &mut Cpu, ems: &Ems, space: &mut Space)
 
 /// 54h, AL = 1: sets DX to the lowest handle with the name at DS:SI; where no handle has it, or it is eight zeros, DX
 /// stays.
-#[tactic(auto, unfolding(crate::specs::Names::find_name))]
+#[tactic(auto, unfolding(crate::specs::Functions::directory))]
 fn find_name(cpu: &mut Cpu, ems: &Ems, space: &Space)
-    ensures { caller cpu.new ems.now space.now.memory ≡ find_name (caller cpu.old ems.now space.now.memory) }
+    ensures { caller cpu.new ems.now space.now.memory ≡ directory (caller cpu.old ems.now space.now.memory) 1 }
 {
     let res = ems.find_name(space, cpu.ds, cpu.si);
     settle_dx(cpu, res);
 }
 
 /// 54h, AL = 2: sets BX to the number of all handles.
-#[tactic(auto, unfolding(crate::specs::Names::tell_handles))]
 fn tell_handles(cpu: &mut Cpu)
-    ensures { cpu.new ≡ tell_handles cpu.old }
+    ensures { cpu.new ≡ succeeded (record cpu.old { bx = 64 }) }
 {
     cpu.bx = HANDLES;
     succeed(cpu);
@@ -77,9 +76,9 @@ fn tell_handles(cpu: &mut Cpu)
 
 /// 54h: AL selects whether the names are written at ES:DI (0), one is searched for (1), or BX is set to the number of
 /// all handles (2); status 8Fh for another value.
-#[tactic(auto, unfolding(crate::specs::Names::directory))]
+#[tactic(auto, unfolding(crate::specs::Functions::call, crate::specs::Functions::directory))]
 pub(crate) fn directory(cpu: &mut Cpu, ems: &Ems, space: &mut Space)
-    ensures { caller cpu.new ems.now space.new.memory ≡ directory (caller cpu.old ems.now space.old.memory) }
+    ensures { caller cpu.new ems.now space.new.memory ≡ call (caller cpu.old ems.now space.old.memory) 0x54 }
 {
     match cpu.byte(ByteRegister::Al) {
         0 => list_names(cpu, ems, space),

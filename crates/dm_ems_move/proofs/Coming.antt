@@ -15,7 +15,7 @@ use Rattle.dm_ems.proofs.HandleBlocks.{cut_blocks, count_blocks}
 use Rattle.dm_ems.proofs.Coming.{grows, may_come}
 use Rattle.dm_ems_move.specs.declared.reallocation.Reallocated.{Reallocated}
 use Rattle.dm_ems_move.specs.Reallocation.{reallocate, reallocated, with_count}
-use Rattle.dm_ems_move.specs.Laws.{PagesCome}
+use Rattle.dm_ems_move.specs.inner.Laws.{PagesCome}
 
 less : (a b : ℕ) → nat_lt a b ≡ true → a < b
 less a b e = grind (arith, nat_tests, e)

@@ -19,7 +19,7 @@ use Rattle.dm_ems_move.specs.Many.{map_many, after_pairs}
 use Rattle.dm_ems_move.specs.Maps.{whole_map, map_at, map_entries, with_map}
 use Rattle.dm_ems_move.specs.declared.region_moves.Moved.TheVariants.{Apart, Overlapping}
 use Rattle.dm_ems_move.specs.RegionMoves.{length_at, regions_of, are_mixed, move_between, exchange_between, move_region, exchange_region}
-use Rattle.dm_ems_move.specs.Laws.{MovesKeepConsistency}
+use Rattle.dm_ems_move.specs.inner.Laws.{MovesKeepConsistency}
 use Rattle.dm_ems_move.proofs.Shown.{after_shown, map_shown, written_consistent}
 
 then_keeps : {A B : Type 0} (x : Expanded) (r : Result A Status) (f : A → Result (B × Expanded) Status) → IsConsistent x → ((v : A) → r ≡ Ok v → Keeps x (f v)) → Keeps x (and_then r f)

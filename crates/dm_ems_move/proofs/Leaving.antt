@@ -18,7 +18,7 @@ use Rattle.dm_ems_move.specs.Many.{map_many, after_pairs}
 use Rattle.dm_ems_move.specs.Maps.{whole_map, map_at, map_entries, with_map, showing_all}
 use Rattle.dm_ems_move.specs.declared.region_moves.Moved.TheVariants.{Apart, Overlapping}
 use Rattle.dm_ems_move.specs.RegionMoves.{length_at, regions_of, are_mixed, move_between, exchange_between, move_region, exchange_region}
-use Rattle.dm_ems_move.specs.Laws.{MovesLeaveOutside}
+use Rattle.dm_ems_move.specs.inner.Laws.{MovesLeaveOutside}
 use Rattle.dm_ems_move.proofs.Shown.{bytes_shaped}
 
 then_leaves : {A B : Type 0} (x : Expanded) (r : Result A Status) (f : A → Result (B × Expanded) Status) → ((v : A) → Leaves x (f v)) → Leaves x (and_then r f)

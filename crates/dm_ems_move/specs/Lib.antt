@@ -2,6 +2,5 @@ pub mod Steps
 pub mod Reallocation
 pub mod Many
 pub mod Maps
-pub mod Laws
 pub mod RegionMoves
 pub mod inner

@@ -1,6 +1,6 @@
 -- The map of the frame as bytes (LIM EMS 4.0, function 15; INT 67h function 4Eh): for each window the handle and the
 -- logical page that it shows, two words, or FFFFh twice where it shows nothing. (The standard leaves the form open.)
-use Rattle.std.specs.Prelude.{ℕ, ◌+◌, ◌*◌, ◌==◌, ◌&&◌, if◌then◌else◌, List, [], ◌∷◌, ◌++◌, slice_get, slice_index_or, Option, Some, None, Result, Ok, Err}
+use Rattle.std.specs.Prelude.{ℕ, ◌+◌, ◌*◌, ◌==◌, ◌&&◌, if◌then◌else◌, List, [], ◌∷◌, ◌++◌, slice_get, slice_index_or, Option, Some, None, unwrap_or, Result, Ok, Err}
 use Rattle.dm_space.specs.Memory.{Memory}
 use Rattle.dm_ems.specs.declared.status.Status.{Status}
 use Rattle.dm_ems.specs.declared.status.Status.TheVariants.{NoSubfunction, BadMap}
@@ -13,23 +13,13 @@ use Rattle.dm_moves.specs.Buffers.{word_after}
 
 -- ---- from windows to bytes
 
--- a page's handle and logical number; FFFFh twice without a page
-abbrev pub or_none : Option (ℕ × ℕ) → ℕ × ℕ
-or_none None = (0xFFFF, 0xFFFF)
-or_none (Some n) = n
-
--- the handle and the logical page that a window shows; FFFFh twice where it shows no page
-abbrev pub numbers : List Page → Option ℕ → ℕ × ℕ
-numbers pages window = or_none (numbers_of pages window)
-
--- a handle and a logical page as four bytes, two words with the low byte first
-abbrev pub map_entry : ℕ × ℕ → List ℕ
-map_entry n = word_bytes n.0 ++ word_bytes n.1
-
--- the bytes of the map of these windows, four for each
+-- the bytes of the map of these windows, four for each: the handle and the logical page that the window shows, or FFFFh
+-- twice, as two words
 abbrev pub map_entries : List Page → List (Option ℕ) → List ℕ
 map_entries pages [] = []
-map_entries pages (window ∷ windows) = map_entry (numbers pages window) ++ map_entries pages windows
+map_entries pages (window ∷ windows) =
+    let n = unwrap_or (numbers_of pages window) (0xFFFF, 0xFFFF) in
+    (word_bytes n.0 ++ word_bytes n.1) ++ map_entries pages windows
 
 -- ---- from bytes to windows
 

@@ -3,13 +3,11 @@
 #![tactic(auto)]
 
 mod description;
-mod laws;
 mod many;
 mod maps;
 mod reallocation;
 mod region_moves;
 
-pub use laws::{moves_keep_consistency, moves_leave_outside, pages_come};
 pub use many::map_many;
 pub use maps::whole_map;
 pub use reallocation::{Reallocated, reallocate};

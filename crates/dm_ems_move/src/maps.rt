@@ -7,7 +7,8 @@ ghost use Rattle.dm_space.specs.Buffers.{with_bytes};
 ghost use Rattle.dm_ems.specs.Tables.{expanded, is_block, is_of};
 ghost use Rattle.dm_ems.specs.Consistent.{IsConsistent};
 ghost use Rattle.dm_ems.specs.Calls.{answer, left};
-ghost use Rattle.dm_ems_move.specs.Maps.{whole_map, numbers, map_entry, map_entries, meant, meant_at, map_at};
+ghost use Rattle.dm_ems_move.specs.Maps.{whole_map, map_entries, meant, meant_at, map_at};
+ghost use Rattle.dm_ems_move.specs.inner.Maps.{numbers, map_entry};
 
 use arrayvec::ArrayVec;
 use dm_ems::{Ems, Page, Status, set_windows};

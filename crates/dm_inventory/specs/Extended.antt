@@ -1,5 +1,5 @@
 -- The handles of extended memory and the upper memory blocks as records. Source: XMS 3.0.
-use Rattle.std.specs.Prelude.{ℕ, ◌+◌, List, slice_get, Option, Some, None}
+use Rattle.std.specs.Prelude.{ℕ, ◌+◌, List, slice_get, Option, Some, None, option_map}
 use Rattle.dm_space.specs.Memory.{Memory}
 use Rattle.dm_xms.specs.declared.tables.Handle.{Handle}
 use Rattle.dm_xms.specs.declared.tables.Upper.{Upper}
@@ -10,14 +10,10 @@ use Rattle.dm_inventory.specs.declared.extended.ExtendedBlock.{ExtendedBlock}
 use Rattle.dm_inventory.specs.declared.extended.UpperBlock.{UpperBlock}
 use Rattle.dm_inventory.specs.Rows.{rows_in_turn}
 
--- the record of the block of a handle in use; none if it is not in use
-abbrev pub extended_of : Memory → ℕ → Option Handle → Option ExtendedBlock
-extended_of m handle None = None
-extended_of m handle (Some h) = Some (record { address = address m h.block; locks = h.locks; handle = handle; kib = h.kib })
-
 -- the record of the block of handle `before + 1`; none if the handle is not in use. Handles count from 1
 abbrev pub extended_row : Tables → Memory → ℕ → Option ExtendedBlock
-extended_row xms m before = extended_of m (before + 1) (slot xms (before + 1))
+extended_row xms m before =
+    option_map (λ (h : Handle). record { address = address m h.block; locks = h.locks; handle = before + 1; kib = h.kib }) (slot xms (before + 1))
 
 -- the records of the blocks of the handles in use, in rising order
 abbrev pub extended_rows : Tables → Memory → List ExtendedBlock

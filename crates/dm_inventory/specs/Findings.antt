@@ -7,12 +7,14 @@ use Rattle.dm_findings.specs.declared.sites.Site.TheVariants.{At, Before}
 use Rattle.dm_findings.specs.declared.finding.Act.{Act}
 use Rattle.dm_findings.specs.declared.finding.Act.TheVariants as act
 use Rattle.dm_findings.specs.declared.finding.Finding.{Finding}
-use Rattle.dm_findings.specs.declared.finding.Finding.TheVariants.{Overwritten, MappedAway, Destroyed, Whole, FreedTwice, Refused, NotAllocated, DivisionError, NotServed, Short, Left, Held, FreeRead, FreeWritten, StackFreed, WindowLost, RomWritten, NothingWritten, TailWritten, OtherFreed, NotResized}
+use Rattle.dm_findings.specs.declared.finding.Finding.TheVariants.{Held}
 use Rattle.dm_findings.specs.declared.finding.Kept.{Kept}
 use Rattle.dm_findings.specs.declared.finding.Kept.TheVariants as kept
 use Rattle.dm_findings.specs.declared.finding.Origin.{Origin}
 use Rattle.dm_findings.specs.declared.report.Listed.{Listed}
 use Rattle.dm_findings.specs.Findings.{is_error}
+use Rattle.dm_findings.specs.Repeats as findings
+use Rattle.dm_findings.specs.Repeats.{left_kind}
 use Rattle.dm_inventory.specs.declared.findings.Act as performed
 use Rattle.dm_inventory.specs.declared.findings.Place.{Place}
 use Rattle.dm_inventory.specs.declared.findings.FoundRecord.{FoundRecord}
@@ -21,38 +23,11 @@ use Rattle.dm_inventory.specs.Details.{details_of}
 
 -- ---- kinds
 
--- the kind of what a program has allocated at its end
-abbrev pub kept_kind : Kept → ℕ
-kept_kind (kept.Handle handle pages saved) = 19
-kept_kind (kept.Window window) = 20
-kept_kind (kept.Block handle kib locked) = 21
-kept_kind (kept.Upper at) = 22
-kept_kind kept.Area = 23
-kept_kind kept.Line = 24
-
--- the kind of a finding, as a number; `dm check --json` has a word for each
+-- the kind of a finding, as a number: its place among the kinds, where what a resident program holds counts as left
+-- allocated; `dm check --json` has a word for each
 abbrev pub kind_of : Finding → ℕ
-kind_of (Overwritten at old new) = 0
-kind_of (MappedAway at) = 1
-kind_of (Destroyed at) = 2
-kind_of Whole = 3
-kind_of (FreedTwice at) = 4
-kind_of (Refused code) = 5
-kind_of (NotAllocated code) = 6
-kind_of DivisionError = 7
-kind_of (Short asked largest) = 8
-kind_of NotServed = 9
-kind_of (FreeRead block segment offset) = 10
-kind_of (FreeWritten block segment offset) = 11
-kind_of (StackFreed block) = 12
-kind_of (WindowLost window segment offset) = 13
-kind_of (RomWritten segment offset) = 14
-kind_of (NothingWritten segment offset) = 15
-kind_of (TailWritten at byte) = 16
-kind_of (OtherFreed at owner) = 17
-kind_of (NotResized asked) = 18
-kind_of (Left k) = kept_kind k
-kind_of (Held k) = kept_kind k
+kind_of (Held k) = left_kind k
+kind_of f = findings.kind_of f
 
 -- ---- what was performed, and where
 

@@ -1,6 +1,6 @@
 -- The handles of expanded memory as records, and what the windows show.
 -- Source: LIM EMS 4.0, section 2.
-use Rattle.std.specs.Prelude.{ℕ, Bool, if◌then◌else◌, is_some, List, [], ◌∷◌, slice_index_or, Option, Some, None}
+use Rattle.std.specs.Prelude.{ℕ, Bool, if◌then◌else◌, is_some, List, [], ◌∷◌, slice_index_or, Option, Some, None, option_map}
 use Rattle.dm_space.specs.Memory.{Memory}
 use Rattle.dm_ems.specs.declared.tables.Handle.{Handle}
 use Rattle.dm_ems.specs.Tables.{Tables, page_count}
@@ -13,14 +13,10 @@ use Rattle.dm_inventory.specs.Rows.{rows_in_turn}
 abbrev pub number_of : Bool → ℕ
 number_of b = if b then 1 else 0
 
--- the record of a handle in use with so many pages; none if it is not in use
-abbrev pub handle_of : ℕ → ℕ → Option Handle → Option PageHandle
-handle_of number pages None = None
-handle_of number pages (Some h) = Some (record { number = number; pages = pages; name = h.name; saved = number_of (is_some h.saved) })
-
 -- the record of the handle with this number; none if it is not in use
 abbrev pub handle_row : Tables → ℕ → Option PageHandle
-handle_row ems number = handle_of number (page_count ems number) (slice_index_or ems.handles number None)
+handle_row ems number =
+    option_map (λ (h : Handle). record { number = number; pages = page_count ems number; name = h.name; saved = number_of (is_some h.saved) }) (slice_index_or ems.handles number None)
 
 -- the records of the handles in use, in rising order
 abbrev pub handle_rows : Tables → List PageHandle

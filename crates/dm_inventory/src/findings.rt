@@ -1,6 +1,7 @@
 //! The findings of a checked run as records.
 ghost use Rattle.std.specs.Prelude.{◌≡◌, ◌++◌, map, OnOk};
-ghost use Rattle.dm_inventory.specs.Findings.{kept_kind, kind_of, call_of, act_of, place_of, origin_place, origin_step, record_of};
+ghost use Rattle.dm_findings.specs.Repeats.{left_kind};
+ghost use Rattle.dm_inventory.specs.Findings.{kind_of, call_of, act_of, place_of, origin_place, origin_step, record_of};
 
 use crate::details::{Details, details_of};
 use crate::pages::number_of;
@@ -56,7 +57,7 @@ pub struct FoundRecord {
 
 /// The kind of what a program has allocated at its end.
 fn kept_kind(kept: &Kept) -> u32
-    ensures { result ≡ kept_kind kept.now }
+    ensures { result ≡ left_kind kept.now }
 {
     match kept {
         Kept::Handle(_, _, _) => 19,

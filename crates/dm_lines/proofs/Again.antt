@@ -20,7 +20,7 @@ use Rattle.dm_words.specs.Words.{size_word}
 use Rattle.dm_words.proofs.Sizes.{sizes_are_shown}
 use Rattle.dm_lines.specs.declared.token.Token.{Token}
 use Rattle.dm_lines.specs.declared.token.Token.TheVariants as t
-use Rattle.dm_lines.specs.Tokens.{closed, with_front, then_tokens}
+use Rattle.dm_lines.specs.Tokens.{closed, joined_to, then_list}
 use Rattle.dm_lines.specs.Laws.{piece_tokens, all_tokens}
 use Rattle.dm_lines.proofs.Named.{byte_again, word_again, segment_again, nop_again, lock_again, equal_again, not_equal_again, one_again, size_tokens, size_again, mnemonic_tokens, mnemonic_again}
 
@@ -30,12 +30,12 @@ all-append : (ps qs : List Piece) (xs ys : List Token) → all_tokens ps ≡ Som
 all-append [] qs xs ys e f = let n : xs ≡ [] = cc in f ∙ rw n refl
 all-append (p ∷ ps) qs xs ys e f = by (piece_tokens p) (all_tokens ps) e (λ (zs : List Token) (g : all_tokens ps ≡ Some zs). all-append ps qs zs ys g f)
   where
-    by : (o r : Option (List Token)) → then_tokens o r ≡ Some xs → ((zs : List Token) → r ≡ Some zs → all_tokens (ps ++ qs) ≡ Some (zs ++ ys)) → then_tokens o (all_tokens (ps ++ qs)) ≡ Some (xs ++ ys)
+    by : (o r : Option (List Token)) → then_list o r ≡ Some xs → ((zs : List Token) → r ≡ Some zs → all_tokens (ps ++ qs) ≡ Some (zs ++ ys)) → then_list o (all_tokens (ps ++ qs)) ≡ Some (xs ++ ys)
     by None r e g = absurd cc
     by (Some us) None e g = absurd cc
     by (Some us) (Some zs) e g =
         let x : us ++ zs ≡ xs = cc in
-        ap (with_front us) (g zs refl) ∙ ap Some (sym (append_assoc us zs ys)) ∙ ap (λ (z : List Token). Some (z ++ ys)) x
+        ap (joined_to us) (g zs refl) ∙ ap Some (sym (append_assoc us zs ys)) ∙ ap (λ (z : List Token). Some (z ++ ys)) x
 
 name_then : (w : List ℕ) (x : Token) (ps : List Piece) (ys : List Token) → closed w ≡ Some (x ∷ []) → all_tokens ps ≡ Some ys → all_tokens (name w ∷ ps) ≡ Some (x ∷ ys)
 name_then w x ps ys e f = rw (e, f) refl
@@ -108,7 +108,7 @@ memory_again : (a : Action) (w : Width) (m : Address) → all_tokens (memory_pie
 memory_again a w m =
     all-append (size_pieces a w ++ left_bracket ∷ address_pieces m) (right_bracket ∷ []) (size_tokens (size_word a w) ++ t.Open ∷ address_tokens m.base m.displacement) (t.Close ∷ [])
     (all-append (size_pieces a w) (left_bracket ∷ address_pieces m) (size_tokens (size_word a w)) (t.Open ∷ address_tokens m.base m.displacement)
-    (ap all_tokens (sizes_are_shown a w) ∙ size_again (size_word a w)) (ap (with_front (t.Open ∷ [])) (address_again m.base m.displacement)))
+    (ap all_tokens (sizes_are_shown a w) ∙ size_again (size_word a w)) (ap (joined_to (t.Open ∷ [])) (address_again m.base m.displacement)))
     refl
 
 pub operand_again : (a : Action) (next : ℕ) (o : Operand) → all_tokens (operand_pieces a next o) ≡ Some (operand_tokens a next o)
@@ -135,20 +135,20 @@ operands_tokens a next x o = operand_tokens a next x ++ second_tokens a next o
 
 second_again : (a : Action) (next : ℕ) (o : Operand) → all_tokens (behind comma o (operand_pieces a next o)) ≡ Some (second_tokens a next o)
 second_again a next operand.Nothing = refl
-second_again a next (operand.ByteRegister r) = ap (with_front (t.Comma ∷ [])) (operand_again a next (operand.ByteRegister r))
-second_again a next (operand.WordRegister r) = ap (with_front (t.Comma ∷ [])) (operand_again a next (operand.WordRegister r))
-second_again a next (operand.SegmentRegister r) = ap (with_front (t.Comma ∷ [])) (operand_again a next (operand.SegmentRegister r))
-second_again a next (operand.Memory w m) = ap (with_front (t.Comma ∷ [])) (operand_again a next (operand.Memory w m))
-second_again a next (operand.ByteValue n) = ap (with_front (t.Comma ∷ [])) (operand_again a next (operand.ByteValue n))
-second_again a next (operand.WordValue n) = ap (with_front (t.Comma ∷ [])) (operand_again a next (operand.WordValue n))
-second_again a next operand.One = ap (with_front (t.Comma ∷ [])) (operand_again a next operand.One)
-second_again a next (operand.Target d) = ap (with_front (t.Comma ∷ [])) (operand_again a next (operand.Target d))
-second_again a next (operand.FarTarget n s) = ap (with_front (t.Comma ∷ [])) (operand_again a next (operand.FarTarget n s))
+second_again a next (operand.ByteRegister r) = ap (joined_to (t.Comma ∷ [])) (operand_again a next (operand.ByteRegister r))
+second_again a next (operand.WordRegister r) = ap (joined_to (t.Comma ∷ [])) (operand_again a next (operand.WordRegister r))
+second_again a next (operand.SegmentRegister r) = ap (joined_to (t.Comma ∷ [])) (operand_again a next (operand.SegmentRegister r))
+second_again a next (operand.Memory w m) = ap (joined_to (t.Comma ∷ [])) (operand_again a next (operand.Memory w m))
+second_again a next (operand.ByteValue n) = ap (joined_to (t.Comma ∷ [])) (operand_again a next (operand.ByteValue n))
+second_again a next (operand.WordValue n) = ap (joined_to (t.Comma ∷ [])) (operand_again a next (operand.WordValue n))
+second_again a next operand.One = ap (joined_to (t.Comma ∷ [])) (operand_again a next operand.One)
+second_again a next (operand.Target d) = ap (joined_to (t.Comma ∷ [])) (operand_again a next (operand.Target d))
+second_again a next (operand.FarTarget n s) = ap (joined_to (t.Comma ∷ [])) (operand_again a next (operand.FarTarget n s))
 
 both_again : (a : Action) (next : ℕ) (x : Operand) → all_tokens (operand_pieces a next x ++ second_pieces a next) ≡ Some (operand_tokens a next x ++ second_tokens a next a.second)
 both_again a next x = all-append (operand_pieces a next x) (second_pieces a next) (operand_tokens a next x) (second_tokens a next a.second) (operand_again a next x) (second_again a next a.second)
 
-no_front : (r : Option (List Token)) → with_front [] r ≡ r
+no_front : (r : Option (List Token)) → joined_to [] r ≡ r
 no_front None = refl
 no_front (Some ts) = refl
 

@@ -10,10 +10,10 @@ use Rattle.dm_lines.specs.declared.token.Token.{Token}
 use Rattle.dm_lines.specs.declared.token.Token.TheVariants as t
 use Rattle.dm_lines.specs.declared.term.Amount.TheVariants.{Plus}
 use Rattle.dm_lines.specs.Words.{reserved}
-use Rattle.dm_lines.specs.Tokens.{closed, word_token, tokens_of}
+use Rattle.dm_lines.specs.Tokens.{closed, word_token, tokens_of, joined_to}
 use Rattle.dm_lines.specs.Operands.{parts}
 use Rattle.dm_lines.specs.Statements as line
-use Rattle.dm_lines.specs.Statements.{statement_of, line_of, joined_to}
+use Rattle.dm_lines.specs.Statements.{statement_of, line_of}
 use Rattle.dm_lines.specs.Laws.{all_tokens, AllFit, data_text, data_statement, DataIsRead}
 use Rattle.dm_lines.proofs.Printed.{pieces_are_read}
 

@@ -1,5 +1,5 @@
 -- The numbers in a statement fit their types.
-use Rattle.std.proofs.Common.{◌≡◌, ℕ, ◌+◌, ◌-◌, ◌*◌, ◌<◌, ◌^◌, Bool, true, false, not, List, [], ◌∷◌, ◌++◌, Option, Some, None, option_map, leb, refl, subst, arith}
+use Rattle.std.proofs.Common.{◌≡◌, ℕ, ◌+◌, ◌-◌, ◌*◌, ◌<◌, ◌^◌, Bool, true, false, not, List, [], ◌∷◌, ◌++◌, Option, Some, None, option_map, leb, refl, sym, subst, arith}
 use Rattle.std.specs.Prelude.{◌==◌, if◌then◌else◌, nat_le, nat_lt, length, take, is_some}
 use Rattle.std.specs.List.{AllByRecursion}
 use Rattle.std.proofs.lemmas.Bool.Decides.{nat_tests}
@@ -25,11 +25,13 @@ use Rattle.dm_lines.specs.declared.term.Value.{Value}
 use Rattle.dm_lines.specs.declared.term.Term.{Term}
 use Rattle.dm_lines.specs.declared.term.Term.TheVariants as term
 use Rattle.dm_lines.specs.declared.statement.Instruction.{Instruction}
-use Rattle.dm_lines.specs.Words.{all_words, spelling_of, meaning_of, keyword_token, reserved}
-use Rattle.dm_lines.specs.Tokens.{uppercase, is_word_byte, digit_of, magnitude_of, number_of, padded_of, or_name, word_token, closed, with_front, then_tokens, marked, inside_quotes, lexed, tokens_of}
-use Rattle.dm_lines.specs.Operands.{minus, amount_of, added_of, plain, parsed_value, amount_word, base_at, based, onto, is_close, inside, memory_of, far_pointer, from_number, term_of, begin, is_comma, parts, term_pair, terms_of}
+use Rattle.dm_lines.specs.Words.{reserved}
+use Rattle.dm_lines.specs.inner.Words.{all_words, spelling_of, meaning_of, keyword_token}
+use Rattle.dm_lines.proofs.Rows.{reserved_is}
+use Rattle.dm_lines.specs.Tokens.{uppercase, is_word_byte, digit_of, magnitude_of, number_of, padded_of, or_name, word_token, closed, joined_to, then_list, marked, inside_quotes, lexed, tokens_of}
+use Rattle.dm_lines.specs.Operands.{minus, amount_of, added_of, parsed_value, amount_word, base_at, based, onto, is_close, inside, memory_of, far_pointer, from_number, term_of, begin, is_comma, parts, term_pair, terms_of}
 use Rattle.dm_lines.specs.Statements as line
-use Rattle.dm_lines.specs.Statements.{Item, Statement, instruction, joined_to, then_list, list_of_one, letters, bytes_item, word_items, mnemonic_at, prefixed, exchanges, is_memory, with_terms, operated, after_prefixes, instruction_of, item_of, labelled, statement_of, line_of}
+use Rattle.dm_lines.specs.Statements.{Item, Statement, instruction, list_of_one, letters, bytes_item, word_items, mnemonic_at, prefixed, exchanges, is_memory, with_terms, operated, after_prefixes, instruction_of, item_of, statement_of, line_of}
 use Rattle.dm_lines.specs.Laws.{AmountFits, TermFits, ItemFits, NumbersFit}
 
 -- a fact of what is there
@@ -40,6 +42,10 @@ Holds P (Some x) = P x
 then_holds : {A B : Type 0} (P : A → Type 0) (Q : B → Type 0) (o : Option A) (f : A → Option B) → Holds P o → ((x : A) → P x → Holds Q (f x)) → Holds Q (o >>= f)
 then_holds P Q None f h g = tt
 then_holds P Q (Some x) f h g = g x h
+
+map_holds : {A B : Type 0} (P : A → Type 0) (Q : B → Type 0) (o : Option A) (f : A → B) → Holds P o → ((x : A) → P x → Q (f x)) → Holds Q (option_map f o)
+map_holds P Q None f h g = tt
+map_holds P Q (Some x) f h g = g x h
 
 either_holds : {A : Type 0} (P : A → Type 0) (c : Bool) (x y : Option A) → Holds P x → Holds P y → Holds P (if c then x else y)
 either_holds P true x y h k = h
@@ -86,8 +92,7 @@ meaning_fits (reserved_word.Alias a) = tt
 meaning_fits (reserved_word.Keyword k) = keyword_fits k
 
 reserved_fits : (w : List ℕ) → Holds TokenFits (reserved w)
-unfolding reserved
-reserved_fits w = by (named spelling_of all_words w)
+reserved_fits w = subst (Holds TokenFits) (sym (reserved_is w)) (by (named spelling_of all_words w))
   where
     by : (o : Option Reserved) → Holds TokenFits (option_map meaning_of o)
     by None = tt
@@ -103,17 +108,17 @@ word_fits w = either_holds TokenFits _ _ _ (then_holds (λ n. n < 2 ^ 16) TokenF
 
 closed_fits : (w : List ℕ) → Holds TokensFit (closed w)
 closed_fits [] = tt
-closed_fits (b ∷ w) = then_holds TokenFits TokensFit (word_token (b ∷ w)) (λ x. Some (x ∷ [])) (word_fits (b ∷ w)) (λ x h. (h, tt))
+closed_fits (b ∷ w) = map_holds TokenFits TokensFit (word_token (b ∷ w)) (λ x. x ∷ []) (word_fits (b ∷ w)) (λ x h. (h, tt))
 
 append_fits : (xs ys : List Token) → TokensFit xs → TokensFit ys → TokensFit (xs ++ ys)
 append_fits [] ys h k = k
 append_fits (x ∷ xs) ys h k = (h.0, append_fits xs ys h.1 k)
 
-front_fits : (xs : List Token) (r : Option (List Token)) → TokensFit xs → Holds TokensFit r → Holds TokensFit (with_front xs r)
+front_fits : (xs : List Token) (r : Option (List Token)) → TokensFit xs → Holds TokensFit r → Holds TokensFit (joined_to xs r)
 front_fits xs None h k = tt
 front_fits xs (Some ys) h k = append_fits xs ys h k
 
-tokens_then : (o r : Option (List Token)) → Holds TokensFit o → Holds TokensFit r → Holds TokensFit (then_tokens o r)
+tokens_then : (o r : Option (List Token)) → Holds TokensFit o → Holds TokensFit r → Holds TokensFit (then_list o r)
 tokens_then None r h k = tt
 tokens_then (Some xs) r h k = front_fits xs r h k
 
@@ -141,7 +146,7 @@ lexed_fits false w [] h = closed_fits w
 lexed_fits false w (b ∷ bs) h =
     either_holds TokensFit (is_word_byte b) _ _ (lexed_fits false (w ++ uppercase b ∷ []) bs h.1)
     (either_holds TokensFit (b == 59) _ _ (closed_fits w)
-    (tokens_then (closed w) (then_tokens (marked b) (lexed (b == 39) [] bs)) (closed_fits w) (tokens_then (marked b) (lexed (b == 39) [] bs) (marked_fits b) (lexed_fits (b == 39) [] bs h.1))))
+    (tokens_then (closed w) (then_list (marked b) (lexed (b == 39) [] bs)) (closed_fits w) (tokens_then (marked b) (lexed (b == 39) [] bs) (marked_fits b) (lexed_fits (b == 39) [] bs h.1))))
 
 -- ---- operands
 
@@ -162,13 +167,9 @@ added_fits _ h = tt
 abbrev ValueFits : Value → Type 0
 ValueFits v = AmountFits v.amount
 
-plain_fits : (o : Option Amount) → Holds AmountFits o → Holds ValueFits (plain o)
-plain_fits None h = tt
-plain_fits (Some n) h = h
-
 value_fits : (ts : List Token) → TokensFit ts → Holds ValueFits (parsed_value ts)
-value_fits (t.Name l ∷ ts) h = then_holds AmountFits ValueFits (added_of ts) (λ n. Some (record { label = Some l; amount = n })) (added_fits ts h.1) (λ n k. k)
-value_fits ts h = plain_fits (amount_of ts) (amount_fits ts h)
+value_fits (t.Name l ∷ ts) h = map_holds AmountFits ValueFits (added_of ts) (λ n. record { label = Some l; amount = n }) (added_fits ts h.1) (λ n k. k)
+value_fits ts h = map_holds AmountFits ValueFits (amount_of ts) (λ n. record { label = None; amount = n }) (amount_fits ts h) (λ n k. k)
 
 abbrev RestFits : {A : Type 0} → A × List Token → Type 0
 RestFits x = TokensFit x.1
@@ -186,8 +187,8 @@ base_fits (t.Word Bx ∷ ts) h = h.1
 base_fits _ h = tt
 
 based_fits : (s : Size) (o : Option (Base × List Token)) (ts : List Token) → Holds RestFits o → TokensFit ts → Holds TermFits (based s o ts)
-based_fits s None ts h k = then_holds ValueFits TermFits (parsed_value ts) (λ v. Some (term.Address s v)) (value_fits ts k) (λ v m. m)
-based_fits s (Some b) ts h k = then_holds AmountFits TermFits (added_of b.1) _ (added_fits b.1 h) (λ n m. m)
+based_fits s None ts h k = map_holds ValueFits TermFits (parsed_value ts) (term.Address s) (value_fits ts k) (λ v m. m)
+based_fits s (Some b) ts h k = map_holds AmountFits TermFits (added_of b.1) (term.Memory s b.0) (added_fits b.1 h) (λ n m. m)
 
 onto_fits : (x : Token) (o : Option (List Token)) → TokenFits x → Holds TokensFit o → Holds TokensFit (onto x o)
 onto_fits x None h k = tt
@@ -206,12 +207,12 @@ word_of_fits (Plus n) h = h
 word_of_fits (Minus n) h = omega arith
 
 far_fits : (n : Amount) (ts : List Token) → AmountFits n → TokensFit ts → Holds TermFits (far_pointer n ts)
-far_fits n ts h k = then_holds AmountFits TermFits (amount_of ts) _ (amount_fits ts k) (λ m l. (word_of_fits n h, word_of_fits m l))
+far_fits n ts h k = map_holds AmountFits TermFits (amount_of ts) (λ m. term.Far (amount_word n) (amount_word m)) (amount_fits ts k) (λ m l. (word_of_fits n h, word_of_fits m l))
 
 number_term_fits : (ts : List Token) → TokensFit ts → Holds TermFits (from_number ts)
 number_term_fits (t.Number n ∷ t.Colon ∷ ts) h = far_fits (Plus n) ts h.0 h.1.1
 number_term_fits (t.Minus ∷ t.Number n ∷ t.Colon ∷ ts) h = then_holds AmountFits TermFits (minus n) _ (minus_fits n h.1.0) (λ m k. far_fits m ts k h.1.1.1)
-number_term_fits ts h = then_holds ValueFits TermFits (parsed_value ts) (λ v. Some (term.Number v)) (value_fits ts h) (λ v m. m)
+number_term_fits ts h = map_holds ValueFits TermFits (parsed_value ts) term.Number (value_fits ts h) (λ v m. m)
 
 term_fits : (ts : List Token) → TokensFit ts → Holds TermFits (term_of ts)
 unfolding term_of
@@ -244,7 +245,7 @@ TermsFit x = TermFits x.0 × TermFits x.1
 
 pair_fits : (ps : List (List Token)) → PartsFit ps → Holds TermsFit (term_pair ps)
 unfolding PartsFit
-pair_fits (p ∷ []) h = then_holds TermFits TermsFit (term_of p) _ (term_fits p h.0) (λ x k. (k, tt))
+pair_fits (p ∷ []) h = map_holds TermFits TermsFit (term_of p) (λ x. (x, term.Nothing)) (term_fits p h.0) (λ x k. (k, tt))
 pair_fits (p ∷ q ∷ []) h = then_holds TermFits TermsFit (term_of p) _ (term_fits p h.0) (λ x k. then_holds TermFits TermsFit (term_of q) (λ y. Some (x, y)) (term_fits q h.1.0) (λ y l. (k, l)))
 pair_fits _ h = tt
 
@@ -255,12 +256,12 @@ terms_fit (x ∷ ts) h = pair_fits (parts (x ∷ ts)) (parts_fit (x ∷ ts) h)
 -- ---- statements
 
 mnemonic_fits : (ts : List Token) → TokensFit ts → Holds RestFits (mnemonic_at ts)
-mnemonic_fits (t.Mnemonic m ∷ t.Short ∷ ts) h = then_holds (λ j. Unit {0}) RestFits (line.short_of m) (λ j. Some (j, ts)) (any (line.short_of m)) (λ j k. h.1.1)
+mnemonic_fits (t.Mnemonic m ∷ t.Short ∷ ts) h = map_holds (λ j. Unit {0}) RestFits (line.short_of m) (λ j. (j, ts)) (any (line.short_of m)) (λ j k. h.1.1)
   where
     any : (o : Option Mnemonic) → Holds (λ j. Unit {0}) o
     any None = tt
     any (Some j) = tt
-mnemonic_fits (t.Mnemonic m ∷ t.Far ∷ ts) h = then_holds (λ j. Unit {0}) RestFits (line.far_mnemonic m) (λ j. Some (j, ts)) (any (line.far_mnemonic m)) (λ j k. h.1.1)
+mnemonic_fits (t.Mnemonic m ∷ t.Far ∷ ts) h = map_holds (λ j. Unit {0}) RestFits (line.far_mnemonic m) (λ j. (j, ts)) (any (line.far_mnemonic m)) (λ j k. h.1.1)
   where
     any : (o : Option Mnemonic) → Holds (λ j. Unit {0}) o
     any None = tt
@@ -338,20 +339,16 @@ words_fit (p ∷ ps) h = then_list_fits ValueFits (list_of_one (parsed_value p))
 item_fits : (ts : List Token) → TokensFit ts → Holds ItemFits (item_of ts)
 unfolding ListFits
 item_fits [] h = tt
-item_fits (t.DataBytes ∷ ts) h = then_holds (ListFits AmountFits) ItemFits (line.byte_items (parts ts)) (λ bs. Some (line.bytes bs)) (bytes_fit (parts ts) (parts_fit ts h.1)) (λ bs k. k)
-item_fits (t.DataWords ∷ ts) h = then_holds (ListFits ValueFits) ItemFits (word_items (parts ts)) (λ ws. Some (line.words ws)) (words_fit (parts ts) (parts_fit ts h.1)) (λ ws k. k)
-item_fits ts h = then_holds InstructionFits ItemFits (instruction_of ts) (λ i. Some (instruction i)) (instruction_fits ts h) (λ i k. k)
+item_fits (t.DataBytes ∷ ts) h = map_holds (ListFits AmountFits) ItemFits (line.byte_items (parts ts)) line.bytes (bytes_fit (parts ts) (parts_fit ts h.1)) (λ bs k. k)
+item_fits (t.DataWords ∷ ts) h = map_holds (ListFits ValueFits) ItemFits (word_items (parts ts)) line.words (words_fit (parts ts) (parts_fit ts h.1)) (λ ws k. k)
+item_fits ts h = map_holds InstructionFits ItemFits (instruction_of ts) instruction (instruction_fits ts h) (λ i k. k)
 
 abbrev StatementFits : Statement → Type 0
 StatementFits s = ItemFits s.item
 
-labelled_fits : (l : Option Name'.Name) (o : Option Item) → Holds ItemFits o → Holds StatementFits (labelled l o)
-labelled_fits l None h = tt
-labelled_fits l (Some i) h = h
-
 statement_fits : (ts : List Token) → TokensFit ts → Holds StatementFits (statement_of ts)
-statement_fits (t.Name l ∷ t.Colon ∷ ts) h = labelled_fits (Some l) (item_of ts) (item_fits ts h.1.1)
-statement_fits ts h = labelled_fits None (item_of ts) (item_fits ts h)
+statement_fits (t.Name l ∷ t.Colon ∷ ts) h = map_holds ItemFits StatementFits (item_of ts) (λ i. record { label = Some l; item = i }) (item_fits ts h.1.1) (λ i k. k)
+statement_fits ts h = map_holds ItemFits StatementFits (item_of ts) (λ i. record { label = None; item = i }) (item_fits ts h) (λ i k. k)
 
 line_fits : (line : List ℕ) → AllByRecursion (λ b. b < 2 ^ 8) line → Holds StatementFits (line_of line)
 unfolding line_of tokens_of

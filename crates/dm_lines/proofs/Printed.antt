@@ -8,7 +8,7 @@ use borrow.Author.Count.{below_none, below_more}
 use Rattle.dm_text.specs.Pieces.{Piece, name, byte, word, sign, digit, byte_digits, word_digits, text_bytes, is_in_names, is_mark, parted}
 use Rattle.dm_lines.specs.declared.token.Token.{Token}
 use Rattle.dm_lines.specs.declared.token.Token.TheVariants as t
-use Rattle.dm_lines.specs.Tokens.{uppercase, is_word_byte, digit_of, magnitude_of, word_token, closed, with_front, then_tokens, marked, lexed, tokens_of}
+use Rattle.dm_lines.specs.Tokens.{uppercase, is_word_byte, digit_of, magnitude_of, word_token, closed, joined_to, then_list, marked, lexed, tokens_of}
 use Rattle.dm_lines.specs.Laws.{all_tokens, AllFit, IsComment, PiecesAreRead}
 
 both_true : (a b : Bool) → (a && b) ≡ true → (a ≡ true) × (b ≡ true)
@@ -76,7 +76,7 @@ is_sign b = either _ (b == 93) (either _ (b == 91) (either _ (b == 58) (either _
     (sign_of b 91 (record { no_word = refl; no_end = refl; no_quote = refl })))
     (sign_of b 93 (record { no_word = refl; no_end = refl; no_quote = refl }))
 
-sign_read : (v : List ℕ) (b : ℕ) (bs : List ℕ) → IsSign b → lexed false v (b ∷ bs) ≡ then_tokens (closed v) (then_tokens (marked b) (lexed false [] bs))
+sign_read : (v : List ℕ) (b : ℕ) (bs : List ℕ) → IsSign b → lexed false v (b ∷ bs) ≡ then_list (closed v) (then_list (marked b) (lexed false [] bs))
 sign_read v b bs s = rw (s.no_word, s.no_end, s.no_quote) refl
 
 -- ---- numbers
@@ -143,11 +143,11 @@ word_number n h =
 
 -- ---- all pieces
 
-none_before : (r : Option (List Token)) → with_front [] r ≡ r
+none_before : (r : Option (List Token)) → joined_to [] r ≡ r
 none_before None = refl
 none_before (Some ts) = refl
 
-nothing_behind : (r : Option (List Token)) → then_tokens r (Some []) ≡ r
+nothing_behind : (r : Option (List Token)) → then_list r (Some []) ≡ r
 nothing_behind None = refl
 nothing_behind (Some ts) = ap Some (append-nil ts)
 
@@ -158,12 +158,12 @@ comment_ends v (b ∷ bs) (inr e) = rw (e.0, comment_ends [] bs e.1) (nothing_be
 
 module _ (comment : List ℕ) (is_comment : IsComment comment) where
   Reads : List ℕ → List Piece → Type 0
-  Reads v ps = lexed false v (text_bytes ps ++ comment) ≡ then_tokens (closed v) (all_tokens ps)
+  Reads v ps = lexed false v (text_bytes ps ++ comment) ≡ then_list (closed v) (all_tokens ps)
 
-  number_read : (u : List ℕ) (n : ℕ) (ps : List Piece) → IsNumber u n → Reads (map uppercase u) ps → lexed false [] ((u ++ text_bytes ps) ++ comment) ≡ then_tokens (closed []) (with_front (t.Number n ∷ []) (all_tokens ps))
+  number_read : (u : List ℕ) (n : ℕ) (ps : List Piece) → IsNumber u n → Reads (map uppercase u) ps → lexed false [] ((u ++ text_bytes ps) ++ comment) ≡ then_list (closed []) (joined_to (t.Number n ∷ []) (all_tokens ps))
   unfolding Reads
   number_read u n ps i r =
-      ap (lexed false []) (append_assoc u (text_bytes ps) comment) ∙ run_read [] u (text_bytes ps ++ comment) i.words ∙ r ∙ ap (λ (z : Option (List Token)). then_tokens z (all_tokens ps)) i.token ∙ sym (none_before (with_front (t.Number n ∷ []) (all_tokens ps)))
+      ap (lexed false []) (append_assoc u (text_bytes ps) comment) ∙ run_read [] u (text_bytes ps ++ comment) i.words ∙ r ∙ ap (λ (z : Option (List Token)). then_list z (all_tokens ps)) i.token ∙ sym (none_before (joined_to (t.Number n ∷ []) (all_tokens ps)))
 
   reads : (v : List ℕ) (ps : List Piece) → parted (is_begun v) ps ≡ true → AllFit ps → Reads v ps
   unfolding Reads is_begun
@@ -175,7 +175,7 @@ module _ (comment : List ℕ) (is_comment : IsComment comment) where
   reads [] (name (c ∷ u) ∷ ps) h f =
       let x = both_true (list_all is_in_names (c ∷ u)) (parted true ps) h in
       let n = name_words (c ∷ u) x.0 in
-      ap (lexed false []) (append_assoc (c ∷ u) (text_bytes ps) comment) ∙ run_read [] (c ∷ u) (text_bytes ps ++ comment) n.0 ∙ ap (λ (z : List ℕ). lexed false z (text_bytes ps ++ comment)) n.1 ∙ reads (c ∷ u) ps x.1 f.1 ∙ sym (none_before (then_tokens (closed (c ∷ u)) (all_tokens ps)))
+      ap (lexed false []) (append_assoc (c ∷ u) (text_bytes ps) comment) ∙ run_read [] (c ∷ u) (text_bytes ps ++ comment) n.0 ∙ ap (λ (z : List ℕ). lexed false z (text_bytes ps ++ comment)) n.1 ∙ reads (c ∷ u) ps x.1 f.1 ∙ sym (none_before (then_list (closed (c ∷ u)) (all_tokens ps)))
   reads [] (byte n ∷ ps) h f =
       let i = byte_number n f.0 in
       number_read (byte_digits n) n ps i (reads (map uppercase (byte_digits n)) ps (subst (λ (z : Bool). parted z ps ≡ true) (sym i.begun) h) f.1)
@@ -184,10 +184,10 @@ module _ (comment : List ℕ) (is_comment : IsComment comment) where
       number_read (word_digits n) n ps i (reads (map uppercase (word_digits n)) ps (subst (λ (z : Bool). parted z ps ≡ true) (sym i.begun) h) f.1)
   reads [] (sign b ∷ ps) h f =
       let x = both_true (is_mark b) (parted false ps) h in
-      sign_read [] b (text_bytes ps ++ comment) (is_sign b x.0) ∙ ap (λ (z : Option (List Token)). then_tokens (Some []) (then_tokens (marked b) z)) (reads [] ps x.1 f.1 ∙ none_before (all_tokens ps))
+      sign_read [] b (text_bytes ps ++ comment) (is_sign b x.0) ∙ ap (λ (z : Option (List Token)). then_list (Some []) (then_list (marked b) z)) (reads [] ps x.1 f.1 ∙ none_before (all_tokens ps))
   reads (c ∷ v) (sign b ∷ ps) h f =
       let x = both_true (is_mark b) (parted false ps) h in
-      sign_read (c ∷ v) b (text_bytes ps ++ comment) (is_sign b x.0) ∙ ap (λ (z : Option (List Token)). then_tokens (closed (c ∷ v)) (then_tokens (marked b) z)) (reads [] ps x.1 f.1 ∙ none_before (all_tokens ps))
+      sign_read (c ∷ v) b (text_bytes ps ++ comment) (is_sign b x.0) ∙ ap (λ (z : Option (List Token)). then_list (closed (c ∷ v)) (then_list (marked b) z)) (reads [] ps x.1 f.1 ∙ none_before (all_tokens ps))
 
 pub pieces_are_read : PiecesAreRead
 unfolding tokens_of Reads is_begun

@@ -7,8 +7,7 @@ use Rattle.std.proofs.lemmas.Bool.{eqb-true}
 use Rattle.std.proofs.lemmas.Slice.Eq.{bytes_eq-Decides}
 use Rattle.dm_text.specs.Names.{named, name_of}
 use Rattle.dm_lines.specs.declared.words.Reserved.{Reserved}
-use Rattle.dm_lines.specs.Words.{all_words, those, onto, spelling_of}
-use Rattle.dm_lines.specs.inner.Words.{begins}
+use Rattle.dm_lines.specs.inner.Words.{all_words, those, onto, spelling_of, begins}
 
 none_chosen : {A : Type 0} (p : A → Bool) (name_in : A → List ℕ) (x : A) (xs ys : List A) (w : List ℕ) (s t : Bool) → p x ≡ s → bytes_eq (name_in x) w ≡ t → (t ≡ true → s ≡ true) → named name_in ys w ≡ named name_in xs w → named name_in (onto (p x) x ys) w ≡ named name_in (x ∷ xs) w
 none_chosen p name_in x xs ys w true true e f h r = rw (e, f) refl

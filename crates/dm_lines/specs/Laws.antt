@@ -21,7 +21,7 @@ use Rattle.dm_lines.specs.Own.{own_term, own_statement}
 use Rattle.dm_text.specs.Pieces.{Piece, name, byte, word, sign, byte_digits, text_bytes, parted}
 use Rattle.dm_lines.specs.declared.token.Token.{Token}
 use Rattle.dm_lines.specs.declared.token.Token.TheVariants as t
-use Rattle.dm_lines.specs.Tokens.{closed, then_tokens, marked, tokens_of}
+use Rattle.dm_lines.specs.Tokens.{closed, then_list, marked, tokens_of}
 
 -- ---- pieces of text
 
@@ -36,7 +36,7 @@ piece_tokens (sign b) = marked b
 -- the tokens of the pieces, one after the other; None if a piece has no tokens
 abbrev pub all_tokens : List Piece → Option (List Token)
 all_tokens [] = Some []
-all_tokens (p ∷ ps) = then_tokens (piece_tokens p) (all_tokens ps)
+all_tokens (p ∷ ps) = then_list (piece_tokens p) (all_tokens ps)
 
 -- the number of a piece fits its size: a byte's is below 256, a word's below 65,536
 abbrev pub PieceFits : Piece → Type 0

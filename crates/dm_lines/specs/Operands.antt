@@ -1,7 +1,7 @@
 -- The operands of an instruction, by their tokens. None says that the tokens are no operand.
 -- Source: Intel 8086 Family User's Manual, section 2.8 (addressing modes) and section 2.9 (how ASM-86 writes them);
 -- that parts of an address stand in one order, and which signs are left out, is this machine's own.
-use Rattle.std.specs.Prelude.{ℕ, ◌-◌, ◌%◌, Bool, true, false, List, [], ◌∷◌, Option, Some, None, nat_le, if◌then◌else◌}
+use Rattle.std.specs.Prelude.{ℕ, ◌-◌, ◌%◌, Bool, true, false, List, [], ◌∷◌, Option, Some, None, nat_le, if◌then◌else◌, option_map}
 use Rattle.dm_ins.specs.declared.operand.WordRegister.TheVariants.{Bx, Bp, Si, Di}
 use Rattle.dm_ins.specs.declared.operand.Base.{Base}
 use Rattle.dm_ins.specs.declared.operand.Base.TheVariants.{BxSi, BxDi, BpSi, BpDi, OnSi, OnDi, OnBp, OnBx}
@@ -36,17 +36,10 @@ added_of (t.Plus ∷ ts) = amount_of ts
 added_of (t.Minus ∷ t.Number n ∷ []) = minus n
 added_of _ = None
 
--- a number as a value without a label
-abbrev pub plain : Option Amount → Option Value
-plain None = None
-plain (Some n) = Some (record { label = None; amount = n })
-
 -- the value that the tokens are: a number, or a label and a number that is added to it
 abbrev pub parsed_value : List Token → Option Value
-parsed_value (t.Name l ∷ ts) = do
-  n ← added_of ts
-  Some (record { label = Some l; amount = n })
-parsed_value ts = plain (amount_of ts)
+parsed_value (t.Name l ∷ ts) = option_map (λ n. record { label = Some l; amount = n }) (added_of ts)
+parsed_value ts = option_map (λ n. record { label = None; amount = n }) (amount_of ts)
 
 -- the word of a number, modulo 10000h
 abbrev pub amount_word : Amount → ℕ
@@ -70,12 +63,8 @@ base_at _ = None
 -- the memory operand with these registers, if there are any, and the number added to them; else with a number or
 -- label
 abbrev pub based : Size → Option (Base × List Token) → List Token → Option Term
-based s (Some b) ts = do
-  n ← added_of b.1
-  Some (term.Memory s b.0 n)
-based s None ts = do
-  v ← parsed_value ts
-  Some (term.Address s v)
+based s (Some b) ts = option_map (term.Memory s b.0) (added_of b.1)
+based s None ts = option_map (term.Address s) (parsed_value ts)
 
 -- the memory operand with these tokens between its brackets and this size word before them
 abbrev pub memory_operand : Size → List Token → Option Term
@@ -107,9 +96,7 @@ memory_of s ts = do
 
 -- the far pointer of this segment, with its offset in these tokens
 abbrev pub far_pointer : Amount → List Token → Option Term
-far_pointer segment ts = do
-  offset ← amount_of ts
-  Some (term.Far (amount_word segment) (amount_word offset))
+far_pointer segment ts = option_map (λ offset. term.Far (amount_word segment) (amount_word offset)) (amount_of ts)
 
 -- the operand that starts with a number or a label: a far pointer, a number and a number with a colon between them,
 -- or a value
@@ -118,9 +105,7 @@ from_number (t.Number n ∷ t.Colon ∷ ts) = far_pointer (Plus n) ts
 from_number (t.Minus ∷ t.Number n ∷ t.Colon ∷ ts) = do
   segment ← minus n
   far_pointer segment ts
-from_number ts = do
-  v ← parsed_value ts
-  Some (term.Number v)
+from_number ts = option_map term.Number (parsed_value ts)
 
 -- the operand that the tokens are: a register, memory, a far pointer, a number or a label
 unfoldable pub term_of : List Token → Option Term
@@ -150,9 +135,7 @@ parts (t ∷ ts) = if is_comma t then [] ∷ parts ts else begin t (parts ts)
 
 -- the operands of one or two parts; the second is `Nothing` for one part
 abbrev pub term_pair : List (List Token) → Option (Term × Term)
-term_pair (p ∷ []) = do
-  x ← term_of p
-  Some (x, term.Nothing)
+term_pair (p ∷ []) = option_map (λ x. (x, term.Nothing)) (term_of p)
 term_pair (p ∷ q ∷ []) = do
   x ← term_of p
   y ← term_of q

@@ -1,7 +1,7 @@
 -- The statement of a line: a label, and an instruction or data. None says that the tokens, or the line, are none.
 -- Source: Intel 8086 Family User's Manual, section 2.9 (statements of ASM-86); which of its forms there are is this
 -- machine's own (docs/DECISIONS.md).
-use Rattle.std.specs.Prelude.{ℕ, Bool, true, false, List, [], ◌∷◌, ◌++◌, length, Option, Some, None, is_some, nat_lt, if◌then◌else◌}
+use Rattle.std.specs.Prelude.{ℕ, Bool, true, false, List, [], ◌∷◌, ◌++◌, length, Option, Some, None, is_some, nat_lt, if◌then◌else◌, option_map}
 use Rattle.dm_ins.specs.declared.operand.WordRegister.TheVariants.{Ax}
 use Rattle.dm_ins.specs.declared.action.Mnemonic.{Mnemonic}
 use Rattle.dm_ins.specs.declared.action.Mnemonic.TheVariants as op
@@ -21,7 +21,7 @@ use Rattle.dm_lines.specs.declared.statement.Items.{Items}
 use Rattle.dm_lines.specs.declared.statement.Item as Item'
 use Rattle.dm_lines.specs.declared.statement.Item.TheVariants as code
 use Rattle.dm_lines.specs.declared.statement.Statement as Statement'
-use Rattle.dm_lines.specs.Tokens.{tokens_of}
+use Rattle.dm_lines.specs.Tokens.{tokens_of, joined_to, then_list}
 use Rattle.dm_lines.specs.Operands.{amount_of, parsed_value, parts, terms_of}
 
 -- what stands on a line after its label: nothing, an instruction, the bytes of a DB, or the words of a DW
@@ -48,16 +48,6 @@ abbrev pub seen_statement : Items → Statement'.Statement → Statement
 seen_statement d s = record { label = s.label; item = seen_item d s.item }
 
 -- ---- data
-
--- the bytes of a DB or the words of a DW, xs, in front of the list of those behind them; None without a list
-abbrev pub joined_to : {A : Type 0} → List A → Option (List A) → Option (List A)
-joined_to xs None = None
-joined_to xs (Some ys) = Some (xs ++ ys)
-
--- two lists, of bytes of a DB or of words of a DW, joined; None if one is missing
-abbrev pub then_list : {A : Type 0} → Option (List A) → Option (List A) → Option (List A)
-then_list None r = None
-then_list (Some xs) r = joined_to xs r
 
 -- the list of this element, the number of a DB or the value of a DW; None without it
 abbrev pub list_of_one : {A : Type 0} → Option A → Option (List A)
@@ -100,12 +90,8 @@ far_mnemonic _ = None
 
 -- the mnemonic of one or two words at the front, and the tokens after it
 abbrev pub mnemonic_at : List Token → Option (Mnemonic × List Token)
-mnemonic_at (t.Mnemonic m ∷ t.Short ∷ ts) = do
-  j ← short_of m
-  Some (j, ts)
-mnemonic_at (t.Mnemonic m ∷ t.Far ∷ ts) = do
-  j ← far_mnemonic m
-  Some (j, ts)
+mnemonic_at (t.Mnemonic m ∷ t.Short ∷ ts) = option_map (λ j. (j, ts)) (short_of m)
+mnemonic_at (t.Mnemonic m ∷ t.Far ∷ ts) = option_map (λ j. (j, ts)) (far_mnemonic m)
 mnemonic_at (t.Mnemonic m ∷ ts) = Some (m, ts)
 mnemonic_at _ = None
 
@@ -159,25 +145,14 @@ instruction_of ts = do
 -- what the tokens after a label are: nothing, the data of DB or DW, or an instruction
 abbrev pub item_of : List Token → Option Item
 item_of [] = Some nothing
-item_of (t.DataBytes ∷ ts) = do
-  bs ← byte_items (parts ts)
-  Some (bytes bs)
-item_of (t.DataWords ∷ ts) = do
-  ws ← word_items (parts ts)
-  Some (words ws)
-item_of ts = do
-  i ← instruction_of ts
-  Some (instruction i)
-
--- the statement of this label, if there is one, and this item
-abbrev pub labelled : Option Name'.Name → Option Item → Option Statement
-labelled l None = None
-labelled l (Some i) = Some (record { label = l; item = i })
+item_of (t.DataBytes ∷ ts) = option_map bytes (byte_items (parts ts))
+item_of (t.DataWords ∷ ts) = option_map words (word_items (parts ts))
+item_of ts = option_map instruction (instruction_of ts)
 
 -- the statement that the tokens of a line are
 abbrev pub statement_of : List Token → Option Statement
-statement_of (t.Name l ∷ t.Colon ∷ ts) = labelled (Some l) (item_of ts)
-statement_of ts = labelled None (item_of ts)
+statement_of (t.Name l ∷ t.Colon ∷ ts) = option_map (λ i. record { label = Some l; item = i }) (item_of ts)
+statement_of ts = option_map (λ i. record { label = None; item = i }) (item_of ts)
 
 -- the statement that a line of at most 255 bytes stands for; None for a longer one, too
 unfoldable pub line_of : List ℕ → Option Statement

@@ -1,7 +1,7 @@
 -- The tokens of a line: words, numbers, signs and quoted text. None says that the bytes are no tokens.
 -- Source: Intel 8086 Family User's Manual, section 2.9 (statements, names and constants of ASM-86); the bounds of
 -- names and numbers are this machine's own.
-use Rattle.std.specs.Prelude.{ℕ, ◌+◌, ◌-◌, ◌*◌, Bool, true, false, not, ◌&&◌, ◌||◌, ◌==◌, List, [], ◌∷◌, ◌++◌, length, Option, Some, None, nat_le, if◌then◌else◌, replicate, take, drop, slice_index}
+use Rattle.std.specs.Prelude.{ℕ, ◌+◌, ◌-◌, ◌*◌, Bool, true, false, not, ◌&&◌, ◌||◌, ◌==◌, List, [], ◌∷◌, ◌++◌, length, Option, Some, None, nat_le, if◌then◌else◌, replicate, take, drop, slice_index, option_map}
 use Rattle.dm_ins.specs.Walks.{◌>>=◌}
 use Rattle.dm_lines.specs.Words.{reserved}
 use Rattle.dm_lines.specs.declared.token.Name as Name'
@@ -60,19 +60,17 @@ word_token w =
 -- the token of the word w, which has ended, as a list; no token for an empty w, and None if w is no word
 abbrev pub closed : List ℕ → Option (List Token)
 closed [] = Some []
-closed (b ∷ w) = do
-  t ← word_token (b ∷ w)
-  Some (t ∷ [])
+closed (b ∷ w) = option_map (λ t. t ∷ []) (word_token (b ∷ w))
 
--- the tokens xs in front of those of the bytes behind them on the line; None without those
-abbrev pub with_front : List Token → Option (List Token) → Option (List Token)
-with_front xs None = None
-with_front xs (Some ys) = Some (xs ++ ys)
+-- the elements xs, as tokens of a line or values of a DB or DW, in front of those behind them; None without those
+abbrev pub joined_to : {A : Type 0} → List A → Option (List A) → Option (List A)
+joined_to xs None = None
+joined_to xs (Some ys) = Some (xs ++ ys)
 
--- two runs of tokens of a line joined; None if one is missing
-abbrev pub then_tokens : Option (List Token) → Option (List Token) → Option (List Token)
-then_tokens None r = None
-then_tokens (Some xs) r = with_front xs r
+-- two lists joined; None if one is missing
+abbrev pub then_list : {A : Type 0} → Option (List A) → Option (List A) → Option (List A)
+then_list None r = None
+then_list (Some xs) r = joined_to xs r
 
 -- the token of a byte between words: none for a tab or a space, else that of a sign; None for another byte
 abbrev pub marked : ℕ → Option (List Token)
@@ -95,12 +93,12 @@ inside_quotes b = if b == 39 then Quote else Letter b
 -- text has to end, and a semicolon outside ends the line
 abbrev pub lexed : Bool → List ℕ → List ℕ → Option (List Token)
 lexed true w [] = None
-lexed true w (b ∷ bs) = with_front (inside_quotes b ∷ []) (lexed (not (b == 39)) w bs)
+lexed true w (b ∷ bs) = joined_to (inside_quotes b ∷ []) (lexed (not (b == 39)) w bs)
 lexed false w [] = closed w
 lexed false w (b ∷ bs) =
     if is_word_byte b then lexed false (w ++ uppercase b ∷ []) bs
     else if b == 59 then closed w
-    else then_tokens (closed w) (then_tokens (marked b) (lexed (b == 39) [] bs))
+    else then_list (closed w) (then_list (marked b) (lexed (b == 39) [] bs))
 
 -- the tokens of a line up to its comment; None if a byte or a word is no token, or a quoted text does not end
 unfoldable pub tokens_of : List ℕ → Option (List Token)

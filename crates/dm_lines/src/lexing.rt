@@ -3,7 +3,7 @@
 
 ghost use Rattle.std.specs.Prelude.{◌≡◌, ◌<◌, ◌≤◌, ◌+◌, length, option_map, IfSome, drop, replicate, ◌++◌, []};
 ghost use Rattle.arrayvec.specs.ArrayVec.{array_vec_len};
-ghost use Rattle.dm_lines.specs.Tokens.{uppercase, is_word_byte, digit_of, magnitude_of, number_of, word_token, closed, with_front, marked, inside_quotes, lexed, tokens_of};
+ghost use Rattle.dm_lines.specs.Tokens.{uppercase, is_word_byte, digit_of, magnitude_of, number_of, word_token, closed, joined_to, marked, inside_quotes, lexed, tokens_of};
 
 use crate::token::{Name, Token};
 use crate::words::reserved_token;
@@ -115,7 +115,7 @@ fn token_of(word: &[u8]) -> Option<Token>
 /// has no token; then it and `tokens` stay.
 fn close(tokens: &mut Tokens, word: &mut Letters) -> Option<()>
     requires { array_vec_len tokens.old + array_vec_len word.old ≤ 255 }
-    ensures items { option_map (λ _. tokens.new.items) result ≡ with_front tokens.old.items (closed word.old.items) }
+    ensures items { option_map (λ _. tokens.new.items) result ≡ joined_to tokens.old.items (closed word.old.items) }
     ensures len { IfSome result (λ _. array_vec_len tokens.new ≤ array_vec_len tokens.old + array_vec_len word.old) }
     ensures word { IfSome result (λ _. word.new.items ≡ []) }
 {
@@ -130,7 +130,7 @@ fn close(tokens: &mut Tokens, word: &mut Letters) -> Option<()>
 /// sign; then `tokens` stays.
 fn mark(tokens: &mut Tokens, byte: u8) -> Option<()>
     requires { array_vec_len tokens.old < 255 }
-    ensures items { option_map (λ _. tokens.new.items) result ≡ with_front tokens.old.items (marked byte) }
+    ensures items { option_map (λ _. tokens.new.items) result ≡ joined_to tokens.old.items (marked byte) }
     ensures len { IfSome result (λ _. array_vec_len tokens.new ≤ array_vec_len tokens.old + 1) }
 {
     match byte {

@@ -4,7 +4,8 @@
 ghost use Rattle.std.specs.Prelude.{◌≡◌, ◌<◌, ◌≤◌, ◌+◌, length, option_map, IfSome};
 ghost use Rattle.arrayvec.specs.ArrayVec.{array_vec_len};
 ghost use Rattle.dm_lines.specs.Operands.{amount_of, parts};
-ghost use Rattle.dm_lines.specs.Statements.{joined_to, letters, list_of_one, bytes_item, byte_items, word_items};
+ghost use Rattle.dm_lines.specs.Tokens.{joined_to};
+ghost use Rattle.dm_lines.specs.Statements.{letters, list_of_one, bytes_item, byte_items, word_items};
 
 use crate::operands::{amount, front, value};
 use crate::statement::{Bytes, Words};

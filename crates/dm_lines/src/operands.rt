@@ -1,8 +1,8 @@
 //! From tokens to operands (Intel 8086 Family User's Manual, section 2.8, addressing modes, as ASM-86 writes them in
 //! section 2.9). None says that the tokens are no operand, number or value.
 
-ghost use Rattle.std.specs.Prelude.{◌≡◌, ◌<◌, ◌≤◌, ◌+◌, ◌∷◌, length, IfSome};
-ghost use Rattle.dm_lines.specs.Operands.{is_close, is_comma, minus, amount_of, added_of, parsed_value, plain, amount_word, inside, base_at, based, memory_operand, memory_of, far_pointer, from_number, term_of, parts, term_pair, terms_of};
+ghost use Rattle.std.specs.Prelude.{◌≡◌, ◌<◌, ◌≤◌, ◌+◌, ◌∷◌, length, IfSome, None, option_map};
+ghost use Rattle.dm_lines.specs.Operands.{is_close, is_comma, minus, amount_of, added_of, parsed_value, amount_word, inside, base_at, based, memory_operand, memory_of, far_pointer, from_number, term_of, parts, term_pair, terms_of};
 ghost use Rattle.dm_lines.specs.inner.Operands.{seen, option_now, parts_behind};
 
 use crate::term::{Amount, Term, Value};
@@ -48,7 +48,7 @@ fn added(tokens: &[Token]) -> Option<Amount>
 
 /// The number that the tokens are, as a value without a label.
 fn number(tokens: &[Token]) -> Option<Value>
-    ensures value { result ≡ plain (amount_of tokens.now) }
+    ensures value { result ≡ option_map (λ n. record { label = None; amount = n }) (amount_of tokens.now) }
     ensures some { IfSome result (λ _. 0 < length tokens.now) }
 {
     let amount = amount(tokens)?;

@@ -4,7 +4,8 @@
 
 ghost use Rattle.std.specs.Prelude.{◌≡◌, ◌<◌, length};
 ghost use Rattle.dm_text.specs.Names.{named};
-ghost use Rattle.dm_lines.specs.Words.{all_words, those, alias_name, keyword_name, spelling_of, alias_mnemonic, keyword_token, meaning_of, reserved};
+ghost use Rattle.dm_lines.specs.Words.{reserved};
+ghost use Rattle.dm_lines.specs.inner.Words.{all_words, those, alias_name, keyword_name, spelling_of, alias_mnemonic, keyword_token, meaning_of};
 ghost use Rattle.dm_lines.specs.inner.Words.{begins};
 
 use crate::token::Token;

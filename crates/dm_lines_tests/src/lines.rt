@@ -371,15 +371,13 @@ fn numbers_are_decimal_or_hexadecimal(rt: HostRuntime) -> Result<(), Fail> {
 }
 
 /// Definitions: dm_lines Tokens word_token number_of magnitude_of digit_of padded_of uppercase is_word_byte
-/// Definitions: dm_lines Words reserved all_words aliases keywords is_one_word spelling_of meaning_of alias_mnemonic
-/// Definitions: dm_lines Words keyword_token
+/// Definitions: dm_lines Words reserved reserved_words aliases keywords is_one_word
 #[test]
 fn labels_are_no_reserved_words(rt: HostRuntime) -> Result<(), Fail> {
     check(&rt, rt.alloc(), LABELS)
 }
 
-/// Definitions: dm_lines Words reserved all_words aliases keywords is_one_word spelling_of meaning_of alias_mnemonic
-/// Definitions: dm_lines Words keyword_token
+/// Definitions: dm_lines Words reserved reserved_words aliases keywords is_one_word
 #[test]
 fn mnemonics_have_other_names(rt: HostRuntime) -> Result<(), Fail> {
     check(&rt, rt.alloc(), ALIASES)

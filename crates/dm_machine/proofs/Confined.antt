@@ -26,7 +26,8 @@ use Rattle.dm_services.specs.Wanting.{MayWant}
 use Rattle.dm_machine.specs.Step.{MakesStep, ActsUnlessEnded, Acts, Instructs, listed, unlisted, fetched, after, instructed}
 use Rattle.dm_ins.specs.Ins.{BeginsWith}
 use Rattle.dm_machine.specs.Run.{Answers, here, further, StopsWithin, over, whole, cut}
-use Rattle.dm_services.specs.Laws.{with_change, answer_with}
+use Rattle.dm_services.specs.Laws.{with_change}
+use Rattle.dm_services.specs.inner.Laws.{answer_with}
 use Rattle.dm_machine.specs.Laws.{IsQuiet, StaysQuiet, UnseenBytesChangeNoStep, UnseenBytesChangeNoRun, UnseenBlocksChangeNoRun}
 use Rattle.dm_services.proofs.Unseen.{serves-unseen}
 

@@ -19,7 +19,8 @@ use Rattle.dm_state.specs.State.{State, Answer}
 use Rattle.dm_space.specs.declared.entry_points.EntryPoint.{EntryPoint}
 use Rattle.dm_space.specs.declared.entry_points.EntryPoint.TheVariants as entry_point
 use Rattle.dm_space.specs.EntryPoints.{entry_point_at}
-use Rattle.dm_services.specs.Laws.{with_change, answer_with}
+use Rattle.dm_services.specs.Laws.{with_change}
+use Rattle.dm_services.specs.inner.Laws.{answer_with}
 use Rattle.dm_services.proofs.Map.{serves-kept}
 use Rattle.dm_space.specs.declared.entry_points.Driver.TheVariants.{ExpandedMemory, Multiplex, ExtendedMemory}
 use Rattle.dm_drivers.specs.Drivers.{driven}

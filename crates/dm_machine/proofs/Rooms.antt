@@ -15,7 +15,7 @@ use Rattle.dm_machine.specs.Step.{MakesStep, ActsUnlessEnded, Acts, Instructs, l
 use Rattle.dm_machine.specs.Run.{Answers, Goes, here, further, IsRun, over, whole, cut}
 use Rattle.dm_machine.specs.Laws.{IsHistory, none, step_on, run_on, changed, reserved, RoomIsEnoughForRuns, RoomIsEnoughForSteps}
 use Rattle.dm_machine.proofs.OneRun.{steps-one}
-use Rattle.dm_services.specs.Laws.{limit}
+use Rattle.dm_services.specs.inner.Laws.{limit}
 use Rattle.dm_services.proofs.Rooms.{Keeps, same, by, serves-keep}
 
 after-keeps : (s : State) (n : Next) (g : Guest) → Keeps s (after s n g)

@@ -5,10 +5,6 @@ use Rattle.hex.specs.Hex.{encode_lower}
 use Rattle.dm_packets.specs.Checks.{checksum_of}
 use Rattle.dm_packets.specs.Escapes.{escaped}
 
--- a packet with this content: `$`, the content, `#`, and the checksum of the content in two hexadecimal digits
-abbrev pub frame_around : List ℕ → List ℕ
-frame_around content = 36 ∷ content ++ 35 ∷ encode_lower (checksum_of content ∷ [])
-
--- the packet that carries these bytes
+-- the packet that carries these bytes: `$`, its content, `#`, and the checksum of the content in two hexadecimal digits
 abbrev pub frame_of : List ℕ → List ℕ
-frame_of payload = frame_around (escaped payload)
+frame_of payload = let content = escaped payload in 36 ∷ content ++ 35 ∷ encode_lower (checksum_of content ∷ [])

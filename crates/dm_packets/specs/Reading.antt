@@ -2,6 +2,7 @@
 -- Source: GDB manual, "GDB Remote Serial Protocol", "Overview" and "Interrupts". The bound of 4000h bytes is this
 -- server's own.
 use Rattle.std.specs.Prelude.{ℕ, ◌==◌, if◌then◌else◌, List, [], ◌∷◌, ◌++◌, length, Option, Some, None}
+use Rattle.std.specs.Option.{option_map_or}
 use Rattle.dm_packets.specs.declared.received.Received.{Received}
 use Rattle.dm_packets.specs.declared.received.Received.TheVariants.{Packet, Damaged, TooLong, Interrupt, Again}
 use Rattle.dm_packets.specs.Checks.{checksum_of, is_checked}
@@ -20,15 +21,11 @@ abbrev pub one_more : Option (List ℕ) → ℕ → Option (List ℕ)
 one_more None b = None
 one_more (Some content) b = if length content == 0x4000 then None else Some (content ++ b ∷ [])
 
--- a packet with right check digits, by what its content carries; None if that ends in an escape
-abbrev pub packet_with : Option (List ℕ) → Received
-packet_with None = Damaged
-packet_with (Some payload) = Packet payload
-
--- a packet that is not too long, by its content and its check digits
+-- a packet that is not too long, by its content and its check digits: damaged if these are wrong, or if the content ends
+-- in an escape
 abbrev pub whole_packet : List ℕ → ℕ → ℕ → Received
 whole_packet content high low =
-    if is_checked (checksum_of content) high low then packet_with (unescaped content) else Damaged
+    if is_checked (checksum_of content) high low then option_map_or Packet (unescaped content) Damaged else Damaged
 
 -- a packet, by its content and its check digits
 abbrev pub packet_of : Option (List ℕ) → ℕ → ℕ → Received

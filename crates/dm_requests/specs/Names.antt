@@ -1,20 +1,20 @@
 -- Requests that are known by their names alone, or by a name and an action.
 -- Source: GDB manual, "GDB Remote Serial Protocol", "Packets", "General Query Packets", "vCont" and "Packet
 -- Acknowledgment".
-use Rattle.std.specs.Prelude.{ℕ, ◌==◌, ◌||◌, if◌then◌else◌, List, [], ◌∷◌, codes, Option, Some, None}
+use Rattle.std.specs.Option.{option_map_or}
+use Rattle.std.specs.Prelude.{ℕ, ◌==◌, ◌||◌, if◌then◌else◌, List, [], ◌∷◌, codes, Option}
 use Rattle.std.specs.Str.{bytes_eq}
 use Rattle.dm_requests.specs.declared.request.Request.{Request}
 use Rattle.dm_requests.specs.declared.request.Request.TheVariants as request
 use Rattle.dm_requests.specs.Arguments.{cut_at, two_numbers}
 
--- the bytes before a mark, if it was found; else all bytes
-abbrev pub front_or : List ℕ → Option (List ℕ × List ℕ) → List ℕ
-front_or bytes None = bytes
-front_or bytes (Some parts) = parts.0
+-- the request that f makes of what was read; malformed if it could not be read
+abbrev pub if_read : {A : Type 0} → Option A → (A → Request) → Request
+if_read read f = option_map_or f read request.Malformed
 
 -- the bytes before the first mark; all of them if it is not among them
 abbrev pub front_of : ℕ → List ℕ → List ℕ
-front_of mark bytes = front_or bytes (cut_at mark [] bytes)
+front_of mark bytes = option_map_or (λ parts. parts.0) (cut_at mark [] bytes) bytes
 
 -- the query with this name, without its `q`
 abbrev pub query_named : List ℕ → Request
@@ -32,14 +32,9 @@ query_named name =
 abbrev pub named_query : List ℕ → Request
 named_query bytes = query_named (front_of 58 bytes)
 
--- a range by its start and its end; malformed if they are none
-abbrev pub range_with : Option (ℕ × ℕ) → Request
-range_with None = request.Malformed
-range_with (Some numbers) = request.Range numbers.0 numbers.1
-
 -- the action `r START,END`, without its `r`
 abbrev pub range_of : List ℕ → Request
-range_of bytes = range_with (two_numbers bytes)
+range_of bytes = if_read (two_numbers bytes) (λ numbers. request.Range numbers.0 numbers.1)
 
 -- the action of `vCont` with this letter, and these bytes after it
 abbrev pub action_with : ℕ → List ℕ → Request
@@ -62,14 +57,11 @@ verb_with name bytes =
     else if bytes_eq name (codes "Kill") then request.EndProgram
     else request.Unknown
 
--- the request of a packet that begins with `v`, by what stands before and after its first semicolon; None if it has none
-abbrev pub verb_in : List ℕ → Option (List ℕ × List ℕ) → Request
-verb_in bytes None = if bytes_eq bytes (codes "Cont?") then request.ContinueKinds else request.Unknown
-verb_in bytes (Some parts) = verb_with parts.0 parts.1
-
--- the request of a packet that begins with `v`, by the bytes after it
+-- the request of a packet that begins with `v`, by the bytes after it: a name, with bytes after a semicolon if there is one
 abbrev pub named_verb : List ℕ → Request
-named_verb bytes = verb_in bytes (cut_at 59 [] bytes)
+named_verb bytes =
+    option_map_or (λ parts. verb_with parts.0 parts.1) (cut_at 59 [] bytes)
+    (if bytes_eq bytes (codes "Cont?") then request.ContinueKinds else request.Unknown)
 
 -- `bs` and `bc`, without their `b`
 abbrev pub backwards : List ℕ → Request

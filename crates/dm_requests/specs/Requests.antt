@@ -1,124 +1,69 @@
 -- The request that a packet carries.
 -- Source: GDB manual, "GDB Remote Serial Protocol", "Packets" and "General Query Packets".
-use Rattle.std.specs.Prelude.{ℕ, ◌==◌, if◌then◌else◌, List, [], ◌∷◌, length, codes, Option, Some, None}
+use Rattle.std.specs.Option.{option_map_or}
+use Rattle.std.specs.Prelude.{ℕ, ◌==◌, if◌then◌else◌, List, [], ◌∷◌, length, codes, Option}
 use Rattle.hex.specs.Hex.{decode_of}
 use Rattle.dm_command.specs.Numbers.{number_of, if_good}
 use Rattle.dm_requests.specs.declared.request.Point.{Point}
 use Rattle.dm_requests.specs.declared.request.Request.{Request}
 use Rattle.dm_requests.specs.declared.request.Request.TheVariants as request
 use Rattle.dm_requests.specs.Arguments.{cut_at, two_numbers, after_prefix, point_of}
-use Rattle.dm_requests.specs.Names.{named_query, named_verb, single}
-
--- `m`, by its address and count
-abbrev pub memory_with : Option (ℕ × ℕ) → Request
-memory_with None = request.Malformed
-memory_with (Some numbers) = request.Memory numbers.0 numbers.1
+use Rattle.dm_requests.specs.Names.{if_read, named_query, named_verb, single}
 
 -- `m ADDRESS,COUNT`, without its `m`
 abbrev pub memory_of : List ℕ → Request
-memory_of bytes = memory_with (two_numbers bytes)
+memory_of bytes = if_read (two_numbers bytes) (λ numbers. request.Memory numbers.0 numbers.1)
 
 -- `M`, by its address, its count, and its bytes; None if they are no pairs of digits
 abbrev pub set_bytes : ℕ → ℕ → Option (List ℕ) → Request
-set_bytes address count None = request.Malformed
-set_bytes address count (Some bytes) = if length bytes == count then request.SetMemory address bytes else request.Malformed
-
--- `M`, by its address and count, and the digits of its bytes
-abbrev pub set_memory_with : Option (ℕ × ℕ) → List ℕ → Request
-set_memory_with None digits = request.Malformed
-set_memory_with (Some numbers) digits = set_bytes numbers.0 numbers.1 (if_good (decode_of digits))
-
--- `M`, by what stands before and after its colon
-abbrev pub set_memory_in : Option (List ℕ × List ℕ) → Request
-set_memory_in None = request.Malformed
-set_memory_in (Some parts) = set_memory_with (two_numbers parts.0) parts.1
+set_bytes address count bytes =
+    if_read bytes (λ values. if length values == count then request.SetMemory address values else request.Malformed)
 
 -- `M ADDRESS,COUNT:BYTES`, without its `M`
 abbrev pub set_memory_of : List ℕ → Request
-set_memory_of bytes = set_memory_in (cut_at 58 [] bytes)
-
--- `p`, by its number
-abbrev pub register_with : Option ℕ → Request
-register_with None = request.Malformed
-register_with (Some number) = request.Register number
+set_memory_of bytes =
+    if_read (cut_at 58 [] bytes) (λ parts.
+    if_read (two_numbers parts.0) (λ numbers. set_bytes numbers.0 numbers.1 (if_good (decode_of parts.1))))
 
 -- `p N`, without its `p`
 abbrev pub register_of : List ℕ → Request
-register_of bytes = register_with (number_of bytes)
+register_of bytes = if_read (number_of bytes) request.Register
 
 -- `P`, by its number and its bytes; None if they were not spelled
 abbrev pub set_register_with : Option ℕ → Option (List ℕ) → Request
-set_register_with None bytes = request.Malformed
-set_register_with (Some number) None = request.Malformed
-set_register_with (Some number) (Some bytes) = request.SetRegister number bytes
-
--- `P`, by what stands before and after its equals sign
-abbrev pub set_register_in : Option (List ℕ × List ℕ) → Request
-set_register_in None = request.Malformed
-set_register_in (Some parts) = set_register_with (number_of parts.0) (if_good (decode_of parts.1))
+set_register_with number bytes = if_read number (λ n. if_read bytes (request.SetRegister n))
 
 -- `P N=BYTES`, without its `P`
 abbrev pub set_register_of : List ℕ → Request
-set_register_of bytes = set_register_in (cut_at 61 [] bytes)
-
--- `G`, by its bytes; None if they are no pairs of digits
-abbrev pub set_registers_with : Option (List ℕ) → Request
-set_registers_with None = request.Malformed
-set_registers_with (Some bytes) = request.SetRegisters bytes
+set_register_of bytes =
+    if_read (cut_at 61 [] bytes) (λ parts. set_register_with (number_of parts.0) (if_good (decode_of parts.1)))
 
 -- `G BYTES`, without its `G`
 abbrev pub set_registers_of : List ℕ → Request
-set_registers_of digits = set_registers_with (if_good (decode_of digits))
-
--- `Z`, by its breakpoint or watchpoint
-abbrev pub insertion_with : Option Point → Request
-insertion_with None = request.Malformed
-insertion_with (Some point) = request.Insert point
+set_registers_of digits = if_read (if_good (decode_of digits)) request.SetRegisters
 
 -- `Z TYPE,ADDRESS,LENGTH`, without its `Z`
 abbrev pub insertion : List ℕ → Request
-insertion bytes = insertion_with (point_of bytes)
-
--- `z`, by its breakpoint or watchpoint
-abbrev pub removal_with : Option Point → Request
-removal_with None = request.Malformed
-removal_with (Some point) = request.Remove point
+insertion bytes = if_read (point_of bytes) request.Insert
 
 -- `z TYPE,ADDRESS,LENGTH`, without its `z`
 abbrev pub removal : List ℕ → Request
-removal bytes = removal_with (point_of bytes)
-
--- a part of the description of the registers, by its offset and count
-abbrev pub feature_with : Option (ℕ × ℕ) → Request
-feature_with None = request.Malformed
-feature_with (Some numbers) = request.Features numbers.0 numbers.1
+removal bytes = if_read (point_of bytes) request.Remove
 
 -- the part of the description of the registers that `OFFSET,COUNT` asks for
 abbrev pub feature_of : List ℕ → Request
-feature_of bytes = feature_with (two_numbers bytes)
+feature_of bytes = if_read (two_numbers bytes) (λ numbers. request.Features numbers.0 numbers.1)
 
--- a command of the debugger; malformed if it is not spelled by pairs of digits
-abbrev pub command_with : Option (List ℕ) → Request
-command_with None = request.Malformed
-command_with (Some text) = request.Command text
-
--- the command that pairs of hexadecimal digits spell
+-- the command of the debugger that pairs of hexadecimal digits spell
 abbrev pub command_of : List ℕ → Request
-command_of digits = command_with (if_good (decode_of digits))
+command_of digits = if_read (if_good (decode_of digits)) request.Command
 
--- a query that is no command, by what follows the name of the description of the registers; None if that is not its name
-abbrev pub described : Option (List ℕ) → List ℕ → Request
-described None bytes = named_query bytes
-described (Some numbers) bytes = feature_of numbers
-
--- a query, by what follows the name of a command; None if that is not its name
-abbrev pub commanded : Option (List ℕ) → List ℕ → Request
-commanded None bytes = described (after_prefix (codes "Xfer:features:read:target.xml:") bytes) bytes
-commanded (Some digits) bytes = command_of digits
-
--- the request of a packet that begins with `q`, by the bytes after it
+-- the request of a packet that begins with `q`, by the bytes after it: a command, a part of the description of the
+-- registers, or a query that is known by its name
 abbrev pub query_of : List ℕ → Request
-query_of bytes = commanded (after_prefix (codes "Rcmd,") bytes) bytes
+query_of bytes =
+    option_map_or command_of (after_prefix (codes "Rcmd,") bytes)
+    (option_map_or feature_of (after_prefix (codes "Xfer:features:read:target.xml:") bytes) (named_query bytes))
 
 -- the request with this first byte, and these bytes after it
 abbrev pub lettered : ℕ → List ℕ → Request

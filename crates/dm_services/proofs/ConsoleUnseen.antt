@@ -11,7 +11,8 @@ use Rattle.dm_services.specs.Flush.{flush_and_read}
 use Rattle.dm_services.specs.Handles.{bad_handle, read_from_console, waits, read_unless, read_handle, write_to_console, write_handle}
 use Rattle.dm_services.specs.Vectors.{set_vector, get_vector}
 use Rattle.dm_services.specs.System.{tell_version, tell_process}
-use Rattle.dm_services.specs.Laws.{with_change, answer_with}
+use Rattle.dm_services.specs.Laws.{with_change}
+use Rattle.dm_services.specs.inner.Laws.{answer_with}
 use Rattle.dm_services.proofs.UnseenParts.{byte-unseen, bytes_from-unseen, with_bytes-unseen, return-parts, choice-unseen}
 
 character_of-unseen : (f : Memory → Memory) (u : IsUnseen f) (s : State) (xs : List ℕ) → character_of (with_change f s) xs ≡ answer_with f (character_of s xs)

@@ -34,7 +34,7 @@ use Rattle.dm_proc.specs.Processes.{Processes}
 use Rattle.dm_services.specs.Processes.{executed, overlaid, LoadingAs, concluded, Terminating, Keeping, tell_code}
 use Rattle.dm_services.specs.Functions.{function_of, no_function, Calls}
 use Rattle.dm_services.specs.Services.{Serves}
-use Rattle.dm_services.specs.Laws.{ServicesKeepTheMap, ServicesKeepTheTables}
+use Rattle.dm_services.specs.inner.Laws.{ServicesKeepTheMap, ServicesKeepTheTables}
 use Rattle.dm_services.proofs.MapParts.{word-kept, bytes-kept, return-kept, allocates-kept, frees-kept, resizes-kept, links-kept, executes-kept, overlays-kept, terminates-kept, keeps-kept}
 
 -- the answer's memory has the map of the state's, and its tables are the state's

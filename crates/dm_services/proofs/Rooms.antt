@@ -35,7 +35,7 @@ use Rattle.dm_proc.specs.Processes.{Processes}
 use Rattle.dm_services.specs.Processes.{executed, overlaid, LoadingAs, concluded, Terminating, Keeping, tell_code}
 use Rattle.dm_services.specs.Functions.{function_of, no_function, Calls}
 use Rattle.dm_services.specs.Services.{Serves}
-use Rattle.dm_services.specs.Laws.{limit}
+use Rattle.dm_services.specs.inner.Laws.{limit}
 
 abbrev pub Keeps : State → Answer → Type 0
 Keeps s x = limit s.console ≤ limit x.state.console

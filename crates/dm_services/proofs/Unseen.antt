@@ -29,7 +29,8 @@ use Rattle.dm_proc.proofs.Unseen.{ignores_unseen}
 use Rattle.dm_services.specs.Processes.{not_loaded, executed, overlaid, LoadingAs, concluded, Terminating, Keeping, tell_code}
 use Rattle.dm_services.specs.Functions.{function_of, no_function, Calls}
 use Rattle.dm_services.specs.Services.{Serves}
-use Rattle.dm_services.specs.Laws.{with_change, answer_with}
+use Rattle.dm_services.specs.Laws.{with_change}
+use Rattle.dm_services.specs.inner.Laws.{answer_with}
 use Rattle.dm_services.proofs.UnseenParts.{bytes_from-unseen, return-parts, choice-unseen}
 use Rattle.dm_services.proofs.ConsoleUnseen.{read_character-unseen, echo_character-unseen, write_character-unseen, direct_character-unseen, check_input-unseen, read_line-unseen, flush_and_read-unseen, read_handle-unseen, write_handle-unseen, set_vector-unseen, get_vector-unseen, tell_version-unseen, tell_process-unseen}
 

@@ -9,7 +9,7 @@ use Rattle.dm_cpu.proofs.Unseen.{interrupt_return-unseen}
 use Rattle.dm_proc.specs.Writes.{bytes_from}
 use Rattle.dm_state.specs.State.{Answer}
 use Rattle.dm_space.specs.Buffers.{with_bytes}
-use Rattle.dm_services.specs.Laws.{answer_with}
+use Rattle.dm_services.specs.inner.Laws.{answer_with}
 
 pub byte-unseen : (f : Memory → Memory) (u : IsUnseen f) (m : Memory) (s o : ℕ) → peek (f m) (linear (f m).a20 s o) ≡ peek m (linear m.a20 s o)
 byte-unseen f u m s o = ap (λ on. peek (f m) (linear on s o)) (u.a20 m) ∙ u.peek_same m (linear m.a20 s o)

@@ -7,17 +7,12 @@ use Rattle.dm_state.specs.State.{State, Answer, go, interrupt_returned}
 use Rattle.dm_services.specs.Characters.{with_al, echo_character, direct_character, read_character}
 use Rattle.dm_services.specs.Lines.{read_line}
 
--- 0Ch, by the number in AL: performs that function if it is 01h, 06h, 07h, 08h or 0Ah, and stops the machine where that
--- function does; else AL = 0 and the call returns
-abbrev pub read_by : State → ℕ → Answer
-read_by s function =
-    if function == 0x01 then echo_character s else
-    if function == 0x06 then direct_character s else
-    if function == 0x07 then read_character s else
-    if function == 0x08 then read_character s else
-    if function == 0x0A then read_line s else go (interrupt_returned (with_al s 0))
-
--- 0Ch: performs the function whose number is in AL, if that reads the console (01h, 06h, 07h, 08h, 0Ah), and else sets
--- AL to 0. No input is dropped first
+-- 0Ch: performs the function whose number is in AL, if that reads the console (01h, 06h, 07h, 08h, 0Ah), and stops the
+-- machine where that function does; else sets AL to 0, and the call returns. No input is dropped first
 unfoldable pub flush_and_read : State → Answer
-flush_and_read s = read_by s (byte_of s.cpu Al)
+flush_and_read s =
+    if byte_of s.cpu Al == 0x01 then echo_character s else
+    if byte_of s.cpu Al == 0x06 then direct_character s else
+    if byte_of s.cpu Al == 0x07 then read_character s else
+    if byte_of s.cpu Al == 0x08 then read_character s else
+    if byte_of s.cpu Al == 0x0A then read_line s else go (interrupt_returned (with_al s 0))

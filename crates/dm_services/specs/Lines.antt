@@ -23,19 +23,15 @@ abbrev pub filled : Memory → ℕ → ℕ → List ℕ → Memory
 filled m segment offset bytes =
     with_bytes (with_bytes m segment (up offset 2) (bytes ++ 0x0D ∷ [])) segment (up offset 1) (length bytes ∷ [])
 
--- the state with a line of `line` bytes, and its 0Dh, taken from the input, and what a buffer of size m keeps of the
--- line written to the buffer at DS:DX
-abbrev pub with_line : State → ℕ → ℕ → State
-with_line s m line = record s {
-  memory = filled s.memory s.cpu.ds s.cpu.dx (kept_bytes m (take line s.console.input));
-  console = record s.console { input = drop (line + 1) s.console.input };
-}
-
--- 0Ah with a buffer of size m above 0, by the length of the next line: the line is taken and written to the buffer;
--- where there is none (None), the machine stops and nothing changes
+-- 0Ah with a buffer of size m above 0, by the length of the next line: the line and its 0Dh are taken from the input,
+-- and what a buffer of size m keeps of it is written to the buffer at DS:DX; where there is none (None), the machine
+-- stops and nothing changes
 abbrev pub line_read : State → ℕ → Option ℕ → Answer
 line_read s m None = stop_at InputEnded s
-line_read s m (Some line) = go (interrupt_returned (with_line s m line))
+line_read s m (Some line) = go (interrupt_returned (record s {
+  memory = filled s.memory s.cpu.ds s.cpu.dx (kept_bytes m (take line s.console.input));
+  console = record s.console { input = drop (line + 1) s.console.input };
+}))
 
 -- 0Ah with a buffer of size m: for size 0, the call returns, memory stays and no input is taken
 abbrev pub line_into : State → ℕ → Answer

@@ -31,10 +31,6 @@ number_of_fit First = 0
 number_of_fit Best = 1
 number_of_fit Last = 2
 
--- the number of a strategy, as function 58h has it in AX and BX
-abbrev pub strategy_number : Strategy → ℕ
-strategy_number strategy = number_of_area strategy.area + number_of_fit strategy.fit
-
 -- the strategy with a fit and an area
 abbrev pub strategy : Fit → Area → Strategy
 strategy fit area = record { fit = fit; area = area }
@@ -75,7 +71,7 @@ unlisted s = answered s (record s.cpu { ax = 1 }) s.memory true
 
 -- 58h with AL = 0: AX is the strategy's number, CF = 0
 abbrev pub strategy_reported : State → Answer
-strategy_reported s = answered s (record s.cpu { ax = strategy_number s.strategy }) s.memory false
+strategy_reported s = answered s (record s.cpu { ax = number_of_area s.strategy.area + number_of_fit s.strategy.fit }) s.memory false
 
 -- 58h with AL = 1, by the strategy with the number in BX: it becomes the allocation strategy, CF = 0, and AX and memory
 -- stay; error 1, and the strategy stays, if there is none

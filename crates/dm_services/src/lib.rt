@@ -20,8 +20,6 @@ mod vectors;
 
 pub use at_once::serve_at_once;
 pub use functions::Function;
-pub use laws::{
-    services_have_one_answer, services_ignore_unseen, services_keep_room, services_keep_the_map,
-};
+pub use laws::services_have_one_answer;
 pub use services::serve;
 pub use strategies::StrategyFunction;

@@ -1,7 +1,7 @@
 //! INT 21h function 58h: the allocation strategy, and the link with upper memory (MS-DOS Programmer's Reference,
 //! function 58h). A call that fails has its error code in AX and CF set, and changes nothing else; one that succeeds
 //! has CF clear. Either way it returns by popping IP, CS and FLAGS, and counts the step.
-ghost use Rattle.std.specs.Prelude.{◌≡◌, None};
+ghost use Rattle.std.specs.Prelude.{◌≡◌, ◌+◌, None};
 ghost use Rattle.dm_cpu.specs.Cpu.{byte_of};
 ghost use Rattle.dm_ins.specs.declared.operand.ByteRegister.TheVariants.{Al};
 ghost use Rattle.dm_services.specs.Strategies;
@@ -42,7 +42,7 @@ fn subfunction_of(number: u8) -> StrategyFunction
 
 /// The number of a strategy: its fit (0 to 2) in the low bits, its area (0, 40h or 80h) in the high ones.
 fn strategy_number(strategy: Strategy) -> u16
-    ensures { result ≡ Strategies.strategy_number strategy }
+    ensures { result ≡ Strategies.number_of_area strategy.area + Strategies.number_of_fit strategy.fit }
 {
     let area = match strategy.area {
         Area::All => 0,

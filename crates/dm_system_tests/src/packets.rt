@@ -120,7 +120,7 @@ fn long_packets_are_refused(rt: HostRuntime) -> Result<(), Fail> {
     Ok(())
 }
 
-/// Definitions: dm_packets Frames frame_of frame_around
+/// Definitions: dm_packets Frames frame_of
 /// Definitions: dm_packets Escapes escaped is_special
 #[test]
 fn packets_are_sent(rt: HostRuntime) -> Result<(), Fail> {

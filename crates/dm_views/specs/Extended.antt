@@ -1,6 +1,7 @@
 -- The listing of extended memory: the blocks of the handles in use, the upper memory blocks, and A20 and the high
 -- memory area. Source: XMS 3.0. The form is this machine's own.
 use Rattle.std.specs.Prelude.{ℕ, ◌+◌, Bool, if◌then◌else◌, List, [], ◌∷◌, ◌++◌, codes, slice_get, Option, Some, None}
+use Rattle.std.specs.Option.{option_map_or}
 use Rattle.dm_space.specs.Memory.{Memory}
 use Rattle.dm_xms.specs.declared.tables.Handle.{Handle}
 use Rattle.dm_xms.specs.declared.tables.Upper.{Upper}
@@ -13,14 +14,10 @@ use Rattle.dm_views.specs.Digits.{two_digits, four_digits, eight_digits, in_turn
 abbrev pub block_line : ℕ → ℕ → ℕ → ℕ → List ℕ
 block_line number base kib locks = four_digits number ++ codes " " ++ eight_digits base ++ codes " " ++ four_digits kib ++ codes " " ++ two_digits locks ++ 10 ∷ []
 
--- the line of a handle's block; no text if the handle is not in use (None)
-abbrev pub if_used : Memory → ℕ → Option Handle → List ℕ
-if_used m number None = []
-if_used m number (Some h) = block_line number (address m h.block) h.kib h.locks
-
 -- the line of the block of handle `before + 1`; no text if the handle is not in use. Handles count from 1
 abbrev pub block_text : Tables → Memory → ℕ → List ℕ
-block_text xms m before = if_used m (before + 1) (slot xms (before + 1))
+block_text xms m before =
+    option_map_or (λ (h : Handle). block_line (before + 1) (address m h.block) h.kib h.locks) (slot xms (before + 1)) []
 
 -- the line of an upper memory block: segment and size in paragraphs; no text for None
 abbrev pub upper_line : Option Upper → List ℕ

@@ -2,6 +2,7 @@
 -- Source: LIM EMS 4.0, section 2. The form is this machine's own.
 use Rattle.std.specs.Prelude.{ℕ, List, [], ◌∷◌, ◌++◌, codes, Option, Some, None}
 use Rattle.std.specs.List.{flat_map}
+use Rattle.std.specs.Option.{option_map_or}
 use Rattle.dm_space.specs.Memory.{Memory}
 use Rattle.dm_text.specs.Pieces.{digit}
 use Rattle.dm_ems.specs.declared.readers.Holding.{Holding}
@@ -15,14 +16,9 @@ use Rattle.dm_views.specs.Digits.{two_digits, four_digits, in_turn}
 abbrev pub holding_text : ℕ → Holding → List ℕ
 holding_text number h = four_digits number ++ codes " " ++ four_digits h.pages ++ codes " " ++ flat_map two_digits h.name ++ 10 ∷ []
 
--- the line of a handle; no text if it is not in use (None)
-abbrev pub if_used : ℕ → Option Holding → List ℕ
-if_used number None = []
-if_used number (Some h) = holding_text number h
-
 -- the line of the handle with this number; no text if it is not in use
 abbrev pub handle_text : Tables → ℕ → List ℕ
-handle_text ems number = if_used number (holding ems number)
+handle_text ems number = option_map_or (holding_text number) (holding ems number) []
 
 -- ---- windows
 

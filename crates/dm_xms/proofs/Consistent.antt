@@ -30,8 +30,9 @@ use Rattle.dm_moves.proofs.Shapes.{moves_keep}
 use Rattle.dm_xms.specs.declared.moves.Side.{Side}
 use Rattle.dm_xms.specs.Moves.{and_then, double_after, described, side, move_between, move_memory}
 use Rattle.dm_xms.specs.Blocks.{leaving, allocate, deallocate, lock, unlock, reallocate}
-use Rattle.dm_xms.specs.Laws.{StartIsConsistent, CallsKeepConsistency, WritesKeepConsistency}
-use Rattle.dm_xms.specs.Consistent.{IsExtended, HasOther, handle_at, IsConsistent}
+use Rattle.dm_xms.specs.inner.Laws.{StartIsConsistent, CallsKeepConsistency, WritesKeepConsistency}
+use Rattle.dm_xms.specs.Consistent.{IsExtended, handle_at, IsConsistent}
+use Rattle.dm_xms.specs.inner.Consistent.{HasOther}
 
 -- ---- the pool changes at one block
 

@@ -1,4 +1,5 @@
--- That 09h gives each block which a gap of the pool holds, as long as a handle is free (the law `BlockComes`).
+-- That 09h gives each block which a gap of the pool holds, as long as a handle is free (the law `BlockComes` of
+-- dm_drivers).
 use Rattle.std.specs.Prelude.{ℕ, ◌+◌, ◌<◌, ◌≤◌, ◌≡◌, ◌⊎◌, count_by, is_some, is_none, position, Some, None, Result, Ok, Err}
 use Rattle.dm_pool.specs.Blocks.{IsLive, zeros}
 use Rattle.dm_space.specs.Memory.{page_bytes}

@@ -16,10 +16,6 @@ pub record IsExtended (m : Memory) (s : Handle) : Type 0 where
   pub size : length (page_bytes m s.block) ≡ 0x400 * s.kib
   pub hidden : shows m.windows s.block ≡ false
 
--- t is None, the entry of a handle that is not in use, or has another block than s
-abbrev pub HasOther : Handle → Option Handle → Type 0
-HasOther s t = IfSome t (λ other. other.block ≢ s.block)
-
 -- entry k of the table of handles: that of handle k + 1
 abbrev pub handle_at : List (Option Handle) → ℕ → Option Handle
 handle_at handles k = slice_index_or handles k None
@@ -31,6 +27,6 @@ pub record IsConsistent (x : Extended) : Type 0 where
   pub based : AreBased x.memory.blocks.places
   pub handles : length x.xms.handles ≡ 64
   pub blocks : (k : ℕ) → IfSome (handle_at x.xms.handles k) (IsExtended x.memory)
-  pub apart : (j k : ℕ) → j ≢ k → IfSome (handle_at x.xms.handles j) (λ s. HasOther s (handle_at x.xms.handles k))
+  pub apart : (j k : ℕ) → j ≢ k → IfSome (handle_at x.xms.handles j) (λ s. IfSome (handle_at x.xms.handles k) (λ other. other.block ≢ s.block))
   pub shown : (block : ℕ) → shows x.memory.windows block ≡ true → IsLive x.memory.blocks block
   pub line : x.memory.a20 ≡ is_on x.xms.global x.xms.local

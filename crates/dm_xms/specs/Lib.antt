@@ -9,5 +9,4 @@ pub mod Moves
 pub mod Consistent
 pub mod Outside
 pub mod Coming
-pub mod Laws
 pub mod inner

@@ -27,22 +27,16 @@ double_after m segment offset k = word_after m segment offset k + 65536 * word_a
 abbrev pub described : Memory → ℕ → ℕ → ℕ → Description
 described m segment offset k = record { handle = word_after m segment offset k; offset = double_after m segment offset (k + 2) }
 
--- the side of handle 0: the offset holds an offset and, in its high word, a segment, of memory up to the end of the
--- high memory area, with A20 on
-abbrev pub conventional : ℕ → Side
-conventional offset = record { region = span Linear (offset / 65536 * 16 + offset % 65536) []; end = 0x10FFF0 }
-
--- the side of a handle's block from this offset on, up to the end of the block
-abbrev pub of_block : Handle → ℕ → Side
-of_block s offset = record { region = span Single offset (s.block ∷ []); end = 0x400 * s.kib }
-
--- the side that is described: for handle 0 as in `conventional`, which is never an error here; for another the error
--- `unknown` if the handle is not in use, `past` if the offset is over its block's size
+-- the side that is described: for handle 0 the offset holds an offset and, in its high word, a segment, of memory up
+-- to the end of the high memory area, with A20 on, which is never an error here. For another it is the handle's block
+-- from the offset on, up to the end of the block; the error `unknown` if the handle is not in use, `past` if the offset
+-- is over its block's size
 unfoldable pub side : Extended → Description → Status → Status → Result Side Status
 side x d unknown past =
-    if d.handle == 0 then Ok (conventional d.offset) else
+    if d.handle == 0 then Ok (record { region = span Linear (d.offset / 65536 * 16 + d.offset % 65536) []; end = 0x10FFF0 }) else
     need (slot x.xms d.handle) unknown (λ s.
-    if nat_lt (0x400 * s.kib) d.offset then Err past else Ok (of_block s d.offset))
+    if nat_lt (0x400 * s.kib) d.offset then Err past else
+    Ok (record { region = span Single d.offset (s.block ∷ []); end = 0x400 * s.kib }))
 
 -- n bytes of `from` are copied to `to`, all read before the first is written; an error if either side has fewer. The
 -- tables stay

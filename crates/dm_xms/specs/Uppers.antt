@@ -21,13 +21,9 @@ all_paragraphs = 0x1000
 abbrev pub at_least_one : ℕ → ℕ
 at_least_one n = max 1 n
 
--- where a block lies among the paragraphs of upper memory, as an extent of a pool
-abbrev pub extent_of : Upper → Option Extent
-extent_of u = Some (record { base = u.segment - first_segment; units = u.paragraphs })
-
--- where the blocks lie among the paragraphs of upper memory
+-- where the blocks lie among the paragraphs of upper memory, as extents of a pool
 abbrev pub extents_of : List Upper → List (Option Extent)
-extents_of us = map extent_of us
+extents_of us = map (λ (u : Upper). Some (record { base = u.segment - first_segment; units = u.paragraphs })) us
 
 -- the number of paragraphs of the largest gap between the blocks; 0 if there is none
 abbrev pub largest_upper : List Upper → ℕ

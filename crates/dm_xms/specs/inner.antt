@@ -2,3 +2,5 @@
 pub mod Sides
 pub mod Tables
 pub mod Walks
+pub mod Laws
+pub mod Consistent

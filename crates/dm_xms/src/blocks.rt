@@ -84,7 +84,7 @@ impl Xms {
     /// # Errors
     ///
     /// In this order: `NoHandleLeft`; `NoMemory` where no gap holds the block, or the pool has no number left; in a
-    /// machine it always has one ([`block_comes`](crate::block_comes)). Then nothing has changed.
+    /// machine it always has one (`block_comes` of `dm_drivers`). Then nothing has changed.
     #[tactic(auto, unfolding(crate::specs::Blocks::allocate))]
     pub fn allocate(&mut self, space: &mut Space, kib: u16) -> Result<u16, Status>
         ensures answer { result ≡ answer (allocate (extended self.old space.old.memory) kib) }

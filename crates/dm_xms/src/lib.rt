@@ -6,7 +6,6 @@
 
 mod area;
 mod blocks;
-mod laws;
 mod line;
 mod moves;
 mod status;
@@ -14,7 +13,6 @@ mod tables;
 mod uppers;
 
 pub use blocks::{FreeMemory, HandleInformation};
-pub use laws::{block_comes, calls_keep_consistency, calls_leave_outside, writes_keep_consistency};
 pub use moves::Description;
 pub use status::Status;
 pub use tables::{Handle, Upper, Xms};

@@ -1,7 +1,4 @@
 pub mod Caller
-pub mod Area
-pub mod Line
-pub mod Blocks
 pub mod Uppers
 pub mod Functions
-pub mod Laws
+pub mod inner

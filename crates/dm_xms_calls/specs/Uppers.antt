@@ -1,14 +1,12 @@
--- Upper memory blocks (XMS 3.0, functions 10h to 12h). Success sets AX to 1; an error sets AX to 0 and BL to its code.
--- Where upper memory belongs to the arena of DOS (`upper`), the driver has none: 10h fails with B1h and sets DX to 0,
--- 11h and 12h fail with B2h. Registers that are not named stay; so does memory, and after an error so do the tables.
-use Rattle.std.specs.Prelude.{Bool, if◌then◌else◌, Result, Ok, Err}
+-- The registers that a call on upper memory blocks returns (XMS 3.0, functions 10h to 12h). Success sets AX to 1; an
+-- error sets AX to 0 and BL to its code. Registers that are not named stay; so does memory, and after an error so do the
+-- tables.
+use Rattle.std.specs.Prelude.{Result, Ok, Err}
 use Rattle.dm_cpu.specs.declared.cpu.Cpu.{Cpu}
-use Rattle.dm_xms.specs.declared.tables.Upper.{Upper}
 use Rattle.dm_xms.specs.declared.uppers.UpperRefusal.{UpperRefusal}
 use Rattle.dm_xms.specs.declared.uppers.UpperRefusal.TheVariants as refusal
 use Rattle.dm_xms.specs.Tables.{Tables, extended}
 use Rattle.dm_xms.specs.Calls.{answer, left}
-use Rattle.dm_xms.specs.Uppers as rows
 use Rattle.dm_xms.specs.Uppers.{code_of}
 use Rattle.dm_xms_calls.specs.Caller.{Caller, succeeded, refused}
 
@@ -28,16 +26,3 @@ settled cpu (Err e) set = refused (with_room cpu e) (code_of e)
 -- the state after a call on upper memory blocks, which may change the tables but not memory
 abbrev pub after_call : {A : Type 0} → Caller → Result (A × Tables) UpperRefusal → (A → Cpu) → Caller
 after_call c r set = record { cpu = settled c.cpu (answer r) set; x = extended (left c.x.xms r) c.x.memory }
-
--- 10h: a new block of DX paragraphs, or of 1 if DX is 0; BX becomes its segment, DX its size in paragraphs
-unfoldable pub request : Bool → Caller → Caller
-request upper c = after_call c (if upper then Err refusal.NoneFree else rows.request_upper c.x.xms c.cpu.dx) (λ (u : Upper). record c.cpu { bx = u.segment; dx = u.paragraphs })
-
--- 11h: the block that begins at segment DX is freed
-unfoldable pub release : Bool → Caller → Caller
-release upper c = after_call c (if upper then Err refusal.Unknown else rows.release_upper c.x.xms c.cpu.dx) (λ done. c.cpu)
-
--- 12h: the size of the block that begins at segment DX becomes BX paragraphs, or 1 if BX is 0; after error B0h the
--- block stays, and DX is the largest size that it can have there
-unfoldable pub resize : Bool → Caller → Caller
-resize upper c = after_call c (if upper then Err refusal.Unknown else rows.resize_upper c.x.xms c.cpu.dx c.cpu.bx) (λ done. c.cpu)

@@ -4,7 +4,7 @@
 ghost use Rattle.std.specs.Prelude.{◌≡◌};
 ghost use Rattle.dm_xms.specs.Uppers.{code_of};
 ghost use Rattle.dm_xms_calls.specs.Caller.{succeeded, refused, settled};
-ghost use Rattle.dm_xms_calls.specs.Blocks.{with_free, with_address, with_information};
+ghost use Rattle.dm_xms_calls.specs.Functions.{with_free, with_address, with_information};
 ghost use Rattle.dm_xms_calls.specs.Uppers as uppers;
 
 use dm_cpu::Cpu;

@@ -7,10 +7,8 @@ mod area;
 mod at_once;
 mod blocks;
 mod functions;
-mod laws;
 mod line;
 mod uppers;
 
 pub use at_once::extended_memory_call_at_once;
 pub use functions::extended_memory_call;
-pub use laws::extended_memory_calls_keep;

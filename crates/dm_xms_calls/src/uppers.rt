@@ -3,7 +3,7 @@
 //! after an error AX to 0 and BL to its code, and then the tables stay. Memory, and registers that are not named, stay.
 ghost use Rattle.std.specs.Prelude.{◌≡◌};
 ghost use Rattle.dm_xms_calls.specs.Caller.{caller};
-ghost use Rattle.dm_xms_calls.specs.Uppers.{request, release, resize};
+ghost use Rattle.dm_xms_calls.specs.Functions.{call};
 
 use crate::answers::{settle_upper, settle_uppers};
 use dm_cpu::Cpu;
@@ -12,9 +12,9 @@ use dm_xms::{UpperRefusal, Xms};
 
 /// 10h: allocates a block of DX paragraphs, or of 1 if DX is 0; sets BX to its segment, DX to its size. After error
 /// B0h DX is the number of paragraphs of the largest gap, after B1h 0.
-#[tactic(auto, unfolding(crate::specs::Uppers::request))]
+#[tactic(auto, unfolding(crate::specs::Functions::call))]
 pub(crate) fn request(cpu: &mut Cpu, xms: &mut Xms, space: &Space, upper: bool)
-    ensures { caller cpu.new xms.new space.now.memory ≡ request upper (caller cpu.old xms.old space.now.memory) }
+    ensures { caller cpu.new xms.new space.now.memory ≡ call upper (caller cpu.old xms.old space.now.memory) 0x10 }
 {
     let res = if upper {
         Err(UpperRefusal::NoneFree)
@@ -25,9 +25,9 @@ pub(crate) fn request(cpu: &mut Cpu, xms: &mut Xms, space: &Space, upper: bool)
 }
 
 /// 11h: frees the block that begins at segment DX.
-#[tactic(auto, unfolding(crate::specs::Uppers::release))]
+#[tactic(auto, unfolding(crate::specs::Functions::call))]
 pub(crate) fn release(cpu: &mut Cpu, xms: &mut Xms, space: &Space, upper: bool)
-    ensures { caller cpu.new xms.new space.now.memory ≡ release upper (caller cpu.old xms.old space.now.memory) }
+    ensures { caller cpu.new xms.new space.now.memory ≡ call upper (caller cpu.old xms.old space.now.memory) 0x11 }
 {
     let res = if upper {
         Err(UpperRefusal::Unknown)
@@ -39,9 +39,9 @@ pub(crate) fn release(cpu: &mut Cpu, xms: &mut Xms, space: &Space, upper: bool)
 
 /// 12h: resizes the block that begins at segment DX to BX paragraphs, or to 1 if BX is 0. If there is less room (error
 /// B0h) the block stays, and DX is the number of paragraphs that it can have there.
-#[tactic(auto, unfolding(crate::specs::Uppers::resize))]
+#[tactic(auto, unfolding(crate::specs::Functions::call))]
 pub(crate) fn resize(cpu: &mut Cpu, xms: &mut Xms, space: &Space, upper: bool)
-    ensures { caller cpu.new xms.new space.now.memory ≡ resize upper (caller cpu.old xms.old space.now.memory) }
+    ensures { caller cpu.new xms.new space.now.memory ≡ call upper (caller cpu.old xms.old space.now.memory) 0x12 }
 {
     let res = if upper {
         Err(UpperRefusal::Unknown)

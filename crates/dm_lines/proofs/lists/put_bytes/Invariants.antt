@@ -1,7 +1,8 @@
 use Rattle.std.proofs.Common.{◌≡◌, ◌≤◌, ◌+◌, length}
 use Rattle.arrayvec.specs.ArrayVec.{array_vec_len}
 use Rattle.dm_lines.specs.Operands.{parts}
-use Rattle.dm_lines.specs.Statements.{joined_to, byte_items}
+use Rattle.dm_lines.specs.Tokens.{joined_to}
+use Rattle.dm_lines.specs.Statements.{byte_items}
 use Rattle.dm_lines.proofs.lists.put_bytes.Given as goal
 
 abbrev pub invariant-loop-tail : goal.invariant-loop-tail

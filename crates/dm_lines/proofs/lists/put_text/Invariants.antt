@@ -1,6 +1,7 @@
 use Rattle.std.proofs.Common.{◌≡◌, ◌≤◌, ◌+◌, length}
 use Rattle.arrayvec.specs.ArrayVec.{array_vec_len}
-use Rattle.dm_lines.specs.Statements.{joined_to, letters}
+use Rattle.dm_lines.specs.Tokens.{joined_to}
+use Rattle.dm_lines.specs.Statements.{letters}
 use Rattle.dm_lines.proofs.lists.put_text.Given as goal
 
 abbrev pub invariant-loop-rest : goal.invariant-loop-rest

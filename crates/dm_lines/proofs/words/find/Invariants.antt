@@ -1,6 +1,6 @@
 use Rattle.std.proofs.Common.{◌≡◌, drop}
 use Rattle.dm_text.specs.Names.{named}
-use Rattle.dm_lines.specs.Words.{spelling_of}
+use Rattle.dm_lines.specs.inner.Words.{spelling_of}
 use Rattle.dm_lines.proofs.words.find.Given as goal
 
 abbrev pub invariant-loop-reserved : goal.invariant-loop-reserved
