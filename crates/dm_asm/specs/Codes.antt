@@ -8,9 +8,9 @@ use Rattle.dm_ins.specs.Spelling.{word_bytes}
 use Rattle.dm_ins.specs.Walks.{◌>>=◌}
 use Rattle.dm_ins.specs.declared.ins.Ins.{Ins}
 use Rattle.dm_ins.specs.declared.action.Mnemonic.{Mnemonic}
-use Rattle.dm_words.specs.declared.written.Written.{Written}
-use Rattle.dm_words.specs.declared.written.Words.{Words}
-use Rattle.dm_words.specs.Words.{AreWords}
+use Rattle.dm_text.specs.declared.words.written.Written.{Written}
+use Rattle.dm_text.specs.declared.words.written.Words.{Words}
+use Rattle.dm_text.specs.words.Words.{AreWords}
 use Rattle.dm_lines.specs.declared.term.Value.{Value}
 use Rattle.dm_lines.specs.declared.term.Term.{Term}
 use Rattle.dm_lines.specs.declared.statement.Instruction.{Instruction}

@@ -17,7 +17,7 @@ use arrayvec::ArrayVec;
 use dm_lines::{
     Amount, Instruction, Item, Items, Term, Value, byte, outlines_stand, word_at, written,
 };
-use dm_words::{
+use dm_text::words::{
     Words, Written, read_encoded, stand_ins_have_the_length, words_are_one_instruction,
 };
 

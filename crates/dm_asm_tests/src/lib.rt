@@ -4,6 +4,7 @@
 #![tactic(auto)]
 
 #[cfg(test)]
+pub mod lines;
 mod checks;
 #[cfg(test)]
 mod listings;

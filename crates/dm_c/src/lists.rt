@@ -7,7 +7,7 @@ ghost use Rattle.dm_host_calls.specs.Lists.{BlocksTo, PageHandlesTo, WindowsTo, 
 
 use crate::handle::Handle;
 use dm_host_calls::{ListEnd, NO_MACHINE};
-use dm_inventory::{ArenaBlock, ExtendedBlock, FoundRecord, PageHandle, UpperBlock, Window};
+use dm_views::inventory::{ArenaBlock, ExtendedBlock, FoundRecord, PageHandle, UpperBlock, Window};
 use std::alloc::Global;
 
 /// Copies the headers of the arena, those of the first list and then those of upper memory where the first does not lead

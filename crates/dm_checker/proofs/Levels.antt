@@ -10,7 +10,7 @@ use Rattle.std.proofs.lemmas.List.Elements.{All-nil, All-cons, All-head, All-tai
 use Rattle.dm_space.specs.Memory.{Memory}
 use Rattle.dm_blocks.specs.declared.header.Header.{Header}
 use Rattle.dm_touches.specs.Found.{is_in_free}
-use Rattle.dm_quiet.specs.Marks.{level_at, lies_below, Marked}
+use Rattle.dm_touches.specs.quiet.Marks.{level_at, lies_below, Marked}
 use Rattle.dm_checker.specs.declared.watch.Watched.{Watched}
 use Rattle.dm_checker.specs.Clear.{is_free_of, is_at, is_high, is_memory}
 use Rattle.dm_checker.proofs.Unfound.{and_left, and_right, not_false}

@@ -4,9 +4,9 @@ use Rattle.dm_exec.specs.declared.effect.Next.{Next}
 use Rattle.dm_exec.specs.declared.effect.Next.TheVariants.{Go, Halt}
 use Rattle.dm_exec.specs.Effect.{effect, next_of}
 use Rattle.dm_cpu.specs.Guest.{Guest, guest}
-use Rattle.dm_state.specs.declared.stop.Stop.{Stop}
-use Rattle.dm_state.specs.declared.stop.Stop.TheVariants.{Exited, Steps as AllSteps, Halted, Unlisted}
-use Rattle.dm_state.specs.State.{State, Answer, stop_at}
+use Rattle.dm_services.specs.declared.state.stop.Stop.{Stop}
+use Rattle.dm_services.specs.declared.state.stop.Stop.TheVariants.{Exited, Steps as AllSteps, Halted, Unlisted}
+use Rattle.dm_services.specs.state.State.{State, Answer, stop_at}
 use Rattle.dm_machine.specs.Step.{MakesStep, ActsUnlessEnded, Instructs, listed, unlisted, after}
 use Rattle.dm_machine.specs.Run.{Answers, Goes, here, further, IsRun, over, whole, cut}
 use Rattle.dm_machine.proofs.OneRun.{none-made}

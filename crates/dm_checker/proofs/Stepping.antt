@@ -2,15 +2,15 @@
 use Rattle.std.proofs.Common.{◌≡◌, ℕ, ◌+◌, Bool, true, false, List, [], ◌++◌, map, Option, Some, None, refl, sym, ◌∙◌, ap, ap₂, subst}
 use Rattle.std.specs.Prelude.{◌&&◌, is_some, slice_index_or, IfSome}
 use Rattle.dm_space.specs.Memory.{Memory, IsPage}
-use Rattle.dm_state.specs.declared.stop.Stop.{Stop}
-use Rattle.dm_state.specs.declared.stop.Stop.TheVariants.{Exited, Steps as AllSteps, Halted, Unlisted, InputEnded, Destroyed, Memory as NoMemory}
+use Rattle.dm_services.specs.declared.state.stop.Stop.{Stop}
+use Rattle.dm_services.specs.declared.state.stop.Stop.TheVariants.{Exited, Steps as AllSteps, Halted, Unlisted, InputEnded, Destroyed, Memory as NoMemory}
 use Rattle.dm_ems.specs.Consistent.{IsOwned}
-use Rattle.dm_state.specs.State.{State, AreConsistent}
+use Rattle.dm_services.specs.state.State.{State, AreConsistent}
 use Rattle.dm_machine.specs.Step.{MakesStep}
 use Rattle.dm_machine.specs.Run.{Answers}
 use Rattle.dm_machine.specs.Unmarked.{IsUnmarked, GoesUnmarked}
 use Rattle.dm_machine.specs.Unmarked as unmarked
-use Rattle.dm_quiet.specs.Marks.{lies_below, passes_if, pass}
+use Rattle.dm_touches.specs.quiet.Marks.{lies_below, passes_if, pass}
 use Rattle.dm_findings.specs.declared.calls.Call.{Call}
 use Rattle.dm_findings.specs.declared.finding.Act.TheVariants as act
 use Rattle.dm_findings.specs.declared.finding.Finding.{Finding}
@@ -20,9 +20,9 @@ use Rattle.dm_findings.specs.Report.{Reported}
 use Rattle.dm_origins.specs.Origins.{Known}
 use Rattle.dm_checker.specs.declared.acts.Before.{Before}
 use Rattle.dm_checker.specs.declared.watch.Watch.{Watch}
-use Rattle.dm_calls.specs.Calls.{stays, call_findings}
+use Rattle.dm_findings.specs.outcomes.Calls.{stays, call_findings}
 use Rattle.dm_checker.specs.Freed.{freed_twice}
-use Rattle.dm_leaks.specs.Leaks.{leaks}
+use Rattle.dm_origins.specs.leaks.Leaks.{leaks}
 use Rattle.dm_touches.specs.declared.elements.Elements.{Elements}
 use Rattle.dm_cpu.specs.Guest.{guest}
 use Rattle.dm_exec.specs.Effect.{effect}

@@ -2,7 +2,7 @@
 use Rattle.std.specs.Prelude.{◌&&◌, if◌then◌else◌}
 use Rattle.std.proofs.Common.{◌≡◌, ℕ, ◌+◌, ◌<◌, Bool, true, false, not, List, [], ◌∷◌, ◌++◌, map, take, length, get_or, refl, sym, ◌∙◌, ap, ap₂, append-nil, append_assoc}
 use Rattle.std.proofs.lemmas.List.{take_more, map-append}
-use Rattle.dm_state.specs.State.{State}
+use Rattle.dm_services.specs.state.State.{State}
 use Rattle.dm_findings.specs.declared.finding.Act.{Act}
 use Rattle.dm_findings.specs.declared.finding.Finding.{Finding}
 use Rattle.dm_findings.specs.declared.finding.Found.{Found}

@@ -5,7 +5,7 @@ use Rattle.dm_ins.specs.declared.ins.Ins.{Ins}
 use Rattle.dm_ins.specs.Ins.{BeginsWith}
 use Rattle.dm_cpu.specs.declared.cpu.Cpu.{Cpu}
 use Rattle.dm_cpu.specs.Guest.{guest}
-use Rattle.dm_state.specs.State.{State}
+use Rattle.dm_services.specs.state.State.{State}
 use Rattle.dm_machine.specs.Step.{fetched}
 use Rattle.dm_machine.specs.Run.{Answers}
 use Rattle.dm_findings.specs.declared.calls.Call.{Call}

@@ -17,7 +17,7 @@ use Rattle.dm_touches.specs.declared.elements.Element.{Element}
 use Rattle.dm_touches.specs.declared.elements.Element.TheVariants as element
 use Rattle.dm_touches.specs.declared.elements.Elements.{Elements}
 use Rattle.dm_findings.specs.declared.finding.Finding.TheVariants.{RomWritten, NothingWritten}
-use Rattle.dm_quiet.specs.Marks.{passes_if, pass}
+use Rattle.dm_touches.specs.quiet.Marks.{passes_if, pass}
 use Rattle.dm_checker.specs.Clear.{is_free_of, is_at, is_high, is_memory, is_write_clear}
 
 -- ---- tests

@@ -10,14 +10,14 @@ use Rattle.dm_space.specs.declared.entry_points.Driver.TheVariants as driver
 use Rattle.dm_space.specs.declared.entry_points.EntryPoint.{EntryPoint}
 use Rattle.dm_space.specs.declared.entry_points.EntryPoint.TheVariants as entry_point
 use Rattle.dm_space.specs.EntryPoints.{entry_point_at}
-use Rattle.dm_state.specs.State.{State, Answer}
+use Rattle.dm_services.specs.state.State.{State, Answer}
 use Rattle.dm_services.specs.Functions.{function_of, no_function, Calls}
 use Rattle.dm_machine.specs.Step.{MakesStep, ActsUnlessEnded, Acts}
 use Rattle.dm_findings.specs.declared.calls.Call.{Call}
 use Rattle.dm_findings.specs.declared.calls.Call.TheVariants.{Dos, Interrupt}
 use Rattle.dm_findings.specs.declared.finding.Finding.TheVariants.{Refused}
 use Rattle.dm_findings.specs.Calls.{is_bare_return, call_by, call_of}
-use Rattle.dm_calls.specs.Calls.{is_arena, is_ending, is_console, is_system, is_served, may_be_refused, is_stray_block, refused_by_dos, call_findings}
+use Rattle.dm_findings.specs.outcomes.Calls.{is_arena, is_ending, is_console, is_system, is_served, may_be_refused, is_stray_block, refused_by_dos, call_findings}
 use Rattle.dm_checker.specs.Laws.{UnservedCallsAreFound}
 use Rattle.dm_checker.proofs.Reading.{still_running}
 

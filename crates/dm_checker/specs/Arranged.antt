@@ -7,7 +7,7 @@ use Rattle.dm_space.specs.Memory.{linear}
 use Rattle.dm_cpu.specs.declared.cpu.Cpu.{Cpu}
 use Rattle.dm_cpu.specs.Guest.{up}
 use Rattle.dm_blocks.specs.declared.header.Header.{Header}
-use Rattle.dm_state.specs.State.{State}
+use Rattle.dm_services.specs.state.State.{State}
 use Rattle.dm_findings.specs.declared.calls.Call.{Call}
 use Rattle.dm_findings.specs.declared.calls.Call.TheVariants.{Dos}
 use Rattle.dm_findings.specs.declared.finding.Finding.{Finding}

@@ -1,8 +1,8 @@
 -- What is found in a run, step by step, and at its end.
 use Rattle.std.specs.Prelude.{◌≡◌, ℕ, ◌+◌, ◌<◌, ◌≤◌, not, Bool, if◌then◌else◌, List, [], ◌∷◌, ◌++◌, ◌&&◌, Option, Some, None}
-use Rattle.dm_state.specs.declared.stop.Stop.{Stop}
-use Rattle.dm_state.specs.declared.stop.Stop.TheVariants.{Exited, Steps as AllSteps, Halted, Unlisted, InputEnded, Destroyed, Memory as NoMemory}
-use Rattle.dm_state.specs.State.{State}
+use Rattle.dm_services.specs.declared.state.stop.Stop.{Stop}
+use Rattle.dm_services.specs.declared.state.stop.Stop.TheVariants.{Exited, Steps as AllSteps, Halted, Unlisted, InputEnded, Destroyed, Memory as NoMemory}
+use Rattle.dm_services.specs.state.State.{State}
 use Rattle.dm_machine.specs.Step.{MakesStep}
 use Rattle.dm_machine.specs.Run.{Answers, IsRun}
 use Rattle.dm_findings.specs.declared.calls.Call.{Call}
@@ -11,8 +11,8 @@ use Rattle.dm_findings.specs.declared.finding.Found.{Found}
 use Rattle.dm_findings.specs.Calls.{call_of}
 use Rattle.dm_findings.specs.Findings.{is_of_free_memory}
 use Rattle.dm_findings.specs.Report.{Reported, report_of}
-use Rattle.dm_calls.specs.Calls.{stays}
-use Rattle.dm_leaks.specs.Leaks.{leaks}
+use Rattle.dm_findings.specs.outcomes.Calls.{stays}
+use Rattle.dm_origins.specs.leaks.Leaks.{leaks}
 use Rattle.dm_origins.specs.Origins.{Known}
 use Rattle.dm_checker.specs.Findings.{Finds, IsFound}
 use Rattle.dm_checker.specs.Origins.{IsKnownAfter, OriginsIn}

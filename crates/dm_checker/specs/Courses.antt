@@ -1,11 +1,11 @@
 -- The processes after a step.
 use Rattle.std.specs.Prelude.{◌++◌, ◌∷◌, [], if◌then◌else◌, List, Option}
 use Rattle.dm_findings.specs.declared.calls.Call.{Call}
-use Rattle.dm_processes.specs.declared.process.Process.{Process}
-use Rattle.dm_processes.specs.Processes.{process_at, with_end}
+use Rattle.dm_findings.specs.declared.processes.process.Process.{Process}
+use Rattle.dm_findings.specs.processes.Processes.{process_at, with_end}
 use Rattle.dm_origins.specs.Origins.{Known}
-use Rattle.dm_state.specs.State.{State}
-use Rattle.dm_calls.specs.Courses.{ends_process, has_started}
+use Rattle.dm_services.specs.state.State.{State}
+use Rattle.dm_findings.specs.outcomes.Courses.{ends_process, has_started}
 
 -- the processes after the step from s to t with this call, if they were ps before it
 abbrev pub processes_after : State → State → Option Call → List Process → List Process

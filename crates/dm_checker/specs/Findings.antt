@@ -6,7 +6,7 @@ use Rattle.dm_space.specs.Memory.{Memory}
 use Rattle.dm_ins.specs.declared.ins.Ins.{Ins}
 use Rattle.dm_cpu.specs.Guest.{guest, up}
 use Rattle.dm_blocks.specs.declared.header.Header.{Header}
-use Rattle.dm_state.specs.State.{State}
+use Rattle.dm_services.specs.state.State.{State}
 use Rattle.dm_machine.specs.Step.{fetched}
 use Rattle.dm_ins.specs.Ins.{BeginsWith}
 use Rattle.dm_findings.specs.declared.calls.Call.{Call}
@@ -21,7 +21,7 @@ use Rattle.dm_origins.specs.Origins.{Known, origin_of}
 use Rattle.dm_checker.specs.Shown.{Shown, IsShown}
 use Rattle.dm_checker.specs.Headers.{overwritten, mapped_away}
 use Rattle.dm_touches.specs.Found.{touch_findings}
-use Rattle.dm_calls.specs.Calls.{arranges, call_findings}
+use Rattle.dm_findings.specs.outcomes.Calls.{arranges, call_findings}
 use Rattle.dm_checker.specs.Freed.{freed_twice}
 use Rattle.dm_checker.specs.Arranged.{arranged}
 

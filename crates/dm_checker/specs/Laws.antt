@@ -1,15 +1,15 @@
 -- Laws of checked runs (`check`).
 use Rattle.std.specs.Prelude.{◌≡◌, ◌≢◌, ℕ, false, List, [], ◌∷◌, Some, None}
-use Rattle.dm_state.specs.declared.stop.Stop.{Stop}
-use Rattle.dm_state.specs.declared.stop.Stop.TheVariants.{Memory as NoMemory}
-use Rattle.dm_state.specs.State.{State}
+use Rattle.dm_services.specs.declared.state.stop.Stop.{Stop}
+use Rattle.dm_services.specs.declared.state.stop.Stop.TheVariants.{Memory as NoMemory}
+use Rattle.dm_services.specs.state.State.{State}
 use Rattle.dm_machine.specs.Step.{MakesStep}
 use Rattle.dm_machine.specs.Run.{IsRun}
 use Rattle.dm_findings.specs.declared.calls.Call.TheVariants.{Dos}
 use Rattle.dm_findings.specs.declared.finding.Finding.TheVariants.{Refused}
 use Rattle.dm_findings.specs.declared.finding.Found.{Found}
 use Rattle.dm_findings.specs.Calls.{call_of}
-use Rattle.dm_calls.specs.Calls.{is_served, call_findings}
+use Rattle.dm_findings.specs.outcomes.Calls.{is_served, call_findings}
 use Rattle.dm_checker.specs.Checks.{Checks}
 
 -- a checked run is a run: the same steps, stop and state

@@ -2,7 +2,7 @@
 use Rattle.std.specs.Prelude.{◌≡◌, ℕ, ◌+◌, ◌-◌, ◌/◌, ◌<◌, ◌≤◌, ◌&&◌, not, is_some, Bool, true, false, List, slice_index_or, Option, None}
 use Rattle.dm_space.specs.Memory.{Memory}
 use Rattle.dm_blocks.specs.declared.header.Header.{Header}
-use Rattle.dm_quiet.specs.Marks.{level_at, lies_below}
+use Rattle.dm_touches.specs.quiet.Marks.{level_at, lies_below}
 use Rattle.dm_checker.specs.declared.watch.Watched.{Watched}
 use Rattle.dm_checker.specs.Clear.{is_read_clear, is_write_clear}
 

@@ -6,10 +6,10 @@ use Rattle.dm_findings.specs.declared.finding.Origin.{Origin}
 use Rattle.dm_findings.specs.Calls.{call_of}
 use Rattle.dm_findings.specs.Sites.{site_of}
 use Rattle.dm_origins.specs.Origins.{Known, known_first, with_handles, with_blocks, with_freed}
-use Rattle.dm_state.specs.State.{State}
+use Rattle.dm_services.specs.state.State.{State}
 use Rattle.dm_machine.specs.Step.{MakesStep}
 use Rattle.dm_checker.specs.Shown.{Shown, IsShown}
-use Rattle.dm_calls.specs.Calls.{arranges}
+use Rattle.dm_findings.specs.outcomes.Calls.{arranges}
 use Rattle.dm_checker.specs.Courses.{present_process, with_course}
 
 -- the step from s to t, as who allocated or freed: its number, and where in its code the program performs it

@@ -3,7 +3,7 @@
 ghost use Rattle.std.specs.Prelude.{◌≡◌, ◌+◌, ◌∷◌, [], map, MatchOption};
 ghost use Rattle.dm_space.specs.EightBytes.{byte_after};
 ghost use Rattle.dm_machine.specs.Step.{fetched};
-ghost use Rattle.dm_state.specs.State.{State};
+ghost use Rattle.dm_services.specs.state.State.{State};
 ghost use Rattle.dm_checker.specs.Findings.{IsAct};
 ghost use Rattle.dm_checker.specs.inner.Steps.{IsBefore, IsUnlisted};
 

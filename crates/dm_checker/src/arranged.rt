@@ -9,7 +9,7 @@ ghost use Rattle.dm_checker.specs.Watching.{header_of, shown_of};
 
 use crate::acts::Before;
 use crate::watch::{Watch, Watched};
-use dm_calls::put;
+use dm_findings::outcomes::put;
 use dm_cpu::Cpu;
 use dm_findings::{Call, Finding};
 use dm_touches::{FarAddress, is_in_free};

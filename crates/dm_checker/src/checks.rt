@@ -1,7 +1,7 @@
 //! Checked runs: a run of a machine, and the report of what was found in it.
 
 ghost use Rattle.std.specs.Prelude.{◌≡◌, ◌≢◌, [], false, true, IfOk, OnErr, ℕ, None};
-ghost use Rattle.dm_state.specs.State.{State, HasProgram};
+ghost use Rattle.dm_services.specs.state.State.{State, HasProgram};
 ghost use Rattle.dm_machine.specs.Run.{IsRun};
 ghost use Rattle.dm_findings.specs.Report.{report_of};
 ghost use Rattle.dm_checker.specs.Checks.{IsReport, RunsPart};
@@ -12,7 +12,7 @@ use crate::watch::{Watch, read_arena};
 use dm_findings::Report;
 use dm_machine::{Machine, Stop};
 use dm_origins::Origins;
-use dm_processes::Process;
+use dm_findings::processes::Process;
 use std::alloc::{AllocError, Global};
 use std::marker::Model;
 

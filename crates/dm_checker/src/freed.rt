@@ -5,7 +5,7 @@ ghost use Rattle.dm_checker.specs.Freed.{is_free_at, freed_twice};
 ghost use Rattle.dm_checker.specs.Watching.{header_of};
 
 use crate::watch::Watched;
-use dm_calls::put;
+use dm_findings::outcomes::put;
 use dm_cpu::Cpu;
 use dm_findings::{Call, Finding};
 use std::alloc::AllocError;

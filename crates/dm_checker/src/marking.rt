@@ -2,14 +2,14 @@
 
 ghost use Rattle.std.specs.Prelude.{◌≡◌, ◌+◌, ◌*◌, ◌<◌, ◌≤◌, ◌&&◌, not, false, is_some, slice_index_or, ℕ, All, IfOk, None};
 ghost use Rattle.std.specs.List.{list_any};
-ghost use Rattle.dm_quiet.specs.Marks.{level_at};
+ghost use Rattle.dm_touches.specs.quiet.Marks.{level_at};
 ghost use Rattle.dm_checker.specs.Clear.{is_high};
 ghost use Rattle.dm_checker.specs.Marking.{Keeps, HasMap, HasHeader, HasFree, IsMarked};
 
 use crate::watch::Watched;
 use dm_blocks::Header;
 use dm_pool::Block;
-use dm_quiet::Marks;
+use dm_touches::quiet::Marks;
 use std::alloc::{AllocError, Global};
 
 /// The first paragraph between the video memory and upper memory, where there is no memory, and the one after the last.

@@ -2,7 +2,7 @@
 
 ghost use Rattle.std.specs.Prelude.{◌≡◌, map, Some, IfOk, OnOk};
 ghost use Rattle.dm_checker.specs.Courses.{with_course};
-ghost use Rattle.dm_state.specs.State.{State};
+ghost use Rattle.dm_services.specs.state.State.{State};
 ghost use Rattle.dm_origins.specs.Origins.{with_freed};
 ghost use Rattle.dm_checker.specs.Origins.{if_both_whole, known_by};
 ghost use Rattle.dm_checker.specs.Watching.{header_of, broken_at, shown_of};
@@ -11,11 +11,11 @@ ghost use Rattle.dm_checker.specs.inner.Steps.{IsBefore};
 use crate::acts::Before;
 use crate::watch::{Watch, Watched};
 use dm_blocks::Header;
-use dm_calls::{arranges, ends_process, has_started};
+use dm_findings::outcomes::{arranges, ends_process, has_started};
 use dm_findings::{Call, Origin};
 use dm_machine::Machine;
 use dm_origins::Origins;
-use dm_processes::Process;
+use dm_findings::processes::Process;
 use std::alloc::{AllocError, Global};
 
 /// The headers without their bytes. An `Err` is a failed allocation.

@@ -3,7 +3,7 @@
 
 ghost use Rattle.std.specs.Prelude.{◌≡◌, ◌++◌, map, OnOk};
 ghost use Rattle.std.specs.List.{flat_map};
-ghost use Rattle.dm_state.specs.State.{State};
+ghost use Rattle.dm_services.specs.state.State.{State};
 ghost use Rattle.dm_touches.specs.Elements.{bytes_of};
 ghost use Rattle.dm_touches.specs.Found.{of_header, of_headers};
 ghost use Rattle.dm_checker.specs.Watching.{IsWatch, header_of, broken_at};

@@ -8,7 +8,7 @@ use crate::marking::marks_of;
 use dm_blocks::{Header, Headers, Step, is_linked, walk};
 use dm_machine::Machine;
 use dm_pool::Block;
-use dm_quiet::Marks;
+use dm_touches::quiet::Marks;
 use dm_space::Space;
 use std::alloc::{AllocError, Global};
 

@@ -12,7 +12,7 @@ use Rattle.dm_options.specs.declared.command_line.MachineOptions.{MachineOptions
 use Rattle.dm_pool.specs.declared.sizes.Sizes.{Sizes}
 use Rattle.dm_pool.specs.Stored.{IsTooLarge}
 use Rattle.dm_proc.specs.Programs.{IsName, program_of}
-use Rattle.dm_state.specs.State.{State}
+use Rattle.dm_services.specs.state.State.{State}
 use Rattle.dm_cli.specs.declared.fault.Fault.{Fault}
 use Rattle.dm_cli.specs.declared.fault.Fault.TheVariants as fault
 use Rattle.dm_cli.specs.inner.Faults.{new_fault, load_fault}

@@ -1,7 +1,7 @@
 -- A checked run.
 use Rattle.std.proofs.Common.{ℕ, not, List, Option, Result}
 use Rattle.dm_options.specs.declared.command_line.CheckOptions.{CheckOptions}
-use Rattle.dm_state.specs.State.{State}
+use Rattle.dm_services.specs.state.State.{State}
 use Rattle.dm_json.specs.Forms.{form_of}
 use Rattle.dm_cli.specs.declared.fault.Fault.{Fault}
 use Rattle.dm_cli.specs.Checking.{Checks, checked, partly_written, no_memory}

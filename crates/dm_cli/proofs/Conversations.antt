@@ -5,7 +5,7 @@ use Rattle.std.specs.Io.{StopsAt, appended_bytes}
 use Rattle.std.specs.Io.BufRead.{take_through, drop_through, ends_with_byte, strip_last, DropsThrough}
 use Rattle.std.specs.Io.KnownBytes.{Appends, Consumes, IsAtEnd}
 use Rattle.dm_debug.specs.Debugged.{Debugged}
-use Rattle.dm_out.specs.Out.{HasFailed}
+use Rattle.dm_console.specs.writers.Out.{HasFailed}
 use Rattle.dm_cli.specs.declared.fault.Fault.{Fault}
 use Rattle.dm_cli.specs.declared.fault.Fault.TheVariants.{InputTooLong, OutOfMemory}
 use Rattle.dm_cli.specs.Faults.{IsReadFault}

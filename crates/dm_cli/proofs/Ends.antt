@@ -13,7 +13,7 @@ use Rattle.dm_asm.specs.Programs.{Refuses}
 use Rattle.dm_debug.specs.Debugged.{Debugged}
 use Rattle.dm_debug.specs.Sessions.{new_session}
 use Rattle.dm_options.specs.declared.command_line.DebugOptions.{DebugOptions}
-use Rattle.dm_state.specs.State.{State}
+use Rattle.dm_services.specs.state.State.{State}
 use Rattle.dm_cli.specs.declared.fault.Fault.{Fault}
 use Rattle.dm_cli.specs.Assembling.{IsAsmFault, text_refused, text_no_memory}
 use Rattle.dm_cli.specs.Debugging.{Converses, Debugs, IsConversation, conversed, no_buffer, ended, quits, answers, too_long, unread, no_memory, cut_off, unwritten, not_handed_on}

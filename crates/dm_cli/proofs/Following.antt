@@ -4,16 +4,16 @@ use Rattle.std.proofs.KnownBytes.{Appends-nil, Appends-trans}
 use Rattle.std.proofs.Math.Seq.{take-append-add}
 use Rattle.std.proofs.lemmas.List.{take-append-le}
 use Rattle.std.specs.Io.KnownBytes.{Appends}
-use Rattle.dm_out.specs.Out.{AppendsPart, HasFailed}
-use Rattle.dm_state.specs.declared.stop.Stop.{Stop}
-use Rattle.dm_state.specs.State.{State}
+use Rattle.dm_console.specs.writers.Out.{AppendsPart, HasFailed}
+use Rattle.dm_services.specs.declared.state.stop.Stop.{Stop}
+use Rattle.dm_services.specs.state.State.{State}
 use Rattle.dm_findings.specs.declared.finding.Found.{Found}
 use Rattle.dm_findings.specs.declared.report.Listed.{Listed}
 use Rattle.dm_findings.specs.Report.{Reported, report_of}
 use Rattle.dm_findings.proofs.Reports.{none-reported}
 use Rattle.dm_json.specs.declared.forms.Form.{Form}
 use Rattle.dm_json.specs.Forms.{end_in, found_in, lines_in, processes_in, summary_in, report_in}
-use Rattle.dm_processes.specs.declared.process.Process.{Process}
+use Rattle.dm_findings.specs.declared.processes.process.Process.{Process}
 use Rattle.dm_checker.specs.Checks.{IsReport, here}
 use Rattle.dm_checker.specs.Checking.{UnderWay, IsUnderWay, IsLonger, founds, going, had_ended}
 use Rattle.dm_cli.specs.Checking.{IsLost, all_in, some_steps, all_steps}

@@ -4,7 +4,7 @@ use Rattle.std.proofs.KnownBytes.{Appends-trans}
 use Rattle.std.proofs.Math.Seq.{take-append-add}
 use Rattle.std.proofs.lemmas.List.{take-append-le}
 use Rattle.std.specs.Io.KnownBytes.{Appends}
-use Rattle.dm_out.specs.Out.{AppendsPart, HasFailed}
+use Rattle.dm_console.specs.writers.Out.{AppendsPart, HasFailed}
 use Rattle.dm_cli.specs.Messages.{Prints, Stream, all, part}
 
 -- the first of two texts was printed in part

@@ -1,8 +1,8 @@
 -- A run of the machine of the options.
 use Rattle.std.proofs.Common.{ℕ, List, Option, Result}
 use Rattle.dm_options.specs.declared.command_line.MachineOptions.{MachineOptions}
-use Rattle.dm_state.specs.declared.stop.Stop.{Stop}
-use Rattle.dm_state.specs.State.{State}
+use Rattle.dm_services.specs.declared.state.stop.Stop.{Stop}
+use Rattle.dm_services.specs.state.State.{State}
 use Rattle.dm_cli.specs.declared.fault.Fault.{Fault}
 use Rattle.dm_cli.specs.Program.{Runs, ran, partly_written}
 use Rattle.dm_cli.specs.Starting.{IsStartedBy}

@@ -4,8 +4,8 @@ use Rattle.std.proofs.KnownBytes.{Consumes-trans, Consumes-nil, Appends-trans, A
 use Rattle.std.specs.Io.KnownBytes.{Appends, Consumes, IsAtEnd}
 use Rattle.dm_gdb.specs.Connections.{Connected, Takes, new_connection}
 use Rattle.dm_options.specs.declared.command_line.DebugOptions.{DebugOptions}
-use Rattle.dm_out.specs.Out.{AppendsPart, HasFailed}
-use Rattle.dm_state.specs.State.{State}
+use Rattle.dm_console.specs.writers.Out.{AppendsPart, HasFailed}
+use Rattle.dm_services.specs.state.State.{State}
 use Rattle.dm_cli.specs.declared.fault.Fault.{Fault}
 use Rattle.dm_cli.specs.declared.fault.Fault.TheVariants.{OutOfMemory}
 use Rattle.dm_cli.specs.Faults.{IsReadFault, IsWriteFault}

@@ -2,10 +2,10 @@
 use Rattle.std.proofs.Common.{◌≡◌, ℕ, Bool, true, false, List, Option, sym, subst, refl}
 use Rattle.std.proofs.KnownBytes.{Appends-kept, Keeps-refl}
 use Rattle.std.specs.Io.KnownBytes.{Appends, Keeps}
-use Rattle.dm_command.specs.Commands.{command_of}
+use Rattle.dm_requests.specs.commands.Commands.{command_of}
 use Rattle.dm_debug.specs.Debugged.{Debugged}
 use Rattle.dm_debug.specs.Sessions.{IsAnswered, IsCutOff, IsPartlyWritten, is_syntax, is_full}
-use Rattle.dm_out.specs.Out.{AppendsPart, HasFailed}
+use Rattle.dm_console.specs.writers.Out.{AppendsPart, HasFailed}
 use Rattle.dm_cli.specs.declared.fault.Fault.{Fault}
 use Rattle.dm_cli.specs.declared.fault.Fault.TheVariants.{OutOfMemory}
 use Rattle.dm_cli.specs.Faults.{IsWriteFault}

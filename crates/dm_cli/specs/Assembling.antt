@@ -6,12 +6,12 @@ use Rattle.dm_asm.specs.declared.refusal.AssemblyRefusal.{AssemblyRefusal}
 use Rattle.dm_asm.specs.Programs.{Refuses}
 use Rattle.dm_asm.specs.Programs as asm
 use Rattle.dm_options.specs.declared.command_line.AsmOptions.{AsmOptions}
-use Rattle.dm_out.specs.Out.{AppendsPart, HasFailed}
+use Rattle.dm_console.specs.writers.Out.{AppendsPart, HasFailed}
 use Rattle.dm_cli.specs.declared.fault.Fault.{Fault}
 use Rattle.dm_cli.specs.declared.fault.Fault.TheVariants.{OutOfMemory, TooLong}
 use Rattle.dm_cli.specs.Faults.{IsUnwritten, IsWriteFault, refusal_fault}
 use Rattle.dm_cli.specs.Saving.{Saves}
-use Rattle.dm_disassembler.specs.Listing.{IsListing}
+use Rattle.dm_text.specs.disassembly.Listing.{IsListing}
 use Rattle.dm_cli.specs.Stores.{IsInputFault, IsRead}
 
 -- these are the bytes of the program whose assembly text is in the file

@@ -2,15 +2,15 @@
 use Rattle.std.specs.Prelude.{ℕ, ◌≡◌, ◌≤◌, ◌++◌, not, nat_lt, Bool, if◌then◌else◌, List, [], ◌∷◌, Option, Some, Result, Ok, Err, codes}
 use Rattle.std.specs.Io.KnownBytes.{Appends, Keeps}
 use Rattle.dm_options.specs.declared.command_line.CheckOptions.{CheckOptions}
-use Rattle.dm_out.specs.Out.{AppendsPart, HasFailed}
-use Rattle.dm_state.specs.declared.stop.Stop.{Stop}
-use Rattle.dm_state.specs.State.{State}
+use Rattle.dm_console.specs.writers.Out.{AppendsPart, HasFailed}
+use Rattle.dm_services.specs.declared.state.stop.Stop.{Stop}
+use Rattle.dm_services.specs.state.State.{State}
 use Rattle.dm_machine.specs.Run.{IsRun}
 use Rattle.dm_findings.specs.declared.finding.Found.{Found}
 use Rattle.dm_findings.specs.Report.{Reported, report_of}
 use Rattle.dm_json.specs.declared.forms.Form.{Form}
 use Rattle.dm_json.specs.Forms.{form_of, lines_in, report_in, processes_in, end_in}
-use Rattle.dm_processes.specs.declared.process.Process.{Process}
+use Rattle.dm_findings.specs.declared.processes.process.Process.{Process}
 use Rattle.dm_checker.specs.Checks.{FindsIn, IsReport, reported}
 use Rattle.dm_checker.specs.Processes.{AreProcesses}
 use Rattle.dm_cli.specs.declared.fault.Fault.{Fault}

@@ -2,13 +2,13 @@
 use Rattle.std.specs.Prelude.{Bool, ℕ, ◌≡◌, ◌≢◌, ◌-◌, ◌<◌, ◌≤◌, ◌++◌, ◌⊎◌, true, false, List, [], ◌∷◌, Option, Some, None, IfSome, option_map, codes, length, take}
 use Rattle.std.specs.Io.BufRead.{take_through, drop_through, first_piece}
 use Rattle.std.specs.Io.KnownBytes.{Appends, Keeps}
-use Rattle.dm_command.specs.declared.command.Command.{Command}
-use Rattle.dm_command.specs.Commands.{command_of}
+use Rattle.dm_requests.specs.declared.commands.command.Command.{Command}
+use Rattle.dm_requests.specs.commands.Commands.{command_of}
 use Rattle.dm_debug.specs.Debugged.{Debugged}
 use Rattle.dm_debug.specs.Sessions.{Does, IsCutOff, is_syntax, is_full, new_session}
 use Rattle.dm_options.specs.declared.command_line.DebugOptions.{DebugOptions}
-use Rattle.dm_out.specs.Out.{HasFailed}
-use Rattle.dm_state.specs.State.{State}
+use Rattle.dm_console.specs.writers.Out.{HasFailed}
+use Rattle.dm_services.specs.state.State.{State}
 use Rattle.dm_cli.specs.Faults.{IsReadFault, IsWriteFault}
 use Rattle.dm_cli.specs.Starting.{IsStartedBy, IsStartFault, typed_in}
 use Rattle.dm_cli.specs.declared.fault.Fault.{Fault}

@@ -1,6 +1,6 @@
 -- Reads of files that fail, and the fault that comes of one.
 use Rattle.std.specs.Prelude.{ℕ, ◌≡◌, ◌⊎◌, List, Option, Some, None, Result, Ok, Err, codes}
-use Rattle.dm_out.specs.Out.{HasFailed}
+use Rattle.dm_console.specs.writers.Out.{HasFailed}
 use Rattle.dm_cli.specs.declared.fault.Fault.{Fault}
 use Rattle.dm_cli.specs.declared.fault.Fault.TheVariants as fault
 use Rattle.dm_cli.specs.Names.{IsFileName, last_part}

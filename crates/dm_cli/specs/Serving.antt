@@ -4,8 +4,8 @@ use Rattle.std.specs.Prelude.{Bool, ℕ, suc, ◌≡◌, ◌≢◌, ◌≤◌, �
 use Rattle.std.specs.Io.KnownBytes.{Appends, Keeps}
 use Rattle.dm_gdb.specs.Connections.{Connected, Takes, new_connection}
 use Rattle.dm_options.specs.declared.command_line.DebugOptions.{DebugOptions}
-use Rattle.dm_out.specs.Out.{HasFailed}
-use Rattle.dm_state.specs.State.{State}
+use Rattle.dm_console.specs.writers.Out.{HasFailed}
+use Rattle.dm_services.specs.state.State.{State}
 use Rattle.dm_cli.specs.Faults.{IsReadFault, IsWriteFault}
 use Rattle.dm_cli.specs.Starting.{IsStartedBy, IsStartFault, typed_in}
 use Rattle.dm_cli.specs.declared.fault.Fault.{Fault}

@@ -1,7 +1,7 @@
 -- The exit statuses of `dm`.
 use Rattle.std.specs.Prelude.{ℕ, Result, Ok, Err, Option, Some, None}
-use Rattle.dm_state.specs.declared.stop.Stop.{Stop}
-use Rattle.dm_state.specs.declared.stop.Stop.TheVariants.{Exited}
+use Rattle.dm_services.specs.declared.state.stop.Stop.{Stop}
+use Rattle.dm_services.specs.declared.state.stop.Stop.TheVariants.{Exited}
 
 -- the exit status of a run that ended with a stop: the program's exit code, or 125 for any stop but `Exited`
 abbrev pub stop_status : Stop → ℕ

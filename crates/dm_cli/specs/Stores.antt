@@ -8,7 +8,7 @@ use Rattle.dm_machine.specs.Start.{IsNew, IsLoaded}
 use Rattle.dm_proc.specs.Programs.{IsName, has_name}
 use Rattle.dm_pool.specs.declared.sizes.Sizes.{Sizes}
 use Rattle.dm_pool.specs.Stored.{IsTooLarge}
-use Rattle.dm_state.specs.State.{State}
+use Rattle.dm_services.specs.state.State.{State}
 
 -- these are all bytes of a file or of standard input, at most 16 MiB; `known` is what it holds, where that is known
 pub record IsRead (known : Option (List ℕ)) (bytes : List ℕ) : Type 0 where

@@ -9,7 +9,7 @@ use crate::files::{Storage, read_file, write_fault};
 use dm_asm::{assemble, disassemble};
 use dm_machine::Out;
 use dm_options::command_line::AsmOptions;
-use dm_out::write_all;
+use dm_console::writers::write_all;
 use std::alloc::Global;
 
 /// The largest number of bytes of a program that `dm disasm` lists.

@@ -9,7 +9,7 @@ ghost use Rattle.dm_cli.specs.Checking.{Checks, IsLost, checked_status, told_sta
 ghost use Rattle.dm_cli.specs.Messages.{HasPrinted, Stream};
 ghost use Rattle.dm_cli.specs.Reads.{IsKept, ReadsFiles, TellsOfNoFile, fault_if};
 ghost use Rattle.dm_cli.specs.inner.Checking.{ChecksRun, HasFollowed};
-ghost use Rattle.dm_state.specs.State.{HasProgram, State};
+ghost use Rattle.dm_services.specs.state.State.{HasProgram, State};
 
 use crate::commands::{FAULT, status_of_stop};
 use crate::fault::Fault;
@@ -21,8 +21,8 @@ use dm_findings::Report;
 use dm_json::{Form, form_of, put_end_in, put_lines_in, put_processes_in, put_summary_in};
 use dm_machine::{Machine, Out, Stop};
 use dm_options::command_line::CheckOptions;
-use dm_out::write_all;
-use dm_processes::Process;
+use dm_console::writers::write_all;
+use dm_findings::processes::Process;
 use std::alloc::{AllocError, Global};
 use std::io::Read;
 

@@ -8,7 +8,7 @@ ghost use Rattle.dm_cli.specs.Reads.{IsKept, ReadsFiles, TellsOfNoFile, fault_if
 ghost use Rattle.dm_cli.specs.Statuses.{status_after, status_of, stop_status};
 ghost use Rattle.dm_cli.specs.inner.Program.{RunsMachine};
 ghost use Rattle.dm_cli.specs.inner.Statuses.{end_of};
-ghost use Rattle.dm_state.specs.State.{HasProgram};
+ghost use Rattle.dm_services.specs.state.State.{HasProgram};
 
 use crate::assembling::{asm, disasm};
 use crate::checking::check;

@@ -2,7 +2,7 @@
 ghost use Rattle.std.specs.Prelude.{◌≡◌, ◌<◌, ◌≤◌, ◌⊎◌, ◌↔◌, Some, None, IfErr, IfOk, IsTrue, OnOk, length};
 ghost use Rattle.std.specs.Io.BufRead.{ends_with_byte, strip_last};
 ghost use Rattle.std.specs.Io.KnownBytes.{Appends};
-ghost use Rattle.dm_out.specs.Out.{AppendsPart, HasFailed};
+ghost use Rattle.dm_console.specs.writers.Out.{AppendsPart, HasFailed};
 ghost use Rattle.dm_cli.specs.Reads.{IsKept, ReadsFiles};
 ghost use Rattle.dm_cli.specs.inner.Statuses.{end_of};
 ghost use Rattle.dm_cli.specs.Debugging.{Debugs, IsConversation, IsQuit};
@@ -15,7 +15,7 @@ use crate::loading::loaded_for_debug;
 use dm_debug::{CommandRefusal, Session};
 use dm_machine::Out;
 use dm_options::command_line::DebugOptions;
-use dm_out::write_all;
+use dm_console::writers::write_all;
 use std::alloc::Global;
 use std::io::{BufRead, BufReader, Read};
 

@@ -1,7 +1,7 @@
 //! Reading whole files and standard input, and writing whole files.
 ghost use Rattle.std.specs.Prelude.{◌≡◌, ◌≢◌, ◌⊎◌, ℕ, List, Option, Some, None, IfErr, IfOk, IfSome, OnErr, OnOk, take};
 ghost use Rattle.std.specs.IoError.{error_kind};
-ghost use Rattle.dm_out.specs.Out.{count_after_call};
+ghost use Rattle.dm_console.specs.writers.Out.{count_after_call};
 ghost use Rattle.dm_cli.specs.Saving.{Saves};
 ghost use Rattle.dm_cli.specs.Reads.{IsKept, ReadsFiles, fault_if};
 ghost use Rattle.dm_cli.specs.Faults.{IsUnread, IsUnwritten};

@@ -15,6 +15,6 @@ mod serving;
 
 pub use commands::{dm_main, refuse_words};
 pub use dm_options::{command_line, options};
-pub use dm_out::Sink;
+pub use dm_console::writers::Sink;
 pub use files::{Storage, System};
 pub use output::{WriteFault, run_program};

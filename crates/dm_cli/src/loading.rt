@@ -4,7 +4,7 @@ ghost use Rattle.dm_cli.specs.Reads.{IsKept, ReadsFiles, TellsOfNoFile, fault_if
 ghost use Rattle.dm_cli.specs.inner.Starting.{IsFirstFault, IsFirstLoaded};
 ghost use Rattle.dm_cli.specs.Starting.{IsFileFault, IsMachineFault, IsStartFault, IsStartedBy, paths_of, sizes_of, typed_in};
 ghost use Rattle.dm_cli.specs.Stores.{AddsFile, IsBegun, IsFaultOf, IsInputFault, IsRead, Stores, bytes_if_any};
-ghost use Rattle.dm_state.specs.State.{HasProgram};
+ghost use Rattle.dm_services.specs.state.State.{HasProgram};
 
 use crate::fault::Fault;
 use crate::files::{Storage, read_file, read_whole};

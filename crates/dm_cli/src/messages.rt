@@ -1,13 +1,13 @@
 //! What `dm` prints on standard error.
 ghost use Rattle.std.specs.Prelude.{◌≡◌, ◌++◌, List, ℕ, OnErr, OnOk, codes, decimal};
 ghost use Rattle.std.specs.Io.KnownBytes.{Appends};
-ghost use Rattle.dm_out.specs.Out.{AppendsPart, HasFailed};
+ghost use Rattle.dm_console.specs.writers.Out.{AppendsPart, HasFailed};
 ghost use Rattle.dm_cli.specs.Faults.{fault_line};
 ghost use Rattle.dm_cli.specs.Messages.{Prints, HasPrinted, Stream, stop_text};
 
 use crate::fault::Fault;
 use dm_machine::{Out, Stop};
-use dm_out::{Failed, write_all};
+use dm_console::writers::{Failed, write_all};
 use itoa::Buffer;
 use std::io;
 use std::io::{ErrorKind, Write};

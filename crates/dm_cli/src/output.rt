@@ -1,13 +1,13 @@
 //! Running a program and writing its output.
 ghost use Rattle.std.specs.Prelude.{◌≡◌, IfOk, OnErr, OnOk};
 ghost use Rattle.std.specs.Io.KnownBytes.{Appends};
-ghost use Rattle.dm_out.specs.Out.{AppendsPart, HasFailed};
+ghost use Rattle.dm_console.specs.writers.Out.{AppendsPart, HasFailed};
 ghost use Rattle.dm_machine.specs.Run.{IsRun};
-ghost use Rattle.dm_state.specs.State.{HasProgram};
-ghost use Rattle.dm_state.specs.declared.stop.Stop.{Stop};
+ghost use Rattle.dm_services.specs.state.State.{HasProgram};
+ghost use Rattle.dm_services.specs.declared.state.stop.Stop.{Stop};
 
 use dm_machine::{Machine, Out, Stop};
-use dm_out::write_all;
+use dm_console::writers::write_all;
 use thiserror::Error;
 
 /// The output was not written whole, because a write failed or took no byte.

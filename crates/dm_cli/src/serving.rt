@@ -1,8 +1,8 @@
 //! `dm gdb`: the bytes of standard input are taken one by one, and what is sent for each is written to standard output.
 ghost use Rattle.std.specs.Prelude.{◌≡◌, ◌≢◌, ◌≤◌, ◌⊎◌, [], IfErr, IfOk, OnErr, OnOk};
 ghost use Rattle.std.specs.Io.KnownBytes.{Appends};
-ghost use Rattle.dm_state.specs.State.{HasProgram};
-ghost use Rattle.dm_out.specs.Out.{AppendsPart, HasFailed};
+ghost use Rattle.dm_services.specs.state.State.{HasProgram};
+ghost use Rattle.dm_console.specs.writers.Out.{AppendsPart, HasFailed};
 ghost use Rattle.dm_cli.specs.Faults.{IsReadFault, IsWriteFault};
 ghost use Rattle.dm_cli.specs.Reads.{IsKept, ReadsFiles};
 ghost use Rattle.dm_cli.specs.Serving.{DebugsByGdb, IsServed};
@@ -15,7 +15,7 @@ use crate::loading::loaded_for_debug;
 use dm_gdb::Connection;
 use dm_machine::Out;
 use dm_options::command_line::DebugOptions;
-use dm_out::write_all;
+use dm_console::writers::write_all;
 use std::alloc::Global;
 use std::io::{BufReader, Read};
 

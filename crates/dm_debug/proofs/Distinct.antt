@@ -9,7 +9,7 @@ use Rattle.std.proofs.lemmas.List.Edits.{get_or-remove_below, get_or-remove_abov
 use Rattle.std.proofs.lemmas.List.Quantifiers.{all_pairs_push, all_pairs_remove, position-Some}
 use Rattle.std.proofs.lemmas.List.Sums.{fails_before_first, position_or_len_is}
 use Rattle.std.proofs.lemmas.Option.{none-some}
-use Rattle.dm_command.specs.declared.command.LogicalAddress.{LogicalAddress}
+use Rattle.dm_requests.specs.declared.commands.command.LogicalAddress.{LogicalAddress}
 use Rattle.dm_machine.specs.declared.until.Breakpoint.{Breakpoint}
 use Rattle.dm_debug.specs.Points.{point_at, is_point, is_set, cleared, AreDistinct}
 

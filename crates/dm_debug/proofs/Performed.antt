@@ -1,7 +1,7 @@
 -- What a command does, from what its parts do.
 use Rattle.std.proofs.Common.{◌≡◌, ℕ, List, [], ◌++◌, Result, Ok, Err, sym, ◌∙◌, ap, subst}
 use Rattle.std.specs.Prelude.{OnOk}
-use Rattle.dm_command.specs.declared.command.Command.{Command}
+use Rattle.dm_requests.specs.declared.commands.command.Command.{Command}
 use Rattle.dm_debug.specs.Debugged.{Debugged}
 use Rattle.dm_debug.specs.Sessions.{Displays, Does, shows, DoesPart}
 

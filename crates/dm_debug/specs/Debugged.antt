@@ -1,6 +1,6 @@
 -- A debugging session as contracts see it.
 use Rattle.std.specs.Prelude.{List}
-use Rattle.dm_state.specs.State.{State}
+use Rattle.dm_services.specs.state.State.{State}
 use Rattle.dm_machine.specs.declared.until.Breakpoint.{Breakpoint}
 
 -- a debugging session: the state of its machine, and its breakpoints

@@ -1,6 +1,6 @@
 -- Console input that comes while a program runs.
 use Rattle.std.specs.Prelude.{Bool, ℕ, List, ◌++◌}
-use Rattle.dm_state.specs.State.{State}
+use Rattle.dm_services.specs.state.State.{State}
 
 -- the machine with this said of its console input: whether more may come after what is left
 abbrev pub with_more : State → Bool → State

@@ -1,3 +1,4 @@
+pub mod stops
 pub mod Debugged
 pub mod Points
 pub mod Runs

@@ -1,7 +1,7 @@
 -- The breakpoints of a debugging session, in the order of setting.
 use Rattle.std.specs.Prelude.{◌≢◌, ℕ, Bool, false, ◌&&◌, ◌==◌, nat_le, if◌then◌else◌, List, [], ◌∷◌, ◌++◌, length, position, remove, is_some, AllPairs, Option, Some, None}
 use Rattle.std.specs.List.{flat_map}
-use Rattle.dm_command.specs.declared.command.LogicalAddress.{LogicalAddress}
+use Rattle.dm_requests.specs.declared.commands.command.LogicalAddress.{LogicalAddress}
 use Rattle.dm_machine.specs.declared.until.Breakpoint.{Breakpoint}
 use Rattle.dm_views.specs.Digits.{address_text}
 

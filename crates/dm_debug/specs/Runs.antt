@@ -1,9 +1,9 @@
 -- What the debugger's commands G and T do, and what they print.
 -- Source: MS-DOS User's Reference, "DEBUG" (Go, Trace). The words are this machine's own.
 use Rattle.std.specs.Prelude.{◌≡◌, ℕ, ◌+◌, ◌<◌, ◌≤◌, List, [], ◌∷◌, ◌++◌, codes, Option, Some, None}
-use Rattle.dm_state.specs.declared.stop.Stop.{Stop}
-use Rattle.dm_state.specs.declared.stop.Stop.TheVariants as stop
-use Rattle.dm_state.specs.State.{State}
+use Rattle.dm_services.specs.declared.state.stop.Stop.{Stop}
+use Rattle.dm_services.specs.declared.state.stop.Stop.TheVariants as stop
+use Rattle.dm_services.specs.state.State.{State}
 use Rattle.dm_machine.specs.declared.until.Breakpoint.{Breakpoint}
 use Rattle.dm_machine.specs.Run.{Answers}
 use Rattle.dm_machine.specs.Until.{RunsUntil}

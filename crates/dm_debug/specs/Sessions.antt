@@ -2,16 +2,16 @@
 -- Source: MS-DOS User's Reference, "DEBUG". The forms, breakpoints and listings beyond it are this machine's own.
 use Rattle.std.specs.Prelude.{◌≡◌, ℕ, Bool, true, false, not, List, [], ◌∷◌, ◌++◌, codes, Option, Some, None}
 use Rattle.std.specs.Io.KnownBytes.{Appends}
-use Rattle.dm_out.specs.Out.{AppendsPart}
+use Rattle.dm_console.specs.writers.Out.{AppendsPart}
 use Rattle.dm_space.specs.Buffers.{with_bytes}
-use Rattle.dm_state.specs.declared.stop.Stop.{Stop}
-use Rattle.dm_state.specs.State.{State}
+use Rattle.dm_services.specs.declared.state.stop.Stop.{Stop}
+use Rattle.dm_services.specs.state.State.{State}
 use Rattle.dm_machine.specs.declared.until.Breakpoint.{Breakpoint}
 use Rattle.dm_machine.specs.Until.{RunsUntil}
-use Rattle.dm_command.specs.declared.command.LogicalAddress.{LogicalAddress}
-use Rattle.dm_command.specs.declared.command.Command.{Command}
-use Rattle.dm_command.specs.declared.command.Command.TheVariants as c
-use Rattle.dm_command.specs.Commands.{command_of}
+use Rattle.dm_requests.specs.declared.commands.command.LogicalAddress.{LogicalAddress}
+use Rattle.dm_requests.specs.declared.commands.command.Command.{Command}
+use Rattle.dm_requests.specs.declared.commands.command.Command.TheVariants as c
+use Rattle.dm_requests.specs.commands.Commands.{command_of}
 use Rattle.dm_views.specs.Registers.{IsRegistersText}
 use Rattle.dm_views.specs.Code.{IsCode}
 use Rattle.dm_views.specs.Bytes.{bytes_text}

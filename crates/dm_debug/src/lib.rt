@@ -2,6 +2,7 @@
 //! for.
 #![tactic(auto)]
 
+pub mod stops;
 mod input;
 mod laws;
 mod listings;

@@ -2,8 +2,8 @@
 
 ghost use Rattle.std.specs.Prelude.{◌≡◌, ◌≤◌, ◌++◌, List, ℕ, Option, OnOk, OnErr};
 ghost use Rattle.dm_space.specs.Buffers.{with_bytes};
-ghost use Rattle.dm_state.specs.declared.stop.Stop.{Stop};
-ghost use Rattle.dm_state.specs.State.{HasProgram};
+ghost use Rattle.dm_services.specs.declared.state.stop.Stop.{Stop};
+ghost use Rattle.dm_services.specs.state.State.{HasProgram};
 ghost use Rattle.dm_machine.specs.Until.{RunsUntil};
 ghost use Rattle.dm_debug.specs.Runs.{stop_text, stop_line, GoesTo, Traces, IsTrace, TracesPart};
 

@@ -2,10 +2,10 @@
 
 ghost use Rattle.std.specs.Prelude.{◌≡◌, ◌++◌, ◌↔◌, ◌⊎◌, [], true, false, IfOk, OnOk, OnErr, IsErrOf};
 ghost use Rattle.dm_space.specs.Buffers.{with_bytes};
-ghost use Rattle.dm_state.specs.State.{HasProgram};
-ghost use Rattle.dm_out.specs.Out.{HasFailed};
-ghost use Rattle.dm_command.specs.declared.command.Command.TheVariants.{Break};
-ghost use Rattle.dm_command.specs.Commands.{command_of};
+ghost use Rattle.dm_services.specs.state.State.{HasProgram};
+ghost use Rattle.dm_console.specs.writers.Out.{HasFailed};
+ghost use Rattle.dm_requests.specs.declared.commands.command.Command.TheVariants.{Break};
+ghost use Rattle.dm_requests.specs.commands.Commands.{command_of};
 ghost use Rattle.dm_machine.specs.Run.{IsRun};
 ghost use Rattle.dm_machine.specs.Until.{RunsUntil};
 ghost use Rattle.dm_debug.specs.Points.{with_point, without_point};
@@ -15,9 +15,9 @@ use crate::listings::{arena, dump, extended, output, pages, put_machine, unassem
 use crate::points::{Points, put_points};
 use crate::refusal::CommandRefusal;
 use crate::runs::{enter, go, trace};
-use dm_command::{Bytes, Command, LogicalAddress, read_command};
+use dm_requests::commands::{Bytes, Command, LogicalAddress, read_command};
 use dm_machine::{Breakpoint, Cpu, Machine, Out, Stop};
-use dm_out::write_all;
+use dm_console::writers::write_all;
 use std::alloc::{AllocError, Global};
 use std::marker::Model;
 

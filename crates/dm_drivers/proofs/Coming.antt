@@ -4,7 +4,7 @@ use Rattle.dm_ems.proofs.Coming as new_handles
 use Rattle.dm_ems_move.proofs.Coming as other_numbers
 use Rattle.dm_xms.specs.Tables.{extended}
 use Rattle.dm_xms.proofs.Coming as new_blocks
-use Rattle.dm_state.proofs.Numbers.{page_numbers, block_numbers}
+use Rattle.dm_services.proofs.state.Numbers.{page_numbers, block_numbers}
 use Rattle.dm_drivers.specs.Laws.{PagesCome, BlockComes}
 
 pub pages : PagesCome

@@ -1,13 +1,13 @@
 -- What the drivers keep.
 use Rattle.std.proofs.Common.{◌≡◌, refl}
-use Rattle.dm_ems_calls.proofs.Keeping as expanded_memory
-use Rattle.dm_xms_calls.proofs.Keeping as extended_memory
-use Rattle.dm_state.specs.State.{State, AreConsistent, go}
-use Rattle.dm_state.proofs.Consistent.{expanded_changed, extended_changed, returned_consistent, far_returned_consistent}
+use Rattle.dm_drivers.proofs.expanded.Keeping as expanded_memory
+use Rattle.dm_drivers.proofs.extended.Keeping as extended_memory
+use Rattle.dm_services.specs.state.State.{State, AreConsistent, go}
+use Rattle.dm_services.proofs.state.Consistent.{expanded_changed, extended_changed, returned_consistent, far_returned_consistent}
 use Rattle.dm_space.specs.declared.entry_points.Driver.{Driver}
 use Rattle.dm_space.specs.declared.entry_points.Driver.TheVariants.{ExpandedMemory, Multiplex, ExtendedMemory}
-use Rattle.dm_ems_calls.specs.Caller as expanded
-use Rattle.dm_xms_calls.specs.Caller as extended
+use Rattle.dm_drivers.specs.expanded.Caller as expanded
+use Rattle.dm_drivers.specs.extended.Caller as extended
 use Rattle.dm_drivers.specs.Drivers.{acted, given_back, driven}
 use Rattle.dm_drivers.specs.Laws.{LeavesTheRest, DriversKeep}
 

@@ -1,10 +1,10 @@
 -- The drivers: what each does, and how it returns. Interrupt vector 67h points to the expanded memory driver (LIM EMS
 -- 4.0), vector 2Fh to the multiplex handler, which returns the address of the extended memory driver (XMS 3.0).
-use Rattle.dm_ems_calls.specs.Caller as expanded
-use Rattle.dm_ems_calls.specs.Functions as expanded_memory
-use Rattle.dm_xms_calls.specs.Caller as extended
-use Rattle.dm_xms_calls.specs.Functions as extended_memory
-use Rattle.dm_state.specs.State.{State, Answer, go, interrupt_returned, far_returned}
+use Rattle.dm_drivers.specs.expanded.Caller as expanded
+use Rattle.dm_drivers.specs.expanded.Functions as expanded_memory
+use Rattle.dm_drivers.specs.extended.Caller as extended
+use Rattle.dm_drivers.specs.extended.Functions as extended_memory
+use Rattle.dm_services.specs.state.State.{State, Answer, go, interrupt_returned, far_returned}
 use Rattle.dm_space.specs.declared.entry_points.Driver.{Driver}
 use Rattle.dm_space.specs.declared.entry_points.Driver.TheVariants.{ExpandedMemory, Multiplex, ExtendedMemory}
 use Rattle.dm_drivers.specs.Multiplex.{multiplex_reply}

@@ -10,7 +10,7 @@ use Rattle.dm_ems_move.specs.Reallocation.{reallocate}
 use Rattle.dm_xms.specs.Tables.{extended}
 use Rattle.dm_xms.specs.Blocks as extended_memory
 use Rattle.dm_xms.specs.Coming.{Gives}
-use Rattle.dm_state.specs.State.{State, Answer, AreConsistent}
+use Rattle.dm_services.specs.state.State.{State, Answer, AreConsistent}
 use Rattle.dm_space.specs.declared.entry_points.Driver.{Driver}
 use Rattle.dm_drivers.specs.Drivers.{driven}
 

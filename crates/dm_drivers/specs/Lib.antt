@@ -1,3 +1,5 @@
+pub mod extended
+pub mod expanded
 pub mod Multiplex
 pub mod Drivers
 pub mod Laws

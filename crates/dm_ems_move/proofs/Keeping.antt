@@ -8,9 +8,9 @@ use Rattle.dm_ems.specs.Consistent.{IsUsed, IsConsistent}
 use Rattle.dm_ems.specs.Calls.{slot, with_memory}
 use Rattle.dm_space.specs.Memory.{Memory}
 use Rattle.dm_space.specs.Places.{IsShaped}
-use Rattle.dm_moves.specs.Spans.{Span}
-use Rattle.dm_moves.specs.Overlaps.{overlap}
-use Rattle.dm_moves.proofs.Shapes.{moves_keep as moves_keep_map}
+use Rattle.dm_space.specs.moves.Spans.{Span}
+use Rattle.dm_space.specs.moves.Overlaps.{overlap}
+use Rattle.dm_space.proofs.moves.Shapes.{moves_keep as moves_keep_map}
 use Rattle.dm_ems.proofs.Consistent.{consistent_cut, consistent_appended}
 use Rattle.dm_ems.proofs.Keeping.{Keeps, if_keeps, else_keeps, need_keeps, has_room, refused, with_shown, writes_keep}
 use Rattle.dm_ems_move.specs.Steps.{and_then}

@@ -8,9 +8,9 @@ use Rattle.dm_ems.specs.declared.status.Status.TheVariants.{OverTotal, OverFree,
 use Rattle.dm_ems.specs.Tables.{Expanded, page_count, unallocated, blocks_of, cut, appended}
 use Rattle.dm_ems.specs.Outside.{LeavesOutside}
 use Rattle.dm_ems.specs.Calls.{slot, with_memory}
-use Rattle.dm_moves.specs.Spans.{Span}
-use Rattle.dm_moves.specs.Overlaps.{overlap}
-use Rattle.dm_moves.proofs.Shapes.{moves_keep as moves_keep_map}
+use Rattle.dm_space.specs.moves.Spans.{Span}
+use Rattle.dm_space.specs.moves.Overlaps.{overlap}
+use Rattle.dm_space.proofs.moves.Shapes.{moves_keep as moves_keep_map}
 use Rattle.dm_ems.proofs.Leaving.{Leaves, if_leaves, need_leaves, refused, leaves_all, leaves_then, leaves_windows, leaves_shaped, appended_leaves, cut_leaves}
 use Rattle.dm_ems_move.specs.Steps.{and_then}
 use Rattle.dm_ems_move.specs.Reallocation.{reallocate, reallocated, with_count}

@@ -3,7 +3,7 @@ use Rattle.std.proofs.Common.{◌≡◌, ℕ, zero, suc, ◌+◌, ◌*◌, Bool,
 use Rattle.std.specs.Prelude.{Err}
 use Rattle.dm_space.specs.Memory.{Memory}
 use Rattle.dm_ems.specs.declared.status.Status.{Status}
-use Rattle.dm_moves.specs.Buffers.{word_after}
+use Rattle.dm_space.specs.moves.Buffers.{word_after}
 use Rattle.dm_ems_move.specs.Steps.{and_then}
 use Rattle.dm_ems_move.specs.Many.{paired, after_pairs}
 

@@ -6,7 +6,7 @@ use Rattle.std.proofs.lemmas.Option.{slice_get-get_or}
 use Rattle.std.proofs.lemmas.List.{length-map}
 use Rattle.std.proofs.lemmas.List.Sums.{length-filter, count_by-le-length}
 use Rattle.dm_space.specs.Memory.{Memory, IsPage}
-use Rattle.dm_moves.specs.Spans.{Span, IsInside}
+use Rattle.dm_space.specs.moves.Spans.{Span, IsInside}
 use Rattle.dm_ems.specs.declared.status.Status.{Status}
 use Rattle.dm_ems.specs.declared.status.Status.TheVariants.{UnknownHandle, NoSuchPage, PastPages, OffsetPastPage, UnknownKind, PastMemory}
 use Rattle.dm_ems.specs.declared.tables.Page.{Page}

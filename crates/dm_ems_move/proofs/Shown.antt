@@ -14,7 +14,7 @@ use Rattle.dm_ems.specs.Calls.{need}
 use Rattle.dm_ems.specs.Names.{writing}
 use Rattle.dm_ems.proofs.Owned.{each_block}
 use Rattle.dm_ems.proofs.Keeping.{window_set, writes_keep}
-use Rattle.dm_moves.specs.Buffers.{word_after}
+use Rattle.dm_space.specs.moves.Buffers.{word_after}
 use Rattle.dm_ems_move.specs.Steps.{and_then}
 use Rattle.dm_ems_move.specs.Many.{window_of, paired, after_pairs}
 use Rattle.dm_ems_move.specs.Maps.{when, meant, meant_at, map_at}

@@ -6,7 +6,7 @@ use Rattle.dm_ems.specs.declared.status.Status.{Status}
 use Rattle.dm_ems.specs.declared.status.Status.TheVariants.{UnknownHandle, NoSubfunction, NoSuchPage, NoSuchWindow}
 use Rattle.dm_ems.specs.Tables.{Expanded, blocks_of, with_windows}
 use Rattle.dm_ems.specs.Calls.{need, slot, with_memory}
-use Rattle.dm_moves.specs.Buffers.{word_after}
+use Rattle.dm_space.specs.moves.Buffers.{word_after}
 use Rattle.dm_ems_move.specs.Steps.{and_then}
 
 -- the window, 0 to 3, that a value names: by its segment (true), E000h, E400h, E800h or EC00h, or by its number

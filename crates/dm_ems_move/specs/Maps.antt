@@ -9,7 +9,7 @@ use Rattle.dm_ems.specs.Tables.{Tables, Expanded, blocks_of, with_windows}
 use Rattle.dm_ems.specs.Readers.{numbers_of}
 use Rattle.dm_ems.specs.Calls.{need, with_memory}
 use Rattle.dm_ems.specs.Names.{word_bytes, writing}
-use Rattle.dm_moves.specs.Buffers.{word_after}
+use Rattle.dm_space.specs.moves.Buffers.{word_after}
 
 -- ---- from windows to bytes
 

@@ -3,10 +3,10 @@
 use Rattle.std.specs.Prelude.{ℕ, ◌+◌, ◌*◌, Bool, true, false, nat_lt, nat_le, ◌==◌, if◌then◌else◌, [], slice_index_or, None, Result, Ok, Err}
 use Rattle.dm_space.specs.Memory.{Memory}
 use Rattle.dm_space.specs.EightBytes.{byte_after}
-use Rattle.dm_moves.specs.declared.spans.SpanKind.{SpanKind}
-use Rattle.dm_moves.specs.declared.spans.SpanKind.TheVariants.{Linear, Pages, Single}
-use Rattle.dm_moves.specs.Spans.{Span, span, span_moved, spans_exchanged}
-use Rattle.dm_moves.specs.Overlaps.{overlap}
+use Rattle.dm_space.specs.declared.moves.spans.SpanKind.{SpanKind}
+use Rattle.dm_space.specs.declared.moves.spans.SpanKind.TheVariants.{Linear, Pages, Single}
+use Rattle.dm_space.specs.moves.Spans.{Span, span, span_moved, spans_exchanged}
+use Rattle.dm_space.specs.moves.Overlaps.{overlap}
 use Rattle.dm_ems.specs.declared.status.Status.{Status}
 use Rattle.dm_ems.specs.declared.status.Status.TheVariants.{UnknownHandle, NoSuchPage, PastPages, KindsOverlap, OffsetPastPage, TooLong, ExchangeOverlaps, UnknownKind, PastMemory}
 use Rattle.dm_ems.specs.Tables.{Tables, Expanded, blocks_of, page_count}
@@ -14,7 +14,7 @@ use Rattle.dm_ems.specs.Calls.{need, with_memory}
 use Rattle.dm_ems_move.specs.declared.description.Description.{Description}
 use Rattle.dm_ems_move.specs.declared.region_moves.Moved.{Moved}
 use Rattle.dm_ems_move.specs.declared.region_moves.Moved.TheVariants as moved_is
-use Rattle.dm_moves.specs.Buffers.{word_after}
+use Rattle.dm_space.specs.moves.Buffers.{word_after}
 use Rattle.dm_ems_move.specs.Steps.{and_then}
 
 -- ---- the structure at segment:offset: the length, a double word; then source and destination, seven bytes each

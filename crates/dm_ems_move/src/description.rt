@@ -4,7 +4,7 @@
 ghost use Rattle.std.specs.Prelude.{◌≡◌, ◌<◌, ◌^◌};
 ghost use Rattle.dm_ems_move.specs.RegionMoves.{length_at, described};
 
-use dm_moves::{byte_after, word_after};
+use dm_space::moves::{byte_after, word_after};
 use dm_space::Space;
 
 /// The offset of the source's description in the structure.

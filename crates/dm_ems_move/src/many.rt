@@ -8,7 +8,7 @@ ghost use Rattle.dm_ems.specs.Calls.{answer, left};
 ghost use Rattle.dm_ems_move.specs.Many.{map_many, window_of, paired, after_pairs};
 
 use dm_ems::{Ems, Status, set_windows};
-use dm_moves::word_after;
+use dm_space::moves::word_after;
 use dm_pool::Block;
 use dm_space::Space;
 

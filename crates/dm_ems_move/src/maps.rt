@@ -12,7 +12,7 @@ ghost use Rattle.dm_ems_move.specs.inner.Maps.{numbers, map_entry};
 
 use arrayvec::ArrayVec;
 use dm_ems::{Ems, Page, Status, set_windows};
-use dm_moves::word_after;
+use dm_space::moves::word_after;
 use dm_pool::Block;
 use dm_space::Space;
 

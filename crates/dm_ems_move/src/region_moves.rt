@@ -6,13 +6,13 @@ ghost use Rattle.dm_ems.specs.Tables.{expanded, blocks_of, page_count};
 ghost use Rattle.dm_ems_move.specs.inner.Listed.{HasBlocks};
 ghost use Rattle.dm_ems.specs.Consistent.{IsConsistent};
 ghost use Rattle.dm_ems.specs.Calls.{answer, left};
-ghost use Rattle.dm_moves.specs.Spans.{IsInside};
+ghost use Rattle.dm_space.specs.moves.Spans.{IsInside};
 ghost use Rattle.dm_ems_move.specs.RegionMoves.{length_at, conventional, expanded_region, region_of, regions_of, described, is_linear, are_mixed, move_between, exchange_between, move_region, exchange_region, moved_code};
 
 use crate::description::{DESTINATION, Description, SOURCE, described, length_at};
 use arrayvec::ArrayVec;
 use dm_ems::{Ems, Status};
-use dm_moves::{Span, SpanKind, exchange_bytes, move_bytes, overlap};
+use dm_space::moves::{Span, SpanKind, exchange_bytes, move_bytes, overlap};
 use dm_pool::Block;
 use dm_space::Space;
 

@@ -1,3 +1,5 @@
+pub mod outcomes
+pub mod processes
 pub mod Calls
 pub mod Findings
 pub mod Repeats

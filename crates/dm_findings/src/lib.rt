@@ -2,6 +2,8 @@
 //! program left allocated; and the report that collects them.
 #![tactic(auto)]
 
+pub mod outcomes;
+pub mod processes;
 mod calls;
 mod finding;
 mod repeats;

@@ -1,9 +1,9 @@
 -- What `monitor check` finds ahead.
 use Rattle.std.proofs.Common.{◌≡◌, ℕ, ◌+◌, ◌-◌, ◌<◌, ◌≤◌, Bool, true, false, List, [], ◌∷◌, ◌++◌, length, Option, Some, None, refl, sym, ◌∙◌, ap, subst, arith}
 use Rattle.std.specs.Prelude.{◌≢◌}
-use Rattle.dm_state.specs.declared.stop.Stop.{Stop}
-use Rattle.dm_state.specs.declared.stop.Stop.TheVariants.{Exited, Steps as AllSteps, Memory as NoMemory}
-use Rattle.dm_state.specs.State.{State}
+use Rattle.dm_services.specs.declared.state.stop.Stop.{Stop}
+use Rattle.dm_services.specs.declared.state.stop.Stop.TheVariants.{Exited, Steps as AllSteps, Memory as NoMemory}
+use Rattle.dm_services.specs.state.State.{State}
 use Rattle.dm_machine.specs.Run.{IsRun}
 use Rattle.dm_machine.specs.Run as run
 use Rattle.dm_machine.proofs.OneStop.{run-one}

@@ -1,8 +1,8 @@
 -- Replies, by what they are equal to.
 use Rattle.std.proofs.Common.{◌≡◌, ◌≤◌, ◌-◌, ℕ, Bool, true, false, List, Option, Some, Result, Ok, Err, refl, sym, ap, subst, ◌∙◌}
 use Rattle.std.specs.Prelude.{IfOk, OnOk}
-use Rattle.dm_state.specs.declared.stop.Stop.{Stop}
-use Rattle.dm_state.specs.State.{State}
+use Rattle.dm_services.specs.declared.state.stop.Stop.{Stop}
+use Rattle.dm_services.specs.state.State.{State}
 use Rattle.dm_requests.specs.declared.request.Point.{Point}
 use Rattle.dm_requests.specs.declared.request.Request.{Request}
 use Rattle.dm_requests.specs.declared.request.Request.TheVariants as request
@@ -10,7 +10,7 @@ use Rattle.dm_target.specs.declared.going.Pause.{Pause}
 use Rattle.dm_target.specs.declared.going.Span.{Span}
 use Rattle.dm_gdb.specs.declared.replies.Reply.{Reply}
 use Rattle.dm_target.specs.Going.{Continues}
-use Rattle.dm_command.specs.declared.command.Command.{Command}
+use Rattle.dm_requests.specs.declared.commands.command.Command.{Command}
 use Rattle.dm_debug.specs.Debugged.{Debugged}
 use Rattle.dm_history.specs.Pasts.{Past, new_past}
 use Rattle.dm_debug.specs.Sessions.{Displays, Does, DoesPart, shows, goes, traces, sets, clears, enters, nothing, ran, traced}

@@ -3,10 +3,10 @@ use Rattle.std.proofs.Common.{◌≡◌, ℕ, ◌&&◌, true, false, List, [], �
 use Rattle.std.proofs.Math.Nat.{max-eq_left, max-eq_right}
 use Rattle.std.proofs.lemmas.Bool.Decides.{nat_tests}
 use Rattle.std.specs.Prelude.{nat_lt, if◌then◌else◌, max}
-use Rattle.dm_packets.specs.declared.received.Received.{Received}
-use Rattle.dm_packets.specs.declared.received.Received.TheVariants as heard
-use Rattle.dm_packets.specs.Frames.{frame_of}
-use Rattle.dm_packets.specs.Reading.{Reading, after, received}
+use Rattle.dm_requests.specs.declared.packets.received.Received.{Received}
+use Rattle.dm_requests.specs.declared.packets.received.Received.TheVariants as heard
+use Rattle.dm_requests.specs.packets.Frames.{frame_of}
+use Rattle.dm_requests.specs.packets.Reading.{Reading, after, received}
 use Rattle.dm_requests.specs.Requests.{request_of}
 use Rattle.dm_requests.specs.declared.request.Request.{Request}
 use Rattle.dm_gdb.specs.declared.replies.Reply.{Reply}

@@ -3,9 +3,9 @@
 -- this server's own choice.
 use Rattle.std.specs.Prelude.{◌≡◌, ◌≢◌, ◌<◌, ◌≤◌, ℕ, ◌+◌, Bool, List, [], ◌∷◌, ◌++◌, codes, Option, Some, None}
 use Rattle.std.specs.Str.{bytes_eq}
-use Rattle.dm_state.specs.declared.stop.Stop.{Stop}
-use Rattle.dm_state.specs.declared.stop.Stop.TheVariants as stop
-use Rattle.dm_state.specs.State.{State}
+use Rattle.dm_services.specs.declared.state.stop.Stop.{Stop}
+use Rattle.dm_services.specs.declared.state.stop.Stop.TheVariants as stop
+use Rattle.dm_services.specs.state.State.{State}
 use Rattle.dm_machine.specs.Run.{Answers, IsRun}
 use Rattle.dm_findings.specs.declared.finding.Found.{Found}
 use Rattle.dm_findings.specs.declared.report.Listed.{Listed}

@@ -2,15 +2,15 @@
 -- Source: GDB manual, "GDB Remote Serial Protocol", "Overview", "Interrupts", "Packet Acknowledgment" and "Packets" (`k`,
 -- `D`, `O`).
 use Rattle.std.specs.Prelude.{◌≡◌, ℕ, Bool, true, false, not, ◌&&◌, ◌||◌, if◌then◌else◌, nat_lt, max, List, [], ◌++◌, length, Some, None}
-use Rattle.dm_packets.specs.declared.received.Received.{Received}
-use Rattle.dm_packets.specs.declared.received.Received.TheVariants as heard
-use Rattle.dm_packets.specs.Frames.{frame_of}
-use Rattle.dm_packets.specs.Links.{LinkState, acknowledgement}
-use Rattle.dm_packets.specs.Reading.{Reading, after, between, received}
+use Rattle.dm_requests.specs.declared.packets.received.Received.{Received}
+use Rattle.dm_requests.specs.declared.packets.received.Received.TheVariants as heard
+use Rattle.dm_requests.specs.packets.Frames.{frame_of}
+use Rattle.dm_requests.specs.packets.Links.{LinkState, acknowledgement}
+use Rattle.dm_requests.specs.packets.Reading.{Reading, after, between, received}
 use Rattle.dm_requests.specs.declared.request.Request.{Request}
 use Rattle.dm_requests.specs.declared.request.Request.TheVariants as request
 use Rattle.dm_requests.specs.Requests.{request_of}
-use Rattle.dm_state.specs.State.{State}
+use Rattle.dm_services.specs.state.State.{State}
 use Rattle.dm_gdb.specs.declared.replies.Reply.{Reply}
 use Rattle.dm_gdb.specs.declared.replies.Reply.TheVariants as reply
 use Rattle.dm_gdb.specs.Replies.{reply_text}

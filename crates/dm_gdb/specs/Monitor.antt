@@ -2,12 +2,12 @@
 -- Source: GDB manual, "GDB Remote Serial Protocol", "General Query Packets" (`qRcmd`). Which commands there are is this
 -- server's own choice.
 use Rattle.std.specs.Prelude.{ℕ, Bool, true, false, List, [], ◌∷◌, codes, Option, Some, None}
-use Rattle.dm_command.specs.declared.command.Command.{Command}
-use Rattle.dm_command.specs.declared.command.Command.TheVariants as command
-use Rattle.dm_command.specs.Numbers.{◌>>=◌, number_of}
+use Rattle.dm_requests.specs.declared.commands.command.Command.{Command}
+use Rattle.dm_requests.specs.declared.commands.command.Command.TheVariants as command
+use Rattle.dm_requests.specs.commands.Numbers.{◌>>=◌, number_of}
 use Rattle.dm_requests.specs.Arguments.{after_prefix}
-use Rattle.dm_state.specs.declared.stop.Stop.{Stop}
-use Rattle.dm_state.specs.declared.stop.Stop.TheVariants as stop
+use Rattle.dm_services.specs.declared.state.stop.Stop.{Stop}
+use Rattle.dm_services.specs.declared.state.stop.Stop.TheVariants as stop
 use Rattle.dm_gdb.specs.declared.replies.Reply.{Reply}
 use Rattle.dm_gdb.specs.declared.replies.Reply.TheVariants as reply
 

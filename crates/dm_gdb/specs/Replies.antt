@@ -7,8 +7,8 @@ use Rattle.hex.specs.Hex.{encode_lower}
 use Rattle.dm_requests.specs.declared.request.Access.{Access}
 use Rattle.dm_requests.specs.declared.request.Access.TheVariants.{Read, Either}
 use Rattle.dm_requests.specs.declared.request.Point.{Point}
-use Rattle.dm_state.specs.declared.stop.Stop.{Stop}
-use Rattle.dm_state.specs.declared.stop.Stop.TheVariants as stop
+use Rattle.dm_services.specs.declared.state.stop.Stop.{Stop}
+use Rattle.dm_services.specs.declared.state.stop.Stop.TheVariants as stop
 use Rattle.dm_gdb.specs.declared.replies.Reply.{Reply}
 use Rattle.dm_gdb.specs.declared.replies.Reply.TheVariants as reply
 

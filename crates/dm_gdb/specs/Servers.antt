@@ -2,16 +2,16 @@
 -- Source: GDB manual, "GDB Remote Serial Protocol", "Packets", "General Query Packets" and "vCont".
 use Rattle.std.specs.Prelude.{◌≡◌, ◌<◌, ◌≤◌, ◌⊎◌, ℕ, ◌+◌, ◌-◌, ◌*◌, Bool, true, false, ◌==◌, nat_lt, if◌then◌else◌, List, ◌∷◌, ◌++◌, length, drop, Option, Some, None}
 use Rattle.hex.specs.Hex.{encode_lower}
-use Rattle.dm_state.specs.declared.stop.Stop.{Stop}
-use Rattle.dm_state.specs.declared.stop.Stop.TheVariants as stop
-use Rattle.dm_state.specs.State.{State}
+use Rattle.dm_services.specs.declared.state.stop.Stop.{Stop}
+use Rattle.dm_services.specs.declared.state.stop.Stop.TheVariants as stop
+use Rattle.dm_services.specs.state.State.{State}
 use Rattle.dm_space.specs.Memory.{Memory}
 use Rattle.dm_space.specs.Buffers.{with_bytes}
 use Rattle.dm_debug.specs.Sessions.{Displays, new_session}
 use Rattle.dm_history.specs.declared.change.Change.TheVariants as change
 use Rattle.dm_history.specs.Pasts.{Past, new_past, with_change, GoesBack}
-use Rattle.dm_command.specs.declared.command.Command.{Command}
-use Rattle.dm_command.specs.Commands.{command_of}
+use Rattle.dm_requests.specs.declared.commands.command.Command.{Command}
+use Rattle.dm_requests.specs.commands.Commands.{command_of}
 use Rattle.dm_cpu.specs.declared.cpu.Cpu.{Cpu}
 use Rattle.dm_machine.specs.Run.{IsRun}
 use Rattle.dm_requests.specs.declared.request.Point.{Point}

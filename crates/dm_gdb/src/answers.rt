@@ -5,7 +5,7 @@ ghost use Rattle.dm_gdb.specs.Servers.{memory_reply, register_reply};
 
 use crate::replies::{BAD, NO_MEMORY, Reply};
 use dm_machine::Machine;
-use dm_packets::Payload;
+use dm_requests::packets::Payload;
 use dm_space::Space;
 use dm_target::{LAST, bytes_from, has_register, put_register, readable};
 use std::alloc::{AllocError, Global};

@@ -5,15 +5,15 @@ ghost use Rattle.dm_gdb.specs.Checking.{checked_text, end_line, findings_text, i
 ghost use Rattle.dm_gdb.specs.Servers.{Replies};
 ghost use Rattle.dm_gdb.specs.inner.Checking.{LeadsAhead};
 ghost use Rattle.dm_requests.specs.declared.request.Request.TheVariants as request;
-ghost use Rattle.dm_state.specs.State.{HasProgram};
-ghost use Rattle.dm_state.specs.declared.stop.Stop.TheVariants as stop;
+ghost use Rattle.dm_services.specs.state.State.{HasProgram};
+ghost use Rattle.dm_services.specs.declared.state.stop.Stop.TheVariants as stop;
 
 use crate::replies::Reply;
 use crate::server::Server;
 use dm_checker::CheckedRun;
 use dm_findings::{Listed, Report};
 use dm_machine::{Machine, Stop};
-use dm_packets::Payload;
+use dm_requests::packets::Payload;
 use dm_reports::{put_lines, put_unlisted, reason_of};
 use std::alloc::{AllocError, Global};
 

@@ -1,13 +1,13 @@
 //! A conversation with the debugger: what each byte of the stream leads to, and which bytes are sent for it.
 
 ghost use Rattle.std.specs.Prelude.{◌≡◌, ◌&&◌, ◌++◌, ℕ, List, IfOk, OnOk};
-ghost use Rattle.dm_state.specs.State.{HasProgram};
+ghost use Rattle.dm_services.specs.state.State.{HasProgram};
 ghost use Rattle.dm_gdb.specs.Connections.{Hears, Obeys, Takes, all_shown, console_packet, is_detach, is_kill, is_quiet, makes_steps, new_connection, packet_of, receipt, replied, with_last};
 
 use crate::replies::{BAD, Reply, put_reply};
 use crate::server::Server;
 use dm_machine::Machine;
-use dm_packets::{Link, Received, Receiver};
+use dm_requests::packets::{Link, Received, Receiver};
 use dm_requests::{Request, read_request};
 use std::alloc::{AllocError, Global};
 use std::marker::Model;

@@ -4,7 +4,7 @@ ghost use Rattle.std.specs.Prelude.{◌≡◌, IfOk};
 ghost use Rattle.dm_gdb.specs.Description.{description, features_reply};
 
 use crate::replies::Reply;
-use dm_packets::Payload;
+use dm_requests::packets::Payload;
 use std::alloc::{AllocError, Global};
 
 /// The description, in XML.

@@ -1,7 +1,7 @@
 //! The debugger's own commands, which `monitor` hands on.
 
 ghost use Rattle.std.specs.Prelude.{◌≡◌, ℕ, Some, true, IfOk, OnErr};
-ghost use Rattle.dm_command.specs.Commands.{command_of};
+ghost use Rattle.dm_requests.specs.commands.Commands.{command_of};
 ghost use Rattle.dm_debug.specs.Sessions.{new_session};
 ghost use Rattle.dm_gdb.specs.Monitor.{is_shown, is_shown_line, step_of, stepped_reply, text_reply};
 ghost use Rattle.dm_gdb.specs.Servers.{Replies};
@@ -12,10 +12,10 @@ use crate::checking::is_check;
 use crate::replies::Reply;
 use crate::server::Server;
 use crate::texts::Text;
-use dm_command::{Command, read_command, read_number};
+use dm_requests::commands::{Command, read_command, read_number};
 use dm_debug::Session;
 use dm_machine::Stop;
-use dm_packets::Payload;
+use dm_requests::packets::Payload;
 use std::alloc::{AllocError, Global};
 
 /// Whether a command shows something and changes nothing: R, U, D, M, P, X and O.

@@ -5,7 +5,7 @@ ghost use Rattle.dm_gdb.specs.Replies.{data_text, hex_text, offsets_text, place_
 
 use crate::digits::put_hex;
 use dm_machine::Stop;
-use dm_packets::Payload;
+use dm_requests::packets::Payload;
 use dm_requests::{Access, Point};
 use std::alloc::{AllocError, Global};
 

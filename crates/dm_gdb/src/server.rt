@@ -1,7 +1,7 @@
 //! A session of the protocol: a machine, its breakpoints and watchpoints, and what each request changes and is replied.
 
 ghost use Rattle.std.specs.Prelude.{◌≡◌, ◌≤◌, ◌+◌, ℕ, OnOk, OnErr, IfOk, length};
-ghost use Rattle.dm_state.specs.State.{HasProgram};
+ghost use Rattle.dm_services.specs.state.State.{HasProgram};
 ghost use Rattle.dm_target.specs.Going.{Continues};
 ghost use Rattle.dm_gdb.specs.declared.replies.Reply.TheVariants as reply;
 ghost use Rattle.dm_gdb.specs.Servers.{PutsConsole, Replies, arrival_reply, at_state, base_of, is_exit, new_server, plain_reply, setting_reply, step_reply, threads_reply, with_inserted, with_registers, with_removed, with_written, written, written_reply};
@@ -12,7 +12,7 @@ use crate::digits::put_hex;
 use crate::replies::{BAD, NO_MEMORY, Reply, stop_reply};
 use dm_history::History;
 use dm_machine::{Cpu, Machine, Stop};
-use dm_packets::Payload;
+use dm_requests::packets::Payload;
 use dm_requests::{Point, Request};
 use dm_target::{
     LAST, Pause, Points, Span, all_registers, go_on, is_among, place_of, reads_as, registers_with,

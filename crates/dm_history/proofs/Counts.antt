@@ -24,9 +24,9 @@ use Rattle.dm_space.specs.declared.entry_points.Service.{Service}
 use Rattle.dm_space.specs.declared.entry_points.Service.TheVariants as service
 use Rattle.dm_space.specs.declared.entry_points.Service.TheVariants.{DivideError, Dos}
 use Rattle.dm_space.specs.EntryPoints.{entry_point_at}
-use Rattle.dm_state.specs.declared.stop.Stop.{Stop}
-use Rattle.dm_state.specs.declared.stop.Stop.TheVariants.{Exited, Halted, Unlisted, InputEnded, Destroyed, Steps as AllSteps}
-use Rattle.dm_state.specs.State.{State, Answer, go, stop_at}
+use Rattle.dm_services.specs.declared.state.stop.Stop.{Stop}
+use Rattle.dm_services.specs.declared.state.stop.Stop.TheVariants.{Exited, Halted, Unlisted, InputEnded, Destroyed, Steps as AllSteps}
+use Rattle.dm_services.specs.state.State.{State, Answer, go, stop_at}
 use Rattle.dm_services.specs.Text.{print}
 use Rattle.dm_services.specs.Characters.{character_of, read_character, echo_of, echo_character, write_character, poll_of, poll_character, direct_character, check_input}
 use Rattle.dm_services.specs.Lines.{line_length, line_read, line_into, read_line}

@@ -3,8 +3,8 @@ use Rattle.std.proofs.Common.{◌≡◌, ℕ, ◌+◌, ◌-◌, ◌^◌, ◌≤�
 use Rattle.std.specs.List.{All, take_while}
 use Rattle.std.proofs.lemmas.List.{length-append, take-append-le, drop-append-le, take_all, drop_all, take-take, drop-take, length-take, length-take-le, get_or-take}
 use Rattle.std.proofs.lemmas.List.Elements.{All-nil, All-push, All-weaker, All-same, All-take, All-drop, All-append}
-use Rattle.dm_state.specs.declared.stop.Stop.{Stop}
-use Rattle.dm_state.specs.State.{State, HasProgram}
+use Rattle.dm_services.specs.declared.state.stop.Stop.{Stop}
+use Rattle.dm_services.specs.state.State.{State, HasProgram}
 use Rattle.dm_machine.specs.Run.{IsRun}
 use Rattle.dm_history.specs.declared.change.Change.{Change}
 use Rattle.dm_history.specs.declared.change.Edit.{Edit}

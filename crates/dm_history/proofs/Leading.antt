@@ -1,7 +1,7 @@
 -- What leads from one state to another: steps are counted, one follows from each state, and edits keep the count.
 use Rattle.std.proofs.Common.{◌≡◌, ℕ, Option, Some, None, refl, sym, ◌∙◌, ap, subst}
-use Rattle.dm_state.specs.declared.stop.Stop.TheVariants.{Exited}
-use Rattle.dm_state.specs.State.{State, Answer}
+use Rattle.dm_services.specs.declared.state.stop.Stop.TheVariants.{Exited}
+use Rattle.dm_services.specs.state.State.{State, Answer}
 use Rattle.dm_machine.specs.Step.{MakesStep}
 use Rattle.dm_machine.proofs.OneRun.{steps-one}
 use Rattle.dm_history.specs.declared.change.Change.{Change}

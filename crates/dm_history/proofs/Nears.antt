@@ -1,7 +1,7 @@
 -- Steps within one code segment are steps.
 use Rattle.std.proofs.Common.{ℕ, ◌-◌, ◌^◌, ◌≤◌, List}
 use Rattle.std.proofs.lemmas.List.Elements.{All-weaker}
-use Rattle.dm_state.specs.State.{State, HasProgram}
+use Rattle.dm_services.specs.state.State.{State, HasProgram}
 use Rattle.dm_machine.specs.declared.until.Breakpoint.{Breakpoint}
 use Rattle.dm_machine.specs.Run.{Goes}
 use Rattle.dm_machine.specs.Run as run

@@ -2,8 +2,8 @@
 use Rattle.std.proofs.Common.{◌≡◌, ◌≢◌, ℕ, ◌+◌, ◌-◌, ◌^◌, ◌≤◌, ◌<◌, List, [], ◌∷◌, ◌++◌, length, take, drop, get_or, Result, Ok, Err, OnOk, refl, sym, ◌∙◌, ap, subst, arith}
 use Rattle.std.proofs.lemmas.List.{append_assoc, append-nil, drop_more, take_more, take_all, drop_all}
 use Rattle.std.proofs.lemmas.List.Elements.{All-head, All-tail}
-use Rattle.dm_state.specs.declared.stop.Stop.TheVariants.{Steps as AllSteps, Memory as NoMemory}
-use Rattle.dm_state.specs.State.{State, HasProgram}
+use Rattle.dm_services.specs.declared.state.stop.Stop.TheVariants.{Steps as AllSteps, Memory as NoMemory}
+use Rattle.dm_services.specs.state.State.{State, HasProgram}
 use Rattle.dm_machine.specs.Run.{IsRun, whole}
 use Rattle.dm_machine.proofs.OneStop.{run-one}
 use Rattle.dm_history.specs.declared.change.Change.{Change}

@@ -3,7 +3,7 @@ use Rattle.std.proofs.Common.{◌≡◌, ℕ, suc, ◌+◌, ◌%◌, ◌<◌, �
 use Rattle.std.proofs.lemmas.List.{at_drop_all}
 use Rattle.dm_space.specs.Memory.{Memory, linear, poke}
 use Rattle.dm_space.specs.Buffers.{with_bytes}
-use Rattle.dm_state.specs.State.{State}
+use Rattle.dm_services.specs.state.State.{State}
 
 -- each byte is written at the offset behind the one before, modulo 65,536
 abbrev pub each : Memory → ℕ → ℕ → List ℕ → Memory

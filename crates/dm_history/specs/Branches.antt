@@ -1,6 +1,6 @@
 -- A branch of a history: another history that begins at an earlier state, and goes through the same states.
 use Rattle.std.specs.Prelude.{◌≡◌, ℕ, ◌+◌, ◌≤◌, ◌<◌, [], None}
-use Rattle.dm_state.specs.State.{State}
+use Rattle.dm_services.specs.state.State.{State}
 use Rattle.dm_history.specs.Becomes.{Becomes}
 use Rattle.dm_history.specs.Pasts.{Past, new_past, Was}
 

@@ -2,7 +2,7 @@
 use Rattle.std.specs.Prelude.{ℕ, nat_le, List}
 use Rattle.std.specs.List.{take_while}
 use Rattle.dm_space.specs.Buffers.{with_bytes}
-use Rattle.dm_state.specs.State.{State}
+use Rattle.dm_services.specs.state.State.{State}
 use Rattle.dm_history.specs.declared.change.Change.{Change}
 use Rattle.dm_history.specs.declared.change.Change.TheVariants.{Registers, Written}
 use Rattle.dm_history.specs.declared.change.Edit.{Edit}

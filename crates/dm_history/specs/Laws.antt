@@ -1,6 +1,6 @@
 -- The law of histories: going back leads to one state.
 use Rattle.std.specs.Prelude.{◌≡◌, ◌-◌, ◌^◌, ◌<◌, List}
-use Rattle.dm_state.specs.State.{State}
+use Rattle.dm_services.specs.state.State.{State}
 use Rattle.dm_history.specs.declared.change.Edit.{Edit}
 use Rattle.dm_history.specs.Becomes.{Becomes}
 

@@ -1,6 +1,6 @@
 -- A history as contracts see it, and what its calls do.
 use Rattle.std.specs.Prelude.{◌≡◌, ℕ, List, [], ◌∷◌, ◌++◌}
-use Rattle.dm_state.specs.State.{State}
+use Rattle.dm_services.specs.state.State.{State}
 use Rattle.dm_history.specs.declared.change.Change.{Change}
 use Rattle.dm_history.specs.declared.change.Edit.{Edit}
 use Rattle.dm_history.specs.Edits.{changed, edits_to}

@@ -2,7 +2,7 @@
 
 ghost use Rattle.std.specs.Prelude.{◌≡◌};
 ghost use Rattle.dm_space.specs.Buffers.{with_bytes};
-ghost use Rattle.dm_state.specs.State.{HasProgram};
+ghost use Rattle.dm_services.specs.state.State.{HasProgram};
 ghost use Rattle.dm_history.specs.Edits.{changed};
 
 use dm_machine::{Cpu, Machine};

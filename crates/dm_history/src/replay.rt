@@ -1,7 +1,7 @@
 //! Running again: from a copy of a machine to a later step, with the edits on the way.
 
 ghost use Rattle.std.specs.Prelude.{◌≡◌, ◌-◌, ◌^◌, ◌<◌, ◌≤◌, ℕ, All, OnOk, length};
-ghost use Rattle.dm_state.specs.State.{HasProgram};
+ghost use Rattle.dm_services.specs.state.State.{HasProgram};
 ghost use Rattle.dm_history.specs.Edits.{edits_to};
 ghost use Rattle.dm_history.specs.inner.Replays.{RunsTo, LeadsBeyond, IsReplayed};
 

@@ -1,7 +1,7 @@
 -- From what the checker says of a machine to what is said of its session.
 use Rattle.std.proofs.Common.{◌≡◌, ◌++◌, ℕ, true, List, refl, sym, subst, arith}
-use Rattle.dm_state.specs.declared.stop.Stop.{Stop}
-use Rattle.dm_state.specs.State.{State}
+use Rattle.dm_services.specs.declared.state.stop.Stop.{Stop}
+use Rattle.dm_services.specs.state.State.{State}
 use Rattle.dm_machine.specs.declared.until.Breakpoint.{Breakpoint}
 use Rattle.dm_machine.specs.Run.{IsRun}
 use Rattle.dm_findings.specs.Report.{Reported}

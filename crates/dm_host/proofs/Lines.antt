@@ -1,6 +1,6 @@
 -- From why a session refuses a line to why the host does.
 use Rattle.std.proofs.Common.{◌≡◌, refl, ap, sym, ◌∙◌, List, ℕ, true, Option, inl, inr}
-use Rattle.dm_command.specs.Commands.{command_of}
+use Rattle.dm_requests.specs.commands.Commands.{command_of}
 use Rattle.dm_debug.specs.Debugged.{Debugged}
 use Rattle.dm_debug.specs.Sessions.{IsCutOff, IsPartlyWritten, is_syntax, is_full}
 use Rattle.dm_debug.specs.declared.refusal.CommandRefusal as session

@@ -1,7 +1,7 @@
 -- From what a setup's test and a session's beginning say to what loading says.
 use Rattle.std.proofs.Common.{◌≡◌, refl, ap, sym, ◌∙◌, subst, List, ℕ, Result, Ok, Err, IfErr, Option, Some, None}
 use Rattle.std.proofs.lemmas.Option.{none-some, same_Some}
-use Rattle.dm_state.specs.State.{State}
+use Rattle.dm_services.specs.state.State.{State}
 use Rattle.dm_load.specs.Image.{IsGood}
 use Rattle.dm_proc.specs.Programs.{program_of}
 use Rattle.dm_machine.specs.Start.{IsBadProgram, HasNoRoom}

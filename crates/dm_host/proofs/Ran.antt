@@ -1,10 +1,10 @@
 -- From what a run up to events says of a machine to what is said of its session.
 use Rattle.std.proofs.Common.{◌≡◌, ℕ, List, refl, sym, ◌∙◌, ap, subst}
-use Rattle.dm_state.specs.State.{State}
+use Rattle.dm_services.specs.state.State.{State}
 use Rattle.dm_machine.specs.declared.until.Breakpoint.{Breakpoint}
-use Rattle.dm_stops.specs.declared.events.Event.{Event}
-use Rattle.dm_stops.specs.declared.going.Ending.{Ending}
-use Rattle.dm_stops.specs.Runs.{RunsTo}
+use Rattle.dm_debug.specs.declared.stops.events.Event.{Event}
+use Rattle.dm_debug.specs.declared.stops.going.Ending.{Ending}
+use Rattle.dm_debug.specs.stops.Runs.{RunsTo}
 use Rattle.dm_debug.specs.Debugged.{Debugged}
 use Rattle.dm_host.specs.Events.{RunsSession}
 

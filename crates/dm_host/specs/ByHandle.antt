@@ -2,7 +2,7 @@
 -- Sources: LIM EMS 4.0, section 2 (handles and logical pages); XMS 3.0 (handles and blocks).
 use Rattle.std.specs.Prelude.{◌≡◌, ℕ, ◌+◌, ◌<◌, ◌≤◌, Bool, true, false, List, length, take, drop, slice_get, slice_index_or, Option, Some, None}
 use Rattle.dm_space.specs.Memory.{page_bytes}
-use Rattle.dm_state.specs.State.{State}
+use Rattle.dm_services.specs.state.State.{State}
 use Rattle.dm_ems.specs.Tables.{blocks_of}
 use Rattle.dm_xms.specs.declared.tables.Handle.{Handle}
 use Rattle.dm_xms.specs.Calls.{slot}

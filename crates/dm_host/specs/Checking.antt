@@ -1,6 +1,6 @@
 -- Runs of a host's machine under the memory checker, and their reports.
 use Rattle.std.specs.Prelude.{◌≡◌, ◌++◌, ℕ, true, List, None}
-use Rattle.dm_state.specs.declared.stop.Stop.{Stop}
+use Rattle.dm_services.specs.declared.state.stop.Stop.{Stop}
 use Rattle.dm_machine.specs.Run.{IsRun}
 use Rattle.dm_findings.specs.Report.{Reported}
 use Rattle.dm_reports.specs.Reports.{report_text}

@@ -1,7 +1,7 @@
 -- Debugger commands on a host's machine, and their answers.
 use Rattle.std.specs.Prelude.{◌≡◌, ◌⊎◌, ℕ, true, List, Some, None}
-use Rattle.dm_command.specs.declared.command.Command.{Command}
-use Rattle.dm_command.specs.Commands.{command_of}
+use Rattle.dm_requests.specs.declared.commands.command.Command.{Command}
+use Rattle.dm_requests.specs.commands.Commands.{command_of}
 use Rattle.dm_debug.specs.Debugged.{Debugged}
 use Rattle.dm_debug.specs.Sessions.{Does, IsCutOff, is_syntax, is_full}
 use Rattle.dm_host.specs.declared.refusal.Refusal.{Refusal}

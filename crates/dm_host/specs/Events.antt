@@ -1,8 +1,8 @@
 -- Runs of a host's machine up to events.
 use Rattle.std.specs.Prelude.{◌≡◌, ℕ, List}
-use Rattle.dm_stops.specs.declared.events.Event.{Event}
-use Rattle.dm_stops.specs.declared.going.Ending.{Ending}
-use Rattle.dm_stops.specs.Runs.{RunsTo}
+use Rattle.dm_debug.specs.declared.stops.events.Event.{Event}
+use Rattle.dm_debug.specs.declared.stops.going.Ending.{Ending}
+use Rattle.dm_debug.specs.stops.Runs.{RunsTo}
 use Rattle.dm_debug.specs.Debugged.{Debugged}
 use Rattle.dm_host.specs.declared.refusal.Refusal.{Refusal}
 use Rattle.dm_host.specs.declared.refusal.Refusal.TheVariants.{Memory}

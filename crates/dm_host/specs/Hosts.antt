@@ -1,6 +1,6 @@
 -- A host: a machine as a host program drives it.
 use Rattle.std.specs.Prelude.{◌≡◌, ℕ, List, [], Option, Some, None}
-use Rattle.dm_state.specs.State.{State}
+use Rattle.dm_services.specs.state.State.{State}
 use Rattle.dm_debug.specs.Debugged.{Debugged}
 use Rattle.dm_findings.specs.Report.{Reported}
 use Rattle.dm_host.specs.declared.host.Stage.{Stage}

@@ -1,6 +1,6 @@
 -- Adding programs to a host, and loading the first one.
 use Rattle.std.specs.Prelude.{◌≡◌, ℕ, ◌<◌, ◌≤◌, List, length}
-use Rattle.dm_state.specs.State.{State}
+use Rattle.dm_services.specs.state.State.{State}
 use Rattle.dm_machine.specs.Start.{IsNew, IsLoaded, HasNoRoom}
 use Rattle.dm_proc.specs.Programs.{IsName}
 use Rattle.dm_debug.specs.Sessions.{new_session}

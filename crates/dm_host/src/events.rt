@@ -1,13 +1,13 @@
 //! Runs of a host's machine up to events. The breakpoints of its debugging session do not count, and stay.
 ghost use Rattle.std.specs.Prelude.{◌≡◌, IfOk, IfErr, OnErr};
-ghost use Rattle.dm_stops.specs.Runs.{RunsTo};
+ghost use Rattle.dm_debug.specs.stops.Runs.{RunsTo};
 ghost use Rattle.dm_host.specs.Hosts.{Works};
 ghost use Rattle.dm_host.specs.Events.{RunsSession, IsNotRun};
 
 use crate::host::{Host, Stage};
 use crate::refusal::Refusal;
 use dm_debug::Session;
-use dm_stops::{Ending, Event, run_to};
+use dm_debug::stops::{Ending, Event, run_to};
 use std::alloc::{AllocError, Global};
 
 /// Makes at most `n` steps of the session's machine up to an event, and returns the session with why the steps ended. If an

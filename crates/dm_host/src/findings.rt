@@ -1,7 +1,7 @@
 //! The findings of the last checked run of a host.
 ghost use Rattle.std.specs.Prelude.{◌≡◌, ◌<◌, IfOk, IfErr, OnOk, map, length};
 ghost use Rattle.dm_reports.specs.Texts.{found_line};
-ghost use Rattle.dm_inventory.specs.Findings.{record_of};
+ghost use Rattle.dm_views.specs.inventory.Findings.{record_of};
 ghost use Rattle.dm_host.specs.declared.refusal.Refusal.TheVariants.{Memory};
 ghost use Rattle.dm_host.specs.Findings.{TellsFinding, IsUntold};
 
@@ -9,7 +9,7 @@ use crate::host::Host;
 use crate::kept::Kept;
 use crate::refusal::Refusal;
 use dm_findings::Found;
-use dm_inventory::{FoundRecord, list_findings};
+use dm_views::inventory::{FoundRecord, list_findings};
 use dm_reports::put_found;
 use std::alloc::{AllocError, Global};
 

@@ -1,13 +1,13 @@
 //! What a host's machine holds: the headers of the arena, and the handles of expanded and extended memory.
 ghost use Rattle.std.specs.Prelude.{◌≡◌, IfOk, IfErr};
-ghost use Rattle.dm_inventory.specs.Arena.{IsListedArena};
-ghost use Rattle.dm_inventory.specs.Pages.{handle_rows, window_rows};
-ghost use Rattle.dm_inventory.specs.Extended.{extended_rows, upper_rows};
+ghost use Rattle.dm_views.specs.inventory.Arena.{IsListedArena};
+ghost use Rattle.dm_views.specs.inventory.Pages.{handle_rows, window_rows};
+ghost use Rattle.dm_views.specs.inventory.Extended.{extended_rows, upper_rows};
 ghost use Rattle.dm_host.specs.Hosts.{Shows, IsNotLoaded, IsUnlisted};
 
 use crate::host::Host;
 use crate::refusal::Refusal;
-use dm_inventory::{
+use dm_views::inventory::{
     ArenaBlock, ExtendedBlock, PageHandle, UpperBlock, Window, list_arena, list_extended,
     list_handles, list_uppers, list_windows,
 };

@@ -1,6 +1,6 @@
 //! Reading and writing a host's guest memory, and copying bytes to a buffer.
 ghost use Rattle.std.specs.Prelude.{◌≡◌, ◌≤◌, ◌<◌, ◌++◌, OnOk, IfErr, MatchBool, Some, None, length, drop};
-ghost use Rattle.dm_state.specs.State.{State};
+ghost use Rattle.dm_services.specs.state.State.{State};
 ghost use Rattle.dm_host.specs.declared.refusal.Refusal.TheVariants.{NotLoaded};
 ghost use Rattle.dm_space.specs.Buffers.{with_bytes};
 ghost use Rattle.dm_debug.specs.Sessions.{with_machine};

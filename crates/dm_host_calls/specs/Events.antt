@@ -1,11 +1,11 @@
 -- Events that end a run, as C passes them, and how such a run has ended.
 use Rattle.std.specs.Prelude.{◌≡◌, ◌⊎◌, ℕ, ◌==◌, nat_le, true, false, Bool, if◌then◌else◌, List, map, Some}
 use Rattle.std.specs.List.{list_all}
-use Rattle.dm_stops.specs.declared.events.Event.{Event}
-use Rattle.dm_stops.specs.declared.events.Event.TheVariants.{At, Address, Change, Call, Function}
-use Rattle.dm_stops.specs.declared.going.Ending.{Ending}
-use Rattle.dm_stops.specs.declared.going.Ending.TheVariants.{Came}
-use Rattle.dm_stops.specs.declared.going.Ending.TheVariants as ending
+use Rattle.dm_debug.specs.declared.stops.events.Event.{Event}
+use Rattle.dm_debug.specs.declared.stops.events.Event.TheVariants.{At, Address, Change, Call, Function}
+use Rattle.dm_debug.specs.declared.stops.going.Ending.{Ending}
+use Rattle.dm_debug.specs.declared.stops.going.Ending.TheVariants.{Came}
+use Rattle.dm_debug.specs.declared.stops.going.Ending.TheVariants as ending
 use Rattle.dm_host.specs.declared.refusal.Refusal.{Refusal}
 use Rattle.dm_host.specs.declared.refusal.Refusal.TheVariants.{Memory as NoMemory}
 use Rattle.dm_host.specs.Hosts.{Hosted, Works}

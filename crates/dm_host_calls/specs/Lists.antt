@@ -1,17 +1,17 @@
 -- What each call does that gives what a machine holds, or the findings of its last checked run. `before` and `after` are what
 -- C passes by reference, before the call and after it. The export of a name `n` is `dm_c_n`.
 use Rattle.std.specs.Prelude.{◌≡◌, ◌⊎◌, ℕ, List, map, length, Option, Some, None}
-use Rattle.dm_state.specs.State.{State}
-use Rattle.dm_inventory.specs.declared.arena.ArenaBlock.{ArenaBlock}
-use Rattle.dm_inventory.specs.declared.pages.PageHandle.{PageHandle}
-use Rattle.dm_inventory.specs.declared.pages.Window.{Window}
-use Rattle.dm_inventory.specs.declared.extended.ExtendedBlock.{ExtendedBlock}
-use Rattle.dm_inventory.specs.declared.extended.UpperBlock.{UpperBlock}
-use Rattle.dm_inventory.specs.declared.findings.FoundRecord.{FoundRecord}
-use Rattle.dm_inventory.specs.Arena.{IsListedArena}
-use Rattle.dm_inventory.specs.Pages.{number_of, handle_rows, window_rows}
-use Rattle.dm_inventory.specs.Extended.{extended_rows, upper_rows}
-use Rattle.dm_inventory.specs.Findings.{record_of}
+use Rattle.dm_services.specs.state.State.{State}
+use Rattle.dm_views.specs.declared.inventory.arena.ArenaBlock.{ArenaBlock}
+use Rattle.dm_views.specs.declared.inventory.pages.PageHandle.{PageHandle}
+use Rattle.dm_views.specs.declared.inventory.pages.Window.{Window}
+use Rattle.dm_views.specs.declared.inventory.extended.ExtendedBlock.{ExtendedBlock}
+use Rattle.dm_views.specs.declared.inventory.extended.UpperBlock.{UpperBlock}
+use Rattle.dm_views.specs.declared.inventory.findings.FoundRecord.{FoundRecord}
+use Rattle.dm_views.specs.inventory.Arena.{IsListedArena}
+use Rattle.dm_views.specs.inventory.Pages.{number_of, handle_rows, window_rows}
+use Rattle.dm_views.specs.inventory.Extended.{extended_rows, upper_rows}
+use Rattle.dm_views.specs.inventory.Findings.{record_of}
 use Rattle.dm_host.specs.declared.refusal.Refusal.{Refusal}
 use Rattle.dm_host.specs.declared.refusal.Refusal.TheVariants.{Memory}
 use Rattle.dm_host.specs.Hosts.{Hosted, Shows, IsNotLoaded, IsUnlisted}

@@ -1,7 +1,7 @@
 -- Statuses, stops, registers and breakpoints as C sees them.
 use Rattle.std.specs.Prelude.{ℕ, Option, Some, None}
-use Rattle.dm_state.specs.declared.stop.Stop.{Stop}
-use Rattle.dm_state.specs.declared.stop.Stop.TheVariants as stop
+use Rattle.dm_services.specs.declared.state.stop.Stop.{Stop}
+use Rattle.dm_services.specs.declared.state.stop.Stop.TheVariants as stop
 use Rattle.dm_alu.specs.Flags as flags
 use Rattle.dm_cpu.specs.declared.cpu.Cpu.{Cpu}
 use Rattle.dm_machine.specs.declared.until.Breakpoint.{Breakpoint}

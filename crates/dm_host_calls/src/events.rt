@@ -5,7 +5,7 @@ ghost use Rattle.dm_host_calls.specs.Events.{is_known, event_of, ended_of, place
 
 use crate::values::{Stopped, stopped_of};
 use dm_machine::Breakpoint;
-use dm_stops::{Ending, Event, Range};
+use dm_debug::stops::{Ending, Event, Range};
 use std::alloc::{AllocError, Global};
 
 /// The status if the kind of an event is none.

@@ -2,11 +2,11 @@
 //! that of the refusal, or 4 if the buffer is too small for all; then `wanted` alone is set, beside `end` of `blocks`.
 ghost use Rattle.std.specs.Prelude.{◌≡◌};
 ghost use Rattle.dm_host_calls.specs.Lists.{end_of, BlocksTo, PageHandlesTo, WindowsTo, ExtendedBlocksTo, UpperBlocksTo, HighMemoryTo, ReadsPageTo, ReadsBlockTo, FindingsTo, FindingCountsTo, FindingLineTo};
-ghost use Rattle.dm_inventory.specs.Pages.{number_of};
+ghost use Rattle.dm_views.specs.inventory.Pages.{number_of};
 
 use crate::values::{OK, give, status_of};
 use dm_host::Host;
-use dm_inventory::{ArenaBlock, ExtendedBlock, FoundRecord, PageHandle, UpperBlock, Window};
+use dm_views::inventory::{ArenaBlock, ExtendedBlock, FoundRecord, PageHandle, UpperBlock, Window};
 use std::alloc::Global;
 
 /// How the lists of the arena's headers end: whether one is destroyed (1, otherwise 0), and the segment where that breaks,

@@ -3,7 +3,7 @@ use Rattle.std.specs.Prelude.{ℕ, Bool, if◌then◌else◌, List, ◌++◌}
 use Rattle.std.specs.List.{flat_map}
 use Rattle.dm_space.specs.Memory.{Memory}
 use Rattle.dm_cpu.specs.declared.cpu.Cpu.{Cpu}
-use Rattle.dm_state.specs.declared.stop.Stop.{Stop}
+use Rattle.dm_services.specs.declared.state.stop.Stop.{Stop}
 use Rattle.dm_findings.specs.declared.finding.Found.{Found}
 use Rattle.dm_findings.specs.declared.report.Listed.{Listed}
 use Rattle.dm_findings.specs.Report.{Reported}
@@ -11,7 +11,7 @@ use Rattle.dm_json.specs.declared.forms.Form.{Form}
 use Rattle.dm_json.specs.declared.forms.Form.TheVariants.{Text, Json}
 use Rattle.dm_json.specs.Objects.{found_object, summary_objects, end_object}
 use Rattle.dm_json.specs.Processes.{process_objects}
-use Rattle.dm_processes.specs.declared.process.Process.{Process}
+use Rattle.dm_findings.specs.declared.processes.process.Process.{Process}
 use Rattle.dm_reports.specs.Processes.{processes_text}
 use Rattle.dm_reports.specs.Reports.{summary_text}
 use Rattle.dm_reports.specs.Stops.{stopped_line}

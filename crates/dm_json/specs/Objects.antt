@@ -6,8 +6,8 @@ use Rattle.json.specs.Print.{quoted}
 use Rattle.dm_space.specs.Memory.{Memory, linear, peek}
 use Rattle.dm_cpu.specs.declared.cpu.Cpu.{Cpu}
 use Rattle.dm_cpu.specs.Guest.{up}
-use Rattle.dm_state.specs.declared.stop.Stop.{Stop}
-use Rattle.dm_state.specs.declared.stop.Stop.TheVariants as stop
+use Rattle.dm_services.specs.declared.state.stop.Stop.{Stop}
+use Rattle.dm_services.specs.declared.state.stop.Stop.TheVariants as stop
 use Rattle.dm_text.specs.Texts.{text_of}
 use Rattle.dm_views.specs.Digits.{address_text}
 use Rattle.dm_findings.specs.declared.calls.Call.{Call}

@@ -1,8 +1,8 @@
 -- The lines of `dm check --json` about the processes of a run. The members are this machine's own.
 use Rattle.std.specs.Prelude.{ℕ, nat_lt, if◌then◌else◌, List, [], ◌++◌, length, Option, Some, None, codes}
 use Rattle.std.specs.List.{flat_map}
-use Rattle.dm_processes.specs.declared.process.Process.{Process}
-use Rattle.dm_processes.specs.Processes.{name_text}
+use Rattle.dm_findings.specs.declared.processes.process.Process.{Process}
+use Rattle.dm_findings.specs.processes.Processes.{name_text}
 use Rattle.dm_json.specs.Objects.{closing, number_member, opening, string_member}
 
 -- the last step of a process; nothing if it has not ended (None)

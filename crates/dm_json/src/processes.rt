@@ -7,7 +7,7 @@ ghost use Rattle.dm_json.specs.Processes.{last_member, process_object, process_o
 
 use crate::members::{put_number_member, put_string_member};
 use crate::objects::put_opening;
-use dm_processes::Process;
+use dm_findings::processes::Process;
 use std::alloc::AllocError;
 
 /// Appends the last step of a process, if it has ended.

@@ -31,11 +31,11 @@ use Rattle.dm_text.specs.Pieces.{byte, digit, is_in_names, is_mark, parted, Piec
 use Rattle.dm_text.specs.Texts.{base_pieces, displacement_pieces, address_pieces, size_pieces, memory_pieces, operand_pieces, behind, second_pieces, operands_pieces, mnemonic_pieces, is_nop, action_pieces, segment_pieces, lock_pieces, repeat_pieces, prefix_pieces, pieces, text_of}
 use Rattle.dm_text.proofs.Pieces.{bytes-append}
 use Rattle.dm_text.proofs.Parted.{texts_are_parted}
-use Rattle.dm_words.specs.declared.written.Size.{Size}
-use Rattle.dm_words.specs.declared.written.Size.TheVariants.{Absent, Byte, Word, Near}
-use Rattle.dm_words.specs.Words.{size_word}
-use Rattle.dm_words.specs.Laws.{word_pieces}
-use Rattle.dm_words.proofs.Sizes.{sizes_are_shown}
+use Rattle.dm_text.specs.declared.words.written.Size.{Size}
+use Rattle.dm_text.specs.declared.words.written.Size.TheVariants.{Absent, Byte, Word, Near}
+use Rattle.dm_text.specs.words.Words.{size_word}
+use Rattle.dm_text.specs.words.Laws.{word_pieces}
+use Rattle.dm_text.proofs.words.Sizes.{sizes_are_shown}
 use Rattle.dm_lines.specs.Tokens.{tokens_of}
 use Rattle.dm_lines.specs.Statements.{statement_of, line_of}
 use Rattle.dm_lines.specs.Laws.{AllFit, TextsArePlain, TextsAreRead}

@@ -8,9 +8,9 @@ use Rattle.dm_ins.specs.declared.action.Action.{Action}
 use Rattle.dm_ins.specs.declared.ins.Ins.{Ins}
 use Rattle.dm_ins.specs.Spelling.{SpellsAction}
 use Rattle.dm_text.specs.Texts.{text_of}
-use Rattle.dm_words.specs.declared.written.Written.{Written}
-use Rattle.dm_words.specs.StandIns.{OperandStands}
-use Rattle.dm_words.specs.Own as read
+use Rattle.dm_text.specs.declared.words.written.Written.{Written}
+use Rattle.dm_text.specs.words.StandIns.{OperandStands}
+use Rattle.dm_text.specs.words.Own as read
 use Rattle.dm_lines.specs.declared.term.Amount.{Amount}
 use Rattle.dm_lines.specs.declared.term.Amount.TheVariants.{Plus, Minus}
 use Rattle.dm_lines.specs.declared.term.Term.{Term}

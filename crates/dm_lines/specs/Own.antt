@@ -8,8 +8,8 @@ use Rattle.dm_ins.specs.declared.operand.Operand.{Operand}
 use Rattle.dm_ins.specs.declared.operand.Operand.TheVariants as operand
 use Rattle.dm_ins.specs.declared.action.Action.{Action}
 use Rattle.dm_ins.specs.declared.ins.Ins.{Ins}
-use Rattle.dm_words.specs.declared.written.Size.{Size}
-use Rattle.dm_words.specs.Words.{size_word}
+use Rattle.dm_text.specs.declared.words.written.Size.{Size}
+use Rattle.dm_text.specs.words.Words.{size_word}
 use Rattle.dm_lines.specs.declared.term.Amount.TheVariants.{Plus}
 use Rattle.dm_lines.specs.declared.term.Value.{Value}
 use Rattle.dm_lines.specs.declared.term.Term.{Term}

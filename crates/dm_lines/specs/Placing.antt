@@ -7,10 +7,10 @@ use Rattle.std.specs.Prelude.{ℕ, ◌+◌, ◌-◌, ◌%◌, Bool, true, false,
 use Rattle.dm_ins.specs.declared.action.Mnemonic.{Mnemonic}
 use Rattle.dm_ins.specs.declared.operand.Base.TheVariants.{Direct}
 use Rattle.dm_ins.specs.Walks.{◌>>=◌}
-use Rattle.dm_words.specs.declared.written.Numeral.{Numeral}
-use Rattle.dm_words.specs.declared.written.Written.{Written}
-use Rattle.dm_words.specs.declared.written.Written.TheVariants as w
-use Rattle.dm_words.specs.StandIns.{is_move}
+use Rattle.dm_text.specs.declared.words.written.Numeral.{Numeral}
+use Rattle.dm_text.specs.declared.words.written.Written.{Written}
+use Rattle.dm_text.specs.declared.words.written.Written.TheVariants as w
+use Rattle.dm_text.specs.words.StandIns.{is_move}
 use Rattle.dm_lines.specs.declared.token.Name as Name'
 use Rattle.dm_lines.specs.declared.term.Amount.{Amount}
 use Rattle.dm_lines.specs.declared.term.Amount.TheVariants.{Plus, Minus}

@@ -13,15 +13,15 @@ use Rattle.dm_cpu.specs.Unseen.{changed}
 use Rattle.dm_cpu.proofs.Unseen.{interrupt_return-unseen}
 use Rattle.dm_exec.proofs.Unseen.{effect-unseen}
 use Rattle.dm_space.proofs.Unseen.{pages-unseen}
-use Rattle.dm_state.specs.declared.stop.Stop.{Stop}
-use Rattle.dm_state.specs.declared.stop.Stop.TheVariants.{Memory as NoMemory}
+use Rattle.dm_services.specs.declared.state.stop.Stop.{Stop}
+use Rattle.dm_services.specs.declared.state.stop.Stop.TheVariants.{Memory as NoMemory}
 use Rattle.dm_space.specs.declared.entry_points.EntryPoint.{EntryPoint}
 use Rattle.dm_space.specs.declared.entry_points.EntryPoint.TheVariants as entry_point
 use Rattle.dm_space.specs.EntryPoints.{entry_point_at}
 use Rattle.dm_space.specs.declared.entry_points.Driver.TheVariants.{ExpandedMemory, Multiplex, ExtendedMemory}
 use Rattle.dm_drivers.specs.Multiplex.{multiplex_reply}
 use Rattle.dm_drivers.specs.Drivers.{driven}
-use Rattle.dm_state.specs.State.{State, Answer, go, with_guest}
+use Rattle.dm_services.specs.state.State.{State, Answer, go, with_guest}
 use Rattle.dm_services.specs.Wanting.{MayWant}
 use Rattle.dm_machine.specs.Step.{MakesStep, ActsUnlessEnded, Acts, Instructs, listed, unlisted, fetched, after, instructed}
 use Rattle.dm_ins.specs.Ins.{BeginsWith}

@@ -11,9 +11,9 @@ use Rattle.dm_exec.specs.Effect.{next_of}
 use Rattle.dm_xms.specs.declared.tables.Handle.{Handle}
 use Rattle.dm_xms.specs.Consistent.{handle_at}
 use Rattle.dm_xms.specs.Tables as xms
-use Rattle.dm_state.specs.declared.stop.Stop.{Stop}
-use Rattle.dm_state.specs.declared.stop.Stop.TheVariants.{Memory as NoMemory}
-use Rattle.dm_state.specs.State.{State, Answer, AreConsistent}
+use Rattle.dm_services.specs.declared.state.stop.Stop.{Stop}
+use Rattle.dm_services.specs.declared.state.stop.Stop.TheVariants.{Memory as NoMemory}
+use Rattle.dm_services.specs.state.State.{State, Answer, AreConsistent}
 use Rattle.dm_space.specs.declared.entry_points.EntryPoint.{EntryPoint}
 use Rattle.dm_space.specs.declared.entry_points.EntryPoint.TheVariants as entry_point
 use Rattle.dm_space.specs.EntryPoints.{entry_point_at}

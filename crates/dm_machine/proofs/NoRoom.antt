@@ -9,7 +9,7 @@ use Rattle.dm_proc.specs.Request.{Passed}
 use Rattle.dm_proc.specs.Environment.{environment}
 use Rattle.dm_proc.specs.Processes.{Processes, Begins, PlanRefused}
 use Rattle.dm_proc.proofs.OneAnswer.{load_unique}
-use Rattle.dm_state.specs.State.{State}
+use Rattle.dm_services.specs.state.State.{State}
 use Rattle.dm_machine.specs.Start.{HasNoRoom}
 
 pub no_room : (s v : State) (name file image variables : List ℕ) (e : ExecRefusal) → v ≡ s → program_of v.programs name ≡ Some file → image ≡ file → IsGood file → variables ≡ v.variables →

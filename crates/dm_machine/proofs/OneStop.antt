@@ -1,9 +1,9 @@
 -- A run has one stop
 use Rattle.std.proofs.Common.{◌≡◌, ◌≢◌, ℕ, ◌<◌, inl, inr, Option, Some, None, refl, sym, ◌∙◌, ap, subst, arith}
 use Rattle.std.proofs.lemmas.Bool.{cases_lt}
-use Rattle.dm_state.specs.declared.stop.Stop.{Stop}
-use Rattle.dm_state.specs.declared.stop.Stop.TheVariants.{Exited, Memory as NoMemory}
-use Rattle.dm_state.specs.State.{State, Answer}
+use Rattle.dm_services.specs.declared.state.stop.Stop.{Stop}
+use Rattle.dm_services.specs.declared.state.stop.Stop.TheVariants.{Exited, Memory as NoMemory}
+use Rattle.dm_services.specs.state.State.{State, Answer}
 use Rattle.dm_machine.specs.Step.{MakesStep}
 use Rattle.dm_machine.specs.Run.{Answers, Goes, here, further, StopsWithin, over, whole, cut}
 use Rattle.dm_machine.specs.Laws.{RunHasOneStop}

@@ -4,13 +4,13 @@ use Rattle.dm_exec.specs.declared.effect.Next.{Next}
 use Rattle.dm_exec.specs.declared.effect.Next.TheVariants.{Go, Halt}
 use Rattle.dm_cpu.specs.Guest.{Guest, guest}
 use Rattle.dm_exec.specs.Effect.{effect, next_of}
-use Rattle.dm_state.specs.declared.stop.Stop.{Stop}
-use Rattle.dm_state.specs.declared.stop.Stop.TheVariants.{Memory as NoMemory}
+use Rattle.dm_services.specs.declared.state.stop.Stop.{Stop}
+use Rattle.dm_services.specs.declared.state.stop.Stop.TheVariants.{Memory as NoMemory}
 use Rattle.dm_space.specs.declared.entry_points.EntryPoint.{EntryPoint}
 use Rattle.dm_space.specs.declared.entry_points.EntryPoint.TheVariants as entry_point
 use Rattle.dm_space.specs.EntryPoints.{entry_point_at}
 use Rattle.dm_space.specs.declared.entry_points.Driver.TheVariants.{ExpandedMemory, Multiplex, ExtendedMemory}
-use Rattle.dm_state.specs.State.{State, Answer}
+use Rattle.dm_services.specs.state.State.{State, Answer}
 use Rattle.dm_machine.specs.Step.{MakesStep, ActsUnlessEnded, Acts, Instructs, listed, unlisted, after}
 use Rattle.dm_machine.specs.Run.{Answers, Goes, here, further, IsRun, over, whole, cut}
 use Rattle.dm_machine.specs.Laws.{IsHistory, none, step_on, run_on, changed, reserved, RoomIsEnoughForRuns, RoomIsEnoughForSteps}

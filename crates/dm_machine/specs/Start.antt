@@ -18,7 +18,7 @@ use Rattle.dm_proc.specs.Programs.{program_of}
 use Rattle.dm_proc.specs.Request.{Passed}
 use Rattle.dm_proc.specs.Environment.{environment}
 use Rattle.dm_proc.specs.Processes.{Begins, PlanRefused}
-use Rattle.dm_state.specs.State.{State}
+use Rattle.dm_services.specs.state.State.{State}
 
 -- all flags clear
 abbrev pub clear_flags : Flags

@@ -1,7 +1,7 @@
 //! Laws of steps and runs, each the contract of a function that does nothing.
 ghost use Rattle.dm_machine.specs.Laws.{StepHasOneAnswer, ThereIsOneRun, RunHasOneStop, UnseenBytesChangeNoStep, UnseenBytesChangeNoRun, UnseenBlocksChangeNoRun, RunLeavesUnseen, ExtendedBlocksChangeNoRun, RunLeavesExtended, RoomIsEnoughForRuns, RoomIsEnoughForSteps};
 ghost use Rattle.dm_machine.specs.Until.{UntilHasOneStop};
-ghost use Rattle.dm_state.specs.State.{AreConsistent};
+ghost use Rattle.dm_services.specs.state.State.{AreConsistent};
 
 use crate::machine::Machine;
 

@@ -3,7 +3,7 @@ ghost use Rattle.std.specs.Prelude.{◌≡◌, ◌≤◌, ◌↔◌, ◌++◌, l
 ghost use Rattle.dm_proc.specs.Programs.{program_of, IsName};
 ghost use Rattle.dm_proc.specs.Request.{passed_of};
 ghost use Rattle.dm_machine.specs.Start.{passed_first, IsLoaded, IsBadProgram, HasNoRoom};
-ghost use Rattle.dm_state.specs.State.{HasProgram};
+ghost use Rattle.dm_services.specs.state.State.{HasProgram};
 
 use crate::machine::Machine;
 use arrayvec::ArrayVec;

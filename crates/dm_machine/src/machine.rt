@@ -3,7 +3,7 @@ ghost use Rattle.std.specs.Prelude.{◌≡◌, ◌≤◌, ◌↔◌, IsTrue, IfO
 ghost use Rattle.dm_space.specs.Memory.{linear, peek, poke};
 ghost use Rattle.dm_pool.specs.Stored.{IsTooLarge};
 ghost use Rattle.dm_machine.specs.Start.{IsNew, IsStartWith, with_headers};
-ghost use Rattle.dm_state.specs.State.{HasProgram};
+ghost use Rattle.dm_services.specs.state.State.{HasProgram};
 
 use crate::decode_cache::DecodeCache;
 use dm_alu::Flags;
@@ -14,7 +14,7 @@ use dm_ems::Ems;
 use dm_pool::{Sizes, Store};
 use dm_proc::{Procs, Programs};
 use dm_space::Space;
-use dm_state::{Config, Parts};
+use dm_services::state::{Config, Parts};
 use dm_xms::Xms;
 use std::alloc::{AllocError, Global};
 use std::marker::Model;
@@ -42,7 +42,7 @@ pub struct Machine {
 }
 
 impl Model for Machine {
-    ghost use Rattle.dm_state.specs.State.{State, AreConsistent};
+    ghost use Rattle.dm_services.specs.state.State.{State, AreConsistent};
 
     ghost Value = { State };
 

@@ -1,2 +1,3 @@
+pub mod leaks
 pub mod Origins
 pub mod inner

@@ -15,7 +15,7 @@ use Rattle.dm_findings.specs.declared.finding.Finding.TheVariants.{FreeRead, Fre
 use Rattle.dm_findings.specs.declared.finding.Kept.{Kept}
 use Rattle.dm_findings.specs.declared.finding.Kept.TheVariants as kept
 use Rattle.dm_findings.specs.declared.finding.Origin.{Origin}
-use Rattle.dm_processes.specs.declared.process.Process.{Process}
+use Rattle.dm_findings.specs.declared.processes.process.Process.{Process}
 use Rattle.dm_origins.specs.declared.handles.Since.{Since}
 use Rattle.dm_origins.specs.declared.handles.Since.TheVariants.{Unused, Used}
 use Rattle.dm_origins.specs.declared.uppers.UpperSince.{UpperSince}

@@ -2,6 +2,7 @@
 //! memory blocks, the high memory area, A20, and memory of the arena; and which processes ran.
 #![tactic(auto)]
 
+pub mod leaks;
 mod chunks;
 mod freed;
 mod handles;

@@ -4,7 +4,7 @@ ghost use Rattle.std.specs.Prelude.{◌≡◌, ◌/◌, ◌++◌, ◌∷◌, [],
 ghost use Rattle.dm_space.specs.Memory.{linear};
 ghost use Rattle.dm_origins.specs.Origins.{known_first, with_handles, with_blocks, with_freed, of_kept, of_paragraph, origin_of, origin_since};
 ghost use Rattle.dm_origins.specs.declared.handles.Since.TheVariants.{Unused};
-ghost use Rattle.dm_processes.specs.Processes.{with_end};
+ghost use Rattle.dm_findings.specs.processes.Processes.{with_end};
 
 use crate::chunks::Chunks;
 use crate::freed::free_all;
@@ -13,7 +13,7 @@ use crate::uppers::{UpperSince, look_at_uppers, upper_origin};
 use dm_blocks::Header;
 use dm_ems::Ems;
 use dm_findings::{Finding, Kept, Origin};
-use dm_processes::{Process, end_innermost};
+use dm_findings::processes::{Process, end_innermost};
 use dm_touches::FarAddress;
 use dm_xms::Xms;
 use std::alloc::{AllocError, Global};

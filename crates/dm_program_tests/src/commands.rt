@@ -502,7 +502,7 @@ errors: 5, notes: 0
 dm: cannot write standard output
 ";
 
-/// Definitions: dm_out Out HasFailed AppendsPart
+/// Definitions: dm_console writers.Out HasFailed AppendsPart
 /// Definitions: dm_cli Checking unwritten_status
 #[test]
 fn tells_failing_writes(rt: HostRuntime) -> Result<(), Fail> {
@@ -576,7 +576,7 @@ fn is_cut(
     Ok(())
 }
 
-/// Definitions: dm_cli Messages Prints HasPrinted stop_text; dm_cli Checking told_status; dm_out Out HasFailed AppendsPart
+/// Definitions: dm_cli Messages Prints HasPrinted stop_text; dm_cli Checking told_status; dm_console writers.Out HasFailed AppendsPart
 #[test]
 fn failing_messages_are_cut(rt: HostRuntime) -> Result<(), Fail> {
     let lines = [

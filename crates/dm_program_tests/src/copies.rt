@@ -1,5 +1,5 @@
 //! Copies of machines: a copy goes on as its original does, and neither sees what the other does.
-ghost use Rattle.dm_state.specs.State.{HasProgram};
+ghost use Rattle.dm_services.specs.state.State.{HasProgram};
 
 use crate::checks::same;
 use crate::machines::{SEGMENT, loaded, machine_with, store, sum_of_memory};

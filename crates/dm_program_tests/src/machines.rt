@@ -1,7 +1,7 @@
 //! Machines for tests.
 ghost use Rattle.std.specs.Prelude.{◌≡◌, ◌≤◌, IfOk, length};
 ghost use Rattle.dm_proc.specs.Programs.{IsName};
-ghost use Rattle.dm_state.specs.State.{HasProgram};
+ghost use Rattle.dm_services.specs.state.State.{HasProgram};
 
 use dm_machine::{Config, Machine, NewError, Programs, Sizes};
 use std::alloc::Global;

@@ -1,6 +1,6 @@
 //! The breakpoints of a session, no two of which are at one address.
 use crate::checks::same;
-use dm_command::LogicalAddress;
+use dm_requests::commands::LogicalAddress;
 use dm_debug::Points;
 use std::test::Fail;
 

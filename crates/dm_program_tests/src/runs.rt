@@ -1,5 +1,5 @@
 //! What a stop leaves unchanged, and room for output.
-ghost use Rattle.dm_state.specs.State.{HasProgram};
+ghost use Rattle.dm_services.specs.state.State.{HasProgram};
 
 use crate::checks::same;
 use crate::machines::{loaded, sum_of_memory};
@@ -13,7 +13,7 @@ const HELLO: [u8; 15] = [
     0xB4, 0x09, 0xBA, 0x0C, 0x01, 0xCD, 0x21, 0xB8, 0x00, 0x4C, 0xCD, 0x21, 0x68, 0x69, 0x24,
 ];
 
-/// Definitions: dm_state State State HasProgram Answer go stop_at; dm_services Text print text_at text_within
+/// Definitions: dm_services state.State State HasProgram Answer go stop_at; dm_services Text print text_at text_within
 /// Definitions: dm_services Processes concluded; dm_machine Run IsRun Goes StopsWithin
 #[test]
 fn hello_prints_hi(rt: HostRuntime) -> Result<(), Fail> {
@@ -54,7 +54,7 @@ fn stays(
     Ok(())
 }
 
-/// Definitions: dm_state State Answer go stop_at
+/// Definitions: dm_services state.State Answer go stop_at
 /// Definitions: dm_machine Step MakesStep ActsUnlessEnded Acts Instructs fetched instructed after
 /// Definitions: dm_ins Ins BeginsWith
 /// Definitions: dm_space EightBytes sixteen_after byte_after

@@ -4,7 +4,7 @@ use crate::checks::same_of;
 use crate::files::Slow;
 use crate::machines::loaded_as;
 use dm_debug::{CommandRefusal, Session};
-use dm_out::Sink;
+use dm_console::writers::Sink;
 use std::alloc::Global;
 use std::process::Abort;
 use std::test::Fail;

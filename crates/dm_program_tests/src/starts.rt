@@ -78,7 +78,7 @@ const GREEDY: [u8; 28] = [
     b'M', b'Z', 28, 0, 1, 0, 0, 0, 1, 0, 0xFF, 0xFF, 0, 0, 0, 0, 0, 0, 0, 0, 0, 0, 0, 0, 0, 0, 0, 0,
 ];
 
-/// Definitions: dm_proc Programs program_of has_name; dm_state State State HasProgram
+/// Definitions: dm_proc Programs program_of has_name; dm_services state.State State HasProgram
 /// Definitions: dm_machine Start IsNew clear_registers clear_flags IsBadProgram HasNoRoom
 #[test]
 fn refused_loads_change_nothing(rt: HostRuntime) -> Result<(), Fail> {

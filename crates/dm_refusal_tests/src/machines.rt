@@ -1,6 +1,6 @@
 //! Machines on which calls are made, and whether two are alike.
 ghost use Rattle.std.specs.Prelude.{◌≡◌, IfOk};
-ghost use Rattle.dm_state.specs.State.{HasProgram};
+ghost use Rattle.dm_services.specs.state.State.{HasProgram};
 
 use anyhow::Result;
 use dm_machine::{Config, Machine, NewError, Programs, Sizes, Stop};

@@ -1,6 +1,6 @@
 //! Machines, room for their output, steps and runs.
 ghost use Rattle.std.specs.Prelude.{IfOk};
-ghost use Rattle.dm_state.specs.State.{HasProgram};
+ghost use Rattle.dm_services.specs.state.State.{HasProgram};
 
 use crate::machines::{Scene, are_alike, machine_at, new_machine, store_of};
 use crate::telling::{tell, tell_refused};
@@ -8,7 +8,7 @@ use crate::whole::Whole;
 use anyhow::Result;
 use dm_cli::run_program;
 use dm_machine::{Machine, NewError, Stop};
-use dm_out::Sink;
+use dm_console::writers::Sink;
 use std::alloc::Global;
 
 /// MOV AH,9; MOV DX,10Ch; INT 21h; MOV AX,4C00h; INT 21h; `hi$`

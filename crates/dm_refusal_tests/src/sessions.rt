@@ -5,7 +5,7 @@ use crate::telling::{tell, tell_refused};
 use crate::whole::Whole;
 use anyhow::Result;
 use dm_debug::{CommandRefusal, Session};
-use dm_out::Sink;
+use dm_console::writers::Sink;
 use std::alloc::Global;
 
 /// MOV AH,9; MOV DX,10Ch; INT 21h; MOV AX,4C00h; INT 21h; `hi$`

@@ -2,8 +2,8 @@
 use Rattle.std.specs.Prelude.{ℕ, nat_lt, if◌then◌else◌, List, [], ◌∷◌, ◌++◌, length, Option, Some, None, codes, decimal}
 use Rattle.std.specs.List.{flat_map}
 use Rattle.dm_views.specs.Digits.{four_digits}
-use Rattle.dm_processes.specs.declared.process.Process.{Process}
-use Rattle.dm_processes.specs.Processes.{name_text}
+use Rattle.dm_findings.specs.declared.processes.process.Process.{Process}
+use Rattle.dm_findings.specs.processes.Processes.{name_text}
 
 -- the steps from the first to the last; the first alone if the process has not ended (None)
 abbrev pub steps_text : ℕ → Option ℕ → List ℕ

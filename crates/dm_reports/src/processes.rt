@@ -6,7 +6,7 @@ ghost use Rattle.std.specs.List.{flat_map};
 ghost use Rattle.dm_reports.specs.Processes.{process_line, processes_text, steps_text};
 
 use crate::texts::put_number;
-use dm_processes::Process;
+use dm_findings::processes::Process;
 use dm_views::word_digits;
 use std::alloc::AllocError;
 

@@ -8,7 +8,7 @@ use crate::names::put_call;
 use dm_cpu::Cpu;
 use dm_findings::{Call, Site, call_of, site_of};
 use dm_space::Space;
-use dm_state::Stop;
+use dm_services::state::Stop;
 use dm_views::{byte_digits, put_address};
 use std::alloc::AllocError;
 

@@ -2,7 +2,7 @@
 -- Source: GDB manual, "GDB Remote Serial Protocol", "Packets" (`m`, `Z`).
 use Rattle.std.specs.Prelude.{ℕ, ◌==◌, ◌||◌, if◌then◌else◌, List, [], ◌∷◌, ◌++◌, length, take, drop, Option, Some, None}
 use Rattle.std.specs.Str.{bytes_eq}
-use Rattle.dm_command.specs.Numbers.{◌>>=◌, number_of}
+use Rattle.dm_requests.specs.commands.Numbers.{◌>>=◌, number_of}
 use Rattle.dm_requests.specs.declared.request.Access.{Access}
 use Rattle.dm_requests.specs.declared.request.Access.TheVariants.{Execute, Write, Read, Either}
 use Rattle.dm_requests.specs.declared.request.Point.{Point}

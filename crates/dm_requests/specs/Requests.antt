@@ -3,7 +3,7 @@
 use Rattle.std.specs.Option.{option_map_or}
 use Rattle.std.specs.Prelude.{ℕ, ◌==◌, if◌then◌else◌, List, [], ◌∷◌, length, codes, Option}
 use Rattle.hex.specs.Hex.{decode_of}
-use Rattle.dm_command.specs.Numbers.{number_of, if_good}
+use Rattle.dm_requests.specs.commands.Numbers.{number_of, if_good}
 use Rattle.dm_requests.specs.declared.request.Point.{Point}
 use Rattle.dm_requests.specs.declared.request.Request.{Request}
 use Rattle.dm_requests.specs.declared.request.Request.TheVariants as request

@@ -2,12 +2,12 @@
 
 ghost use Rattle.std.specs.Prelude.{◌≡◌, IfOk, [], option_map};
 ghost use Rattle.hex.specs.Hex.{decode_of};
-ghost use Rattle.dm_command.specs.Numbers.{if_good};
+ghost use Rattle.dm_requests.specs.commands.Numbers.{if_good};
 ghost use Rattle.dm_requests.specs.Arguments.{cut_at, two_numbers, after_prefix, access_of, point_of};
 
 use crate::request::{Access, Point};
-use dm_command::read_number;
-use dm_packets::Payload;
+use crate::commands::read_number;
+use crate::packets::Payload;
 use hex::FromHexError;
 use std::alloc::{AllocError, Global};
 

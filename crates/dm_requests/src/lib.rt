@@ -3,6 +3,8 @@
 //! Source: the GDB manual, appendix "GDB Remote Serial Protocol", sections "Packets", "General Query Packets" and "vCont".
 #![tactic(auto)]
 
+pub mod packets;
+pub mod commands;
 mod arguments;
 mod names;
 mod reading;

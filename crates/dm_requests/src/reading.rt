@@ -6,8 +6,8 @@ ghost use Rattle.dm_requests.specs.Requests.{set_bytes, memory_of, set_memory_of
 use crate::arguments::{after_prefix, cut_at, point_of, two_numbers, unhex};
 use crate::names::{named_query, named_verb, single};
 use crate::request::Request;
-use dm_command::read_number;
-use dm_packets::Payload;
+use crate::commands::read_number;
+use crate::packets::Payload;
 use std::alloc::{AllocError, Global};
 
 /// `m ADDRESS,COUNT`.

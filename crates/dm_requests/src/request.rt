@@ -1,6 +1,6 @@
 //! The requests, with what follows their names.
 
-use dm_packets::Payload;
+use crate::packets::Payload;
 
 /// What a breakpoint or watchpoint stops at.
 #[derive(Clone, Copy, Debug, PartialEq, Eq)]

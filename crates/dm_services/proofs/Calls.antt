@@ -6,7 +6,7 @@ use Rattle.dm_arena.specs.declared.refusal.ArenaRefusal.{ArenaRefusal}
 use Rattle.dm_arena.specs.Allocation.{Allocates}
 use Rattle.dm_arena.specs.Owned.{Frees, Resizes}
 use Rattle.dm_arena.specs.Linking.{Links}
-use Rattle.dm_state.specs.State.{State, Answer}
+use Rattle.dm_services.specs.state.State.{State, Answer}
 use Rattle.dm_services.specs.Allocation.{answered, refused, Allocation, Freeing, Resizing}
 use Rattle.dm_services.specs.Strategies.{Linking}
 

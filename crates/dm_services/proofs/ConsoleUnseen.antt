@@ -4,7 +4,7 @@ use Rattle.dm_space.specs.Memory.{Memory}
 use Rattle.dm_space.specs.Unseen.{IsUnseen}
 use Rattle.dm_cpu.specs.Cpu.{byte_of}
 use Rattle.dm_ins.specs.declared.operand.ByteRegister.TheVariants.{Al}
-use Rattle.dm_state.specs.State.{State, go, interrupt_returned}
+use Rattle.dm_services.specs.state.State.{State, go, interrupt_returned}
 use Rattle.dm_services.specs.Characters.{with_al, character_of, read_character, echo_of, echo_character, write_character, poll_of, poll_character, direct_character, check_input}
 use Rattle.dm_services.specs.Lines.{line_length, line_read, line_into, read_line}
 use Rattle.dm_services.specs.Flush.{flush_and_read}

@@ -9,9 +9,9 @@ use Rattle.dm_proc.specs.declared.refusal.ArenaDestroyed.{ArenaDestroyed}
 use Rattle.dm_proc.specs.declared.parent.Ending.{Ending}
 use Rattle.dm_proc.specs.declared.parent.Ending.TheVariants.{Returned, Exited}
 use Rattle.dm_proc.specs.Processes.{Processes, AreLoaded, Executes, Overlays, Terminates, Keeps}
-use Rattle.dm_state.specs.declared.stop.Stop.TheVariants as stop
-use Rattle.dm_state.specs.State.{State, Answer, HasProgram, go, stop_at}
-use Rattle.dm_state.specs.inner.State.{HaveSegments}
+use Rattle.dm_services.specs.declared.state.stop.Stop.TheVariants as stop
+use Rattle.dm_services.specs.state.State.{State, Answer, HasProgram, go, stop_at}
+use Rattle.dm_services.specs.state.inner.State.{HaveSegments}
 use Rattle.dm_services.specs.Allocation.{answered}
 use Rattle.dm_services.specs.Processes.{with_processes, not_loaded, concluded, Executing, Overlaying, Terminating, Keeping}
 use Rattle.dm_services.proofs.Calls.{going}

@@ -14,7 +14,7 @@ use Rattle.dm_space.specs.declared.entry_points.Service.TheVariants as service
 use Rattle.dm_space.specs.declared.entry_points.Service.TheVariants.{DivideError, Dos}
 use Rattle.dm_services.specs.declared.functions.Function.{Function}
 use Rattle.dm_services.specs.declared.functions.Function.TheVariants.{EchoCharacter, WriteCharacter, DirectCharacter, ReadCharacter, WriteText, ReadLine, CheckInput, FlushAndRead, SetVector, Version, Keep, GetVector, ReadHandle, WriteHandle, Allocate, Free, Resize, LoadProgram, Exit, ExitCode, Process, AllocationStrategy, Terminate, Unknown}
-use Rattle.dm_state.specs.State.{State, Answer}
+use Rattle.dm_services.specs.state.State.{State, Answer}
 use Rattle.dm_services.specs.Text.{written, text_at, print}
 use Rattle.dm_services.specs.Characters.{character_of, read_character, echo_of, echo_character, write_character, poll_of, poll_character, direct_character, check_input}
 use Rattle.dm_services.specs.Lines.{line_length, line_read, line_into, read_line}

@@ -13,7 +13,7 @@ use Rattle.dm_services.specs.declared.functions.Function.TheVariants.{EchoCharac
 use Rattle.dm_arena.specs.declared.fit.Strategy.{Strategy}
 use Rattle.dm_arena.specs.declared.refusal.ArenaRefusal.{ArenaRefusal}
 use Rattle.dm_arena.proofs.Unseen.{allocation-unseen, freeing-unseen, resizing-unseen, linking-unseen, telling-unseen}
-use Rattle.dm_state.specs.State.{State, Answer}
+use Rattle.dm_services.specs.state.State.{State, Answer}
 use Rattle.dm_services.specs.Text.{text_within, print}
 use Rattle.dm_services.specs.Allocation.{answered, allocated, settled}
 use Rattle.dm_services.specs.declared.strategies.StrategyFunction.{StrategyFunction}

@@ -7,7 +7,7 @@ use Rattle.dm_cpu.specs.Guest.{guest}
 use Rattle.dm_cpu.specs.Stack.{interrupt_return}
 use Rattle.dm_cpu.proofs.Unseen.{interrupt_return-unseen}
 use Rattle.dm_proc.specs.Writes.{bytes_from}
-use Rattle.dm_state.specs.State.{Answer}
+use Rattle.dm_services.specs.state.State.{Answer}
 use Rattle.dm_space.specs.Buffers.{with_bytes}
 use Rattle.dm_services.specs.inner.Laws.{answer_with}
 

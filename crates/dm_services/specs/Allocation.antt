@@ -8,7 +8,7 @@ use Rattle.dm_arena.specs.declared.refusal.ArenaRefusal.{ArenaRefusal}
 use Rattle.dm_arena.specs.declared.refusal.ArenaRefusal.TheVariants.{Destroyed, Short, NoBlock}
 use Rattle.dm_arena.specs.Allocation.{Allocates}
 use Rattle.dm_arena.specs.Owned.{Frees, Resizes}
-use Rattle.dm_state.specs.State.{State, Answer, go, interrupt_returned, with_carry}
+use Rattle.dm_services.specs.state.State.{State, Answer, go, interrupt_returned, with_carry}
 
 -- the return from 48h, 49h, 4Ah, 4Bh or 58h with registers c, memory m and CF: IP, CS and FLAGS are popped, CF is set
 -- or cleared, and the step is counted

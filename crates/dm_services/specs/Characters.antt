@@ -6,8 +6,8 @@
 use Rattle.std.specs.Prelude.{ℕ, ◌==◌, Bool, true, false, if◌then◌else◌, List, [], ◌∷◌}
 use Rattle.dm_cpu.specs.Cpu.{byte_of, with_byte}
 use Rattle.dm_ins.specs.declared.operand.ByteRegister.TheVariants.{Al, Dl}
-use Rattle.dm_state.specs.declared.stop.Stop.TheVariants.{InputEnded}
-use Rattle.dm_state.specs.State.{State, Answer, go, stop_at, interrupt_returned}
+use Rattle.dm_services.specs.declared.state.stop.Stop.TheVariants.{InputEnded}
+use Rattle.dm_services.specs.state.State.{State, Answer, go, stop_at, interrupt_returned}
 use Rattle.dm_services.specs.Text.{written}
 
 -- the state with the byte in AL; AH stays

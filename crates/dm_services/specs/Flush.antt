@@ -3,7 +3,7 @@
 use Rattle.std.specs.Prelude.{ℕ, ◌==◌, if◌then◌else◌}
 use Rattle.dm_cpu.specs.Cpu.{byte_of}
 use Rattle.dm_ins.specs.declared.operand.ByteRegister.TheVariants.{Al}
-use Rattle.dm_state.specs.State.{State, Answer, go, interrupt_returned}
+use Rattle.dm_services.specs.state.State.{State, Answer, go, interrupt_returned}
 use Rattle.dm_services.specs.Characters.{with_al, echo_character, direct_character, read_character}
 use Rattle.dm_services.specs.Lines.{read_line}
 

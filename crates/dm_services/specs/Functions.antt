@@ -5,7 +5,7 @@ use Rattle.dm_cpu.specs.Cpu.{byte_of}
 use Rattle.dm_ins.specs.declared.operand.ByteRegister.TheVariants.{Al}
 use Rattle.dm_services.specs.declared.functions.Function.{Function}
 use Rattle.dm_services.specs.declared.functions.Function.TheVariants.{EchoCharacter, WriteCharacter, DirectCharacter, ReadCharacter, WriteText, ReadLine, CheckInput, FlushAndRead, SetVector, Version, Keep, GetVector, ReadHandle, WriteHandle, Allocate, Free, Resize, LoadProgram, Exit, ExitCode, Process, AllocationStrategy, Terminate, Unknown}
-use Rattle.dm_state.specs.State.{State, Answer, go, interrupt_returned, with_carry}
+use Rattle.dm_services.specs.state.State.{State, Answer, go, interrupt_returned, with_carry}
 use Rattle.dm_services.specs.Text.{print}
 use Rattle.dm_services.specs.Characters.{echo_character, write_character, direct_character, read_character, check_input}
 use Rattle.dm_services.specs.Lines.{read_line}

@@ -4,8 +4,8 @@
 -- call else returns by popping IP, CS and FLAGS, then sets or clears CF, and counts the step.
 use Rattle.std.specs.Prelude.{ℕ, nat_lt, ◌==◌, ◌&&◌, Bool, true, false, if◌then◌else◌, List, take, drop, length}
 use Rattle.dm_proc.specs.Writes.{bytes_from}
-use Rattle.dm_state.specs.declared.stop.Stop.TheVariants.{InputEnded}
-use Rattle.dm_state.specs.State.{State, Answer, go, stop_at, interrupt_returned, with_carry}
+use Rattle.dm_services.specs.declared.state.stop.Stop.TheVariants.{InputEnded}
+use Rattle.dm_services.specs.state.State.{State, Answer, go, stop_at, interrupt_returned, with_carry}
 use Rattle.dm_services.specs.Characters.{with_input, with_written}
 use Rattle.dm_space.specs.Buffers.{with_bytes}
 

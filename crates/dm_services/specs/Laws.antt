@@ -2,7 +2,7 @@
 use Rattle.std.specs.Prelude.{◌≡◌}
 use Rattle.dm_space.specs.Memory.{Memory}
 use Rattle.dm_space.specs.declared.entry_points.Service.{Service}
-use Rattle.dm_state.specs.State.{State, Answer}
+use Rattle.dm_services.specs.state.State.{State, Answer}
 use Rattle.dm_services.specs.Services.{Serves}
 
 -- the state before a service, in which no allocation fails, determines its stop and the state after it

@@ -1,3 +1,4 @@
+pub mod state
 pub mod Wanting
 pub mod Text
 pub mod Characters

@@ -4,8 +4,8 @@ use Rattle.std.specs.Prelude.{ℕ, ◌+◌, ◌-◌, ◌==◌, not, if◌then◌
 use Rattle.std.specs.List.{filter, position}
 use Rattle.dm_space.specs.Memory.{Memory, linear, peek}
 use Rattle.dm_cpu.specs.Guest.{up}
-use Rattle.dm_state.specs.declared.stop.Stop.TheVariants.{InputEnded}
-use Rattle.dm_state.specs.State.{State, Answer, go, stop_at, interrupt_returned}
+use Rattle.dm_services.specs.declared.state.stop.Stop.TheVariants.{InputEnded}
+use Rattle.dm_services.specs.state.State.{State, Answer, go, stop_at, interrupt_returned}
 use Rattle.dm_space.specs.Buffers.{with_bytes}
 
 -- how many bytes of the input stand before the first 0Dh; None where there is no 0Dh

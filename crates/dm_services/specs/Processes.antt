@@ -12,8 +12,8 @@ use Rattle.dm_proc.specs.declared.refusal.ArenaDestroyed.{ArenaDestroyed}
 use Rattle.dm_proc.specs.declared.parent.Ending.{Ending}
 use Rattle.dm_proc.specs.declared.parent.Ending.TheVariants.{Returned, Exited}
 use Rattle.dm_proc.specs.Processes.{Processes, Executes, Overlays, Terminates, Keeps}
-use Rattle.dm_state.specs.declared.stop.Stop.TheVariants as stop
-use Rattle.dm_state.specs.State.{State, Answer, go, stop_at, interrupt_returned}
+use Rattle.dm_services.specs.declared.state.stop.Stop.TheVariants as stop
+use Rattle.dm_services.specs.state.State.{State, Answer, go, stop_at, interrupt_returned}
 use Rattle.dm_services.specs.Allocation.{answered}
 
 -- the error code of a failed call of 4Bh, in AX

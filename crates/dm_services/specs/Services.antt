@@ -4,7 +4,7 @@ use Rattle.dm_cpu.specs.Cpu.{byte_of}
 use Rattle.dm_ins.specs.declared.operand.ByteRegister.TheVariants.{Ah}
 use Rattle.dm_space.specs.declared.entry_points.Service.{Service}
 use Rattle.dm_space.specs.declared.entry_points.Service.TheVariants.{DivideError, Terminate, Dos}
-use Rattle.dm_state.specs.State.{State, Answer}
+use Rattle.dm_services.specs.state.State.{State, Answer}
 use Rattle.dm_services.specs.Processes.{Terminating}
 use Rattle.dm_services.specs.Functions.{function_of, Calls}
 

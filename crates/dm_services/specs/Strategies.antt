@@ -12,7 +12,7 @@ use Rattle.dm_arena.specs.declared.fit.Area.TheVariants.{All, Upper, UpperFirst}
 use Rattle.dm_arena.specs.declared.fit.Fit.{Fit}
 use Rattle.dm_arena.specs.declared.fit.Fit.TheVariants.{First, Best, Last}
 use Rattle.dm_arena.specs.Linking.{Links, TellsLinked}
-use Rattle.dm_state.specs.State.{State, Answer}
+use Rattle.dm_services.specs.state.State.{State, Answer}
 use Rattle.dm_services.specs.declared.strategies.StrategyFunction.{StrategyFunction}
 use Rattle.dm_services.specs.declared.strategies.StrategyFunction.TheVariants.{TellStrategy, SetStrategy, TellLink, SetLink, Unlisted}
 use Rattle.dm_services.specs.Allocation.{answered, refused, settled}

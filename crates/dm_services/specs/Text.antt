@@ -3,7 +3,7 @@ use Rattle.std.specs.Prelude.{ℕ, ◌-◌, ◌++◌, ◌==◌, not, max, length
 use Rattle.dm_space.specs.Memory.{Memory}
 use Rattle.dm_console.specs.Streams.{Streams}
 use Rattle.dm_proc.specs.Writes.{bytes_from}
-use Rattle.dm_state.specs.State.{State, Answer, go, interrupt_returned}
+use Rattle.dm_services.specs.state.State.{State, Answer, go, interrupt_returned}
 
 -- the bytes from segment:offset on, up to the first `$` (not included), and at most n of them; offsets wrap
 unfoldable pub text_within : Memory → ℕ → ℕ → ℕ → List ℕ

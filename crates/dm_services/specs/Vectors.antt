@@ -5,7 +5,7 @@ use Rattle.std.specs.Prelude.{ℕ, ◌+◌, ◌*◌}
 use Rattle.dm_space.specs.Memory.{Memory, peek16, poke16}
 use Rattle.dm_cpu.specs.Cpu.{byte_of}
 use Rattle.dm_ins.specs.declared.operand.ByteRegister.TheVariants.{Al}
-use Rattle.dm_state.specs.State.{State, Answer, go, interrupt_returned}
+use Rattle.dm_services.specs.state.State.{State, Answer, go, interrupt_returned}
 
 -- the memory with the vector of interrupt `number`, the two words at 0000:4*number, set to segment:offset
 abbrev pub with_vector : Memory → ℕ → ℕ → ℕ → Memory

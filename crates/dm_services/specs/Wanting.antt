@@ -1,8 +1,8 @@
 -- Steps that may fail for lack of memory: those that write more bytes to the console than the room holds.
 use Rattle.std.specs.Prelude.{◌≡◌, ◌+◌, ◌<◌, length, Option, Some}
-use Rattle.dm_state.specs.declared.stop.Stop.{Stop}
-use Rattle.dm_state.specs.declared.stop.Stop.TheVariants.{Memory as NoMemory}
-use Rattle.dm_state.specs.State.{State, Answer}
+use Rattle.dm_services.specs.declared.state.stop.Stop.{Stop}
+use Rattle.dm_services.specs.declared.state.stop.Stop.TheVariants.{Memory as NoMemory}
+use Rattle.dm_services.specs.state.State.{State, Answer}
 
 -- the result x of a step from s has written more bytes than the room of s holds; never true of a stop that changes
 -- nothing

@@ -2,7 +2,7 @@
 ghost use Rattle.std.specs.Prelude.{◌≡◌};
 ghost use Rattle.dm_cpu.specs.Cpu.{byte_of};
 ghost use Rattle.dm_ins.specs.declared.operand.ByteRegister.TheVariants.{Ah};
-ghost use Rattle.dm_state.specs.State.{HasProgram};
+ghost use Rattle.dm_services.specs.state.State.{HasProgram};
 ghost use Rattle.dm_services.specs.Functions.{function_of, no_function, Calls};
 ghost use Rattle.dm_services.specs.Wanting.{OrWants};
 
@@ -19,7 +19,7 @@ use crate::system::{tell_process, tell_version};
 use crate::text::print;
 use crate::vectors::{get_vector, set_vector};
 use dm_ins::ByteRegister;
-use dm_state::{Parts, Stop};
+use crate::state::{Parts, Stop};
 
 /// A function of INT 21h, which AH names.
 #[derive(Clone, Copy, Debug, PartialEq, Eq)]

@@ -6,7 +6,7 @@ ghost use Rattle.dm_services.specs.inner.Wanting.{OrMemory};
 ghost use Rattle.dm_services.specs.Handles.{bad_handle, read_handle, write_handle, waits};
 
 use crate::buffers::send;
-use dm_state::{Parts, Stop};
+use crate::state::{Parts, Stop};
 
 /// Returns from function 3Fh or 40h with error 6, invalid handle, in AX and CF set. Memory and console stay.
 #[tactic(auto, unfolding(crate::specs::Handles::bad_handle))]

@@ -2,6 +2,7 @@
 //! INT 21h (MS-DOS Programmer's Reference, "System Calls").
 #![tactic(auto)]
 
+pub mod state;
 mod allocation;
 mod at_once;
 mod buffers;

@@ -3,13 +3,13 @@
 ghost use Rattle.std.specs.Prelude.{◌≡◌, ◌<◌};
 ghost use Rattle.dm_cpu.specs.Cpu.{byte_of};
 ghost use Rattle.dm_ins.specs.declared.operand.ByteRegister.TheVariants.{Al};
-ghost use Rattle.dm_state.specs.State.{HasProgram};
+ghost use Rattle.dm_services.specs.state.State.{HasProgram};
 ghost use Rattle.dm_services.specs.Processes.{concluded, not_loaded, Executing, Overlaying, Loading, Terminating, Keeping, tell_code};
 
 use crate::allocation::answer;
 use dm_ins::ByteRegister;
 use dm_proc::{ArenaDestroyed, Ending, ExecRefusal};
-use dm_state::{Parts, Stop};
+use crate::state::{Parts, Stop};
 
 /// The error code that function 4Bh returns in AX for a refusal.
 fn code_of(refusal: ExecRefusal) -> u16

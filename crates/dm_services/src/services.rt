@@ -1,12 +1,12 @@
 //! The services that the machine has in place of interrupt handlers.
-ghost use Rattle.dm_state.specs.State.{HasProgram};
+ghost use Rattle.dm_services.specs.state.State.{HasProgram};
 ghost use Rattle.dm_services.specs.Services.{Serves};
 ghost use Rattle.dm_services.specs.Wanting.{OrWants};
 
 use crate::functions::dos_call;
 use crate::processes::terminate;
 use dm_space::entry_points::Service;
-use dm_state::{Parts, Stop};
+use crate::state::{Parts, Stop};
 
 /// Performs a service: for a divide error ends the present process with code FFh, for INT 20h with code 0; for INT 21h
 /// performs the function in AH. Returns None if the machine goes on, and `Exited` if the first program has ended, both

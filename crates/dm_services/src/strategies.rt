@@ -10,7 +10,7 @@ ghost use Rattle.dm_services.specs.Strategies.{Linking, SetsLink, StrategyCalls,
 use crate::allocation::{answer, refuse};
 use dm_arena::{Area, Fit, Strategy, link, linked};
 use dm_ins::ByteRegister;
-use dm_state::Parts;
+use crate::state::Parts;
 
 /// A subfunction of function 58h.
 #[derive(Clone, Copy, Debug, PartialEq, Eq)]

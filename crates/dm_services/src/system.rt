@@ -4,7 +4,7 @@ ghost use Rattle.std.specs.Prelude.{◌≡◌};
 ghost use Rattle.dm_services.specs.inner.Wanting.{OrMemory};
 ghost use Rattle.dm_services.specs.System.{tell_version, tell_process};
 
-use dm_state::{Parts, Stop};
+use crate::state::{Parts, Stop};
 
 /// 30h: version 5.0, and no serial number.
 #[tactic(auto, unfolding(crate::specs::System::tell_version))]

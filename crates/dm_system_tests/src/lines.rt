@@ -160,41 +160,41 @@ E 0:0 00,00| none
 E 0:0 0x| none
 E 0:0 'hi'| none";
 
-/// Definitions: dm_command Commands command_of of_words command_named alone with_one with_two at_address
-/// Definitions: dm_command Names name_of letter_name pair_name uppercase
+/// Definitions: dm_requests commands.Commands command_of of_words command_named alone with_one with_two at_address
+/// Definitions: dm_requests commands.Names name_of letter_name pair_name uppercase
 #[test]
 fn each_command_has_its_letters(rt: HostRuntime) -> Result<(), Fail> {
     check(&rt, rt.alloc(), COMMANDS)
 }
 
-/// Definitions: dm_command Commands command_of of_words command_named alone with_one with_two at_address
-/// Definitions: dm_command Names name_of letter_name pair_name uppercase; dm_command Words words_of words_behind ended
+/// Definitions: dm_requests commands.Commands command_of of_words command_named alone with_one with_two at_address
+/// Definitions: dm_requests commands.Names name_of letter_name pair_name uppercase; dm_requests commands.Words words_of words_behind ended
 #[test]
 fn spaces_part_words(rt: HostRuntime) -> Result<(), Fail> {
     check(&rt, rt.alloc(), SPACES)
 }
 
-/// Definitions: dm_command Commands alone with_one with_two at_address
-/// Definitions: dm_command Numbers number_of digits_of up_to word_from_digits
+/// Definitions: dm_requests commands.Commands alone with_one with_two at_address
+/// Definitions: dm_requests commands.Numbers number_of digits_of up_to word_from_digits
 #[test]
 fn numbers_are_hexadecimal(rt: HostRuntime) -> Result<(), Fail> {
     check(&rt, rt.alloc(), NUMBERS)
 }
 
-/// Definitions: dm_command Numbers number_of digits_of up_to word_from_digits logical_address parts_of
+/// Definitions: dm_requests commands.Numbers number_of digits_of up_to word_from_digits logical_address parts_of
 #[test]
 fn addresses_are_two_words(rt: HostRuntime) -> Result<(), Fail> {
     check(&rt, rt.alloc(), ADDRESSES)
 }
 
-/// Definitions: dm_command Numbers bytes_from_digits if_good
+/// Definitions: dm_requests commands.Numbers bytes_from_digits if_good
 #[test]
 fn bytes_are_pairs_of_digits(rt: HostRuntime) -> Result<(), Fail> {
     check(&rt, rt.alloc(), BYTES)
 }
 
 /// 64 bytes and one more, and a digit more.
-/// Definitions: dm_command Numbers bytes_from_digits if_good
+/// Definitions: dm_requests commands.Numbers bytes_from_digits if_good
 #[test]
 fn at_most_64_bytes_are_typed(rt: HostRuntime) -> Result<(), Fail> {
     let mut line = Vec::new(rt.alloc());
@@ -219,7 +219,7 @@ fn at_most_64_bytes_are_typed(rt: HostRuntime) -> Result<(), Fail> {
 }
 
 /// A tab, a line end and a zero are not spaces.
-/// Definitions: dm_command Words words_of words_behind ended
+/// Definitions: dm_requests commands.Words words_of words_behind ended
 #[test]
 fn other_bytes_part_no_words(rt: HostRuntime) -> Result<(), Fail> {
     for line in [

@@ -2,7 +2,7 @@
 //! "GDB Remote Serial Protocol", "Overview").
 
 use crate::checks::same;
-use dm_packets::{Link, Received, Receiver};
+use dm_requests::packets::{Link, Received, Receiver};
 use std::alloc::Global;
 use std::process::Abort;
 use std::test::Fail;
@@ -82,10 +82,10 @@ fn check_stream(rt: &impl Abort, alloc: Global, stream: &[u8], wanted: &str) -> 
     Ok(())
 }
 
-/// Definitions: dm_packets Streams Holds read_from
-/// Definitions: dm_packets Reading after received lone_byte whole_packet
-/// Definitions: dm_packets Checks checksum_of is_checked
-/// Definitions: dm_packets Escapes unescaped
+/// Definitions: dm_requests packets.Streams Holds read_from
+/// Definitions: dm_requests packets.Reading after received lone_byte whole_packet
+/// Definitions: dm_requests packets.Checks checksum_of is_checked
+/// Definitions: dm_requests packets.Escapes unescaped
 #[test]
 fn streams_hold_packets(rt: HostRuntime) -> Result<(), Fail> {
     for (stream, wanted) in STREAMS {
@@ -97,7 +97,7 @@ fn streams_hold_packets(rt: HostRuntime) -> Result<(), Fail> {
 /// A packet of 4000h bytes is read, one of 4001h is too long, and the next one is read again. (The sum of 4000h times 61h
 /// is a multiple of 256.)
 ///
-/// Definitions: dm_packets Reading one_more packet_of
+/// Definitions: dm_requests packets.Reading one_more packet_of
 #[test]
 fn long_packets_are_refused(rt: HostRuntime) -> Result<(), Fail> {
     for (count, digits, wanted) in [
@@ -120,8 +120,8 @@ fn long_packets_are_refused(rt: HostRuntime) -> Result<(), Fail> {
     Ok(())
 }
 
-/// Definitions: dm_packets Frames frame_of
-/// Definitions: dm_packets Escapes escaped is_special
+/// Definitions: dm_requests packets.Frames frame_of
+/// Definitions: dm_requests packets.Escapes escaped is_special
 #[test]
 fn packets_are_sent(rt: HostRuntime) -> Result<(), Fail> {
     let mut link = Link::new(rt.alloc());
@@ -133,7 +133,7 @@ fn packets_are_sent(rt: HostRuntime) -> Result<(), Fail> {
     Ok(())
 }
 
-/// Definitions: dm_packets Links acknowledgement receipt
+/// Definitions: dm_requests packets.Links acknowledgement receipt
 #[test]
 fn packets_are_acknowledged(rt: HostRuntime) -> Result<(), Fail> {
     let mut link = Link::new(rt.alloc());

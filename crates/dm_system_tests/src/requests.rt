@@ -2,7 +2,7 @@
 //! "vCont"), and what they are read as.
 
 use crate::checks::same;
-use dm_packets::Payload;
+use dm_requests::packets::Payload;
 use dm_requests::{Access, Point, Request, read_request};
 use std::alloc::Global;
 use std::process::Abort;

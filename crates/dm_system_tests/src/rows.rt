@@ -7,7 +7,7 @@
 //! Addresses and bytes are in hexadecimal, counts are decimal.
 
 use crate::checks::same;
-use dm_command::{Bytes, Command, LogicalAddress, read_command};
+use dm_requests::commands::{Bytes, Command, LogicalAddress, read_command};
 use std::alloc::Global;
 use std::process::Abort;
 use std::test::Fail;

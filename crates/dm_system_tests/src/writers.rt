@@ -1,5 +1,5 @@
 //! The adapter over a standard writer that takes one byte per write and fails from a given write on, or at each flush.
-use dm_out::{Failed, Out, Sink, write_all};
+use dm_console::writers::{Failed, Out, Sink, write_all};
 use std::io;
 use std::io::Write;
 use std::test::Fail;
@@ -37,7 +37,7 @@ impl Write for Slow<'_> {
     }
 }
 
-/// Definitions: dm_out Out WriterState HasFailed AppendsPart
+/// Definitions: dm_console writers.Out WriterState HasFailed AppendsPart
 #[test]
 fn stops_at_each_failing_write(rt: HostRuntime) -> Result<(), Fail> {
     let text = b"hello".as_slice();
@@ -58,7 +58,7 @@ fn stops_at_each_failing_write(rt: HostRuntime) -> Result<(), Fail> {
     Ok(())
 }
 
-/// Definitions: dm_out Out WriterState
+/// Definitions: dm_console writers.Out WriterState
 #[test]
 fn passes_on_a_failed_flush(rt: HostRuntime) -> Result<(), Fail> {
     for refuses in [false, true] {

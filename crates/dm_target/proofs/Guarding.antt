@@ -12,7 +12,7 @@ use Rattle.dm_touches.specs.declared.elements.Element.{Element}
 use Rattle.dm_touches.specs.declared.elements.Element.TheVariants as element
 use Rattle.dm_touches.specs.declared.elements.Elements.{Elements}
 use Rattle.dm_touches.specs.Elements.{far, linear_of}
-use Rattle.dm_quiet.specs.Marks.{level_at, lies_below, passes_if, pass, IsQuiet, Marked}
+use Rattle.dm_touches.specs.quiet.Marks.{level_at, lies_below, passes_if, pass, IsQuiet, Marked}
 use Rattle.dm_requests.specs.declared.request.Access.{Access}
 use Rattle.dm_requests.specs.declared.request.Access.TheVariants.{Execute, Write, Read, Either}
 use Rattle.dm_requests.specs.declared.request.Point.{Point}

@@ -13,9 +13,9 @@ use Rattle.dm_decode.specs.Decoded.{Decodes}
 use Rattle.dm_touches.specs.declared.elements.Elements.{Elements}
 use Rattle.dm_touches.specs.Touches.{reads, writes}
 use Rattle.dm_requests.specs.declared.request.Point.{Point}
-use Rattle.dm_state.specs.declared.stop.Stop.{Stop}
-use Rattle.dm_state.specs.declared.stop.Stop.TheVariants.{Exited, Halted, Unlisted, InputEnded, Destroyed, Steps as AllSteps, Memory as NoMemory}
-use Rattle.dm_state.specs.State.{State}
+use Rattle.dm_services.specs.declared.state.stop.Stop.{Stop}
+use Rattle.dm_services.specs.declared.state.stop.Stop.TheVariants.{Exited, Halted, Unlisted, InputEnded, Destroyed, Steps as AllSteps, Memory as NoMemory}
+use Rattle.dm_services.specs.state.State.{State}
 use Rattle.dm_machine.specs.declared.until.Breakpoint.{Breakpoint}
 use Rattle.dm_machine.specs.Step.{fetched}
 use Rattle.dm_machine.specs.Run.{IsRun}

@@ -2,8 +2,8 @@
 use Rattle.std.proofs.Common.{◌≡◌, ℕ, ◌+◌, ◌-◌, ◌<◌, ◌≤◌, true, false, List, [], Option, Some, None, inl, inr, refl, sym, ◌∙◌, subst, arith}
 use Rattle.std.specs.Prelude.{All}
 use Rattle.std.proofs.lemmas.Bool.{cases_eq}
-use Rattle.dm_state.specs.declared.stop.Stop.TheVariants.{Steps as AllSteps}
-use Rattle.dm_state.specs.State.{State}
+use Rattle.dm_services.specs.declared.state.stop.Stop.TheVariants.{Steps as AllSteps}
+use Rattle.dm_services.specs.state.State.{State}
 use Rattle.dm_space.specs.Memory.{linear}
 use Rattle.dm_cpu.specs.Guest.{guest}
 use Rattle.dm_history.specs.Pasts.{Past}

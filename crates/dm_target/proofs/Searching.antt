@@ -8,9 +8,9 @@ use Rattle.dm_cpu.specs.Guest.{guest}
 use Rattle.dm_space.specs.EntryPoints.{entry_point_at}
 use Rattle.dm_touches.specs.Touches.{reads, writes}
 use Rattle.dm_requests.specs.declared.request.Point.{Point}
-use Rattle.dm_state.specs.declared.stop.Stop.{Stop}
-use Rattle.dm_state.specs.declared.stop.Stop.TheVariants.{Steps as AllSteps, Memory as NoMemory}
-use Rattle.dm_state.specs.State.{State}
+use Rattle.dm_services.specs.declared.state.stop.Stop.{Stop}
+use Rattle.dm_services.specs.declared.state.stop.Stop.TheVariants.{Steps as AllSteps, Memory as NoMemory}
+use Rattle.dm_services.specs.state.State.{State}
 use Rattle.dm_machine.specs.Step.{fetched}
 use Rattle.dm_machine.specs.Run.{IsRun, whole}
 use Rattle.dm_machine.proofs.OneRun.{same-begins, length-fetched}

@@ -4,8 +4,8 @@ use Rattle.dm_ins.specs.Ins.{BeginsWith}
 use Rattle.dm_ins.specs.declared.ins.Ins.{Ins}
 use Rattle.dm_cpu.specs.declared.cpu.Cpu.{Cpu}
 use Rattle.dm_decode.specs.Decoded.{Decodes}
-use Rattle.dm_state.specs.declared.stop.Stop.TheVariants.{Exited, Unlisted, Steps as AllSteps}
-use Rattle.dm_state.specs.State.{State, Answer}
+use Rattle.dm_services.specs.declared.state.stop.Stop.TheVariants.{Exited, Unlisted, Steps as AllSteps}
+use Rattle.dm_services.specs.state.State.{State, Answer}
 use Rattle.dm_space.specs.declared.entry_points.EntryPoint.{EntryPoint}
 use Rattle.dm_space.specs.EntryPoints.{entry_point_at}
 use Rattle.dm_machine.specs.Step.{MakesStep, ActsUnlessEnded, Acts, Instructs, listed, unlisted, fetched}

@@ -5,7 +5,7 @@ use Rattle.std.specs.Int.{to_le_bytes, w16, w32, w64}
 use Rattle.dm_alu.specs.Flags.{flags_word}
 use Rattle.dm_cpu.specs.declared.cpu.Cpu.{Cpu}
 use Rattle.dm_space.specs.Memory.{Memory}
-use Rattle.dm_state.specs.State.{State}
+use Rattle.dm_services.specs.state.State.{State}
 use Rattle.dm_views.specs.Digits.{in_turn}
 use Rattle.dm_target.specs.Memory.{linear_of}
 

@@ -11,11 +11,11 @@ use Rattle.dm_ins.specs.Ins.{BeginsWith}
 use Rattle.dm_cpu.specs.Guest.{guest}
 use Rattle.dm_touches.specs.declared.elements.Elements.{Elements}
 use Rattle.dm_touches.specs.Touches.{reads, writes}
-use Rattle.dm_quiet.specs.Marks.{pass}
+use Rattle.dm_touches.specs.quiet.Marks.{pass}
 use Rattle.dm_requests.specs.declared.request.Access.{Access}
 use Rattle.dm_requests.specs.declared.request.Access.TheVariants.{Execute, Write, Read, Either}
 use Rattle.dm_requests.specs.declared.request.Point.{Point}
-use Rattle.dm_state.specs.State.{State}
+use Rattle.dm_services.specs.state.State.{State}
 use Rattle.dm_machine.specs.Step.{fetched}
 use Rattle.dm_target.specs.Memory.{bytes_from, reads_as}
 

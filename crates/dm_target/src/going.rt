@@ -9,7 +9,7 @@ use crate::nearby::{marks_if_any, pass};
 use crate::watching::look;
 use dm_history::History;
 use dm_machine::{Breakpoint, Machine, Stop};
-use dm_quiet::Marks;
+use dm_touches::quiet::Marks;
 use dm_requests::Point;
 use std::alloc::Global;
 

@@ -8,7 +8,7 @@ ghost use Rattle.dm_target.specs.inner.Looking.{HasLevel, IsGuarded, IsGuardedAt
 use crate::going::Span;
 use dm_history::History;
 use dm_machine::Breakpoint;
-use dm_quiet::Marks;
+use dm_touches::quiet::Marks;
 use dm_requests::{Access, Point};
 use std::alloc::{AllocError, Global};
 

@@ -1,7 +1,7 @@
 //! Going back to the last hit: a state at a breakpoint, or one from which a step hits a watchpoint.
 
 ghost use Rattle.std.specs.Prelude.{◌≡◌, ◌<◌, ◌≤◌, ℕ, false, List, [], IfOk, OnOk, OnErr};
-ghost use Rattle.dm_state.specs.State.{State};
+ghost use Rattle.dm_services.specs.state.State.{State};
 ghost use Rattle.dm_history.specs.Becomes.{Becomes};
 ghost use Rattle.dm_history.specs.Branches.{Reaches};
 ghost use Rattle.dm_history.specs.Pasts.{GoesBack, Was};

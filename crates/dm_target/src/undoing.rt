@@ -2,7 +2,7 @@
 
 ghost use Rattle.std.specs.Prelude.{◌≡◌, IfOk, OnErr};
 ghost use Rattle.dm_space.specs.Memory.{Memory};
-ghost use Rattle.dm_state.specs.State.{State};
+ghost use Rattle.dm_services.specs.state.State.{State};
 ghost use Rattle.dm_target.specs.Undoing.{HitBy, Undoes, undone_by};
 ghost use Rattle.dm_target.specs.inner.Looking.{all_bytes};
 

@@ -7,7 +7,7 @@ ghost use Rattle.dm_ins.specs.declared.ins.Ins.{Ins};
 ghost use Rattle.dm_ins.specs.Ins.{BeginsWith};
 ghost use Rattle.dm_cpu.specs.Guest.{guest};
 ghost use Rattle.dm_touches.specs.Touches.{reads, writes};
-ghost use Rattle.dm_quiet.specs.Marks.{passes_if};
+ghost use Rattle.dm_touches.specs.quiet.Marks.{passes_if};
 ghost use Rattle.dm_space.specs.declared.entry_points.EntryPoint.{EntryPoint};
 ghost use Rattle.dm_space.specs.Memory.{Memory, linear};
 ghost use Rattle.dm_machine.specs.Step.{fetched};

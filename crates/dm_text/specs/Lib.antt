@@ -1,3 +1,5 @@
+pub mod disassembly
+pub mod words
 pub mod Names
 pub mod Pieces
 pub mod Texts

@@ -1,6 +1,8 @@
 //! The text of an instruction, and the names that it is made of.
 #![tactic(auto)]
 
+pub mod disassembly;
+pub mod words;
 mod laws;
 mod line;
 mod names;

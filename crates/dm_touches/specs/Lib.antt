@@ -1,3 +1,4 @@
+pub mod quiet
 pub mod Elements
 pub mod Access
 pub mod Touches

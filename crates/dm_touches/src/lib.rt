@@ -2,6 +2,7 @@
 //! what is found of them.
 #![tactic(auto)]
 
+pub mod quiet;
 mod access;
 mod elements;
 mod found;

@@ -1,3 +1,4 @@
+pub mod inventory
 pub mod Digits
 pub mod Code
 pub mod Registers

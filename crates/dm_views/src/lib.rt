@@ -5,6 +5,7 @@
 //! line feed (0Ah). An `Err` is a failed allocation; what `out` then holds is not known.
 #![tactic(auto)]
 
+pub mod inventory;
 mod arena;
 mod bytes;
 mod code;

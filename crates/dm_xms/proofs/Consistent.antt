@@ -25,8 +25,8 @@ use Rattle.dm_xms.specs.declared.tables.Upper.{Upper}
 use Rattle.dm_xms.specs.declared.uppers.UpperRefusal.TheVariants as refusal
 use Rattle.dm_xms.specs.Uppers.{first_segment, at_least_one, largest_upper, lowest_upper, inserted, with_uppers, new_upper, begins_at, room, request_upper, release_upper, resize_upper}
 use Rattle.dm_xms.specs.Line.{is_on, switched, enable_globally, disable_globally, enable_locally, disable_locally}
-use Rattle.dm_moves.specs.Spans as regions
-use Rattle.dm_moves.proofs.Shapes.{moves_keep}
+use Rattle.dm_space.specs.moves.Spans as regions
+use Rattle.dm_space.proofs.moves.Shapes.{moves_keep}
 use Rattle.dm_xms.specs.declared.moves.Side.{Side}
 use Rattle.dm_xms.specs.Moves.{and_then, double_after, described, side, move_between, move_memory}
 use Rattle.dm_xms.specs.Blocks.{leaving, allocate, deallocate, lock, unlock, reallocate}

@@ -22,8 +22,8 @@ use Rattle.dm_xms.specs.Blocks.{allocate, deallocate, lock, unlock, reallocate}
 use Rattle.dm_xms.specs.Consistent.{handle_at}
 use Rattle.dm_xms.specs.Outside.{IsOutside, LeavesOutside}
 use Rattle.dm_xms.specs.inner.Laws.{CallsLeaveOutside}
-use Rattle.dm_moves.specs.Spans as regions
-use Rattle.dm_moves.proofs.Shapes.{moves_keep}
+use Rattle.dm_space.specs.moves.Spans as regions
+use Rattle.dm_space.proofs.moves.Shapes.{moves_keep}
 use Rattle.dm_xms.proofs.Consistent.{IsChanged, changed_block, live_stays, if_handle, turned, set_at, set_beside, slot_at, there_at, taken_new, not_live, same_pool, at_sized}
 
 pub leaves_all : (x : Extended) → LeavesOutside x x

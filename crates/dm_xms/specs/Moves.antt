@@ -2,9 +2,9 @@
 -- changes nothing. A side is the source or the destination.
 use Rattle.std.specs.Prelude.{ℕ, ◌+◌, ◌*◌, ◌/◌, ◌%◌, nat_lt, ◌==◌, ◌||◌, if◌then◌else◌, [], ◌∷◌, Result, Ok, Err}
 use Rattle.dm_space.specs.Memory.{Memory}
-use Rattle.dm_moves.specs.Buffers.{word_after}
-use Rattle.dm_moves.specs.declared.spans.SpanKind.TheVariants.{Linear, Single}
-use Rattle.dm_moves.specs.Spans.{span, span_moved}
+use Rattle.dm_space.specs.moves.Buffers.{word_after}
+use Rattle.dm_space.specs.declared.moves.spans.SpanKind.TheVariants.{Linear, Single}
+use Rattle.dm_space.specs.moves.Spans.{span, span_moved}
 use Rattle.dm_xms.specs.declared.status.Status.{Status}
 use Rattle.dm_xms.specs.declared.status.Status.TheVariants.{UnknownSource, PastSource, UnknownDestination, PastDestination, BadLength}
 use Rattle.dm_xms.specs.declared.tables.Handle.{Handle}

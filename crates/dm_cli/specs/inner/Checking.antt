@@ -1,14 +1,14 @@
 -- The part of `dm check` after its machine is loaded. Private contracts and proofs alone name this.
 use Rattle.std.specs.Prelude.{ℕ, ◌≡◌, ◌++◌, Bool, List, Option, Result, Ok, Err}
 use Rattle.std.specs.Io.KnownBytes.{Appends, Keeps}
-use Rattle.dm_out.specs.Out.{AppendsPart, HasFailed}
-use Rattle.dm_state.specs.declared.stop.Stop.{Stop}
-use Rattle.dm_state.specs.State.{State}
+use Rattle.dm_console.specs.writers.Out.{AppendsPart, HasFailed}
+use Rattle.dm_services.specs.declared.state.stop.Stop.{Stop}
+use Rattle.dm_services.specs.state.State.{State}
 use Rattle.dm_machine.specs.Run.{IsRun}
 use Rattle.dm_findings.specs.Report.{Reported}
 use Rattle.dm_json.specs.declared.forms.Form.{Form}
 use Rattle.dm_json.specs.Forms.{lines_in}
-use Rattle.dm_processes.specs.declared.process.Process.{Process}
+use Rattle.dm_findings.specs.declared.processes.process.Process.{Process}
 use Rattle.dm_checker.specs.Checks.{IsReport}
 use Rattle.dm_checker.specs.Processes.{AreProcesses}
 use Rattle.dm_checker.specs.Checking.{UnderWay}

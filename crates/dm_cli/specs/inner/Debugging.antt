@@ -5,7 +5,7 @@ use Rattle.std.specs.Io.BufRead.{ends_with_byte}
 use Rattle.std.specs.Io.KnownBytes.{Appends, Consumes, IsAtEnd, Keeps}
 use Rattle.dm_debug.specs.Debugged.{Debugged}
 use Rattle.dm_debug.specs.Sessions.{IsCutOff}
-use Rattle.dm_out.specs.Out.{AppendsPart, HasFailed}
+use Rattle.dm_console.specs.writers.Out.{AppendsPart, HasFailed}
 use Rattle.dm_cli.specs.Faults.{IsWriteFault}
 use Rattle.dm_cli.specs.declared.fault.Fault.{Fault}
 use Rattle.dm_cli.specs.declared.fault.Fault.TheVariants.{OutOfMemory}

@@ -2,7 +2,7 @@
 use Rattle.std.specs.Prelude.{ℕ, ◌≡◌, ◌≢◌, List, [], ◌∷◌, Option, Some, None}
 use Rattle.std.specs.Io.KnownBytes.{Appends, Consumes, IsAtEnd, Keeps}
 use Rattle.dm_gdb.specs.Connections.{Connected, Takes}
-use Rattle.dm_out.specs.Out.{AppendsPart, HasFailed}
+use Rattle.dm_console.specs.writers.Out.{AppendsPart, HasFailed}
 use Rattle.dm_cli.specs.Faults.{IsWriteFault}
 use Rattle.dm_cli.specs.declared.fault.Fault.{Fault}
 use Rattle.dm_cli.specs.declared.fault.Fault.TheVariants.{OutOfMemory}

@@ -2,7 +2,7 @@
 use Rattle.std.specs.Prelude.{ℕ, ◌≡◌, ◌<◌, ◌≤◌, List, [], ◌∷◌, length}
 use Rattle.dm_machine.specs.Start.{IsLoaded}
 use Rattle.dm_options.specs.declared.command_line.MachineOptions.{MachineOptions}
-use Rattle.dm_state.specs.State.{State}
+use Rattle.dm_services.specs.state.State.{State}
 use Rattle.dm_cli.specs.declared.fault.Fault.{Fault}
 use Rattle.dm_cli.specs.declared.fault.Fault.TheVariants.{TailTooLong, NotFound}
 use Rattle.dm_cli.specs.Names.{last_part}

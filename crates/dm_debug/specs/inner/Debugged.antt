@@ -1,5 +1,5 @@
 -- The invariant of `Session`. Private contracts and proofs alone name this.
-use Rattle.dm_state.specs.State.{HasProgram}
+use Rattle.dm_services.specs.state.State.{HasProgram}
 use Rattle.dm_debug.specs.Debugged.{Debugged}
 
 -- a program is loaded in the session's machine

@@ -1,8 +1,8 @@
 -- What `monitor check` finds ahead of a state. Private contracts and proofs alone name this.
 use Rattle.std.specs.Prelude.{◌≢◌, ◌≤◌, ℕ, List}
-use Rattle.dm_state.specs.declared.stop.Stop.{Stop}
-use Rattle.dm_state.specs.declared.stop.Stop.TheVariants.{Memory as NoMemory}
-use Rattle.dm_state.specs.State.{State}
+use Rattle.dm_services.specs.declared.state.stop.Stop.{Stop}
+use Rattle.dm_services.specs.declared.state.stop.Stop.TheVariants.{Memory as NoMemory}
+use Rattle.dm_services.specs.state.State.{State}
 use Rattle.dm_machine.specs.Run.{IsRun}
 use Rattle.dm_gdb.specs.declared.replies.Reply.TheVariants as reply
 use Rattle.dm_gdb.specs.Checking.{ChecksFrom, most_checked}

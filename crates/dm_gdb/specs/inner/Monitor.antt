@@ -1,7 +1,7 @@
 -- What a command shows. Private contracts and proofs alone name this.
 use Rattle.std.specs.Prelude.{◌≡◌, ℕ, true, List, Some}
-use Rattle.dm_command.specs.declared.command.Command.{Command}
-use Rattle.dm_command.specs.Commands.{command_of}
+use Rattle.dm_requests.specs.declared.commands.command.Command.{Command}
+use Rattle.dm_requests.specs.commands.Commands.{command_of}
 use Rattle.dm_debug.specs.Sessions.{Displays}
 use Rattle.dm_gdb.specs.Monitor.{is_shown}
 use Rattle.dm_debug.specs.Debugged.{Debugged}

@@ -1,6 +1,6 @@
 -- The copies that a history keeps on its way, and its invariant. Private contracts and proofs alone name these.
 use Rattle.std.specs.Prelude.{◌≡◌, ℕ, ◌+◌, ◌≤◌, nat_le, ◌&&◌, Bool, List, [], ◌∷◌, ◌++◌, length, take, drop, All}
-use Rattle.dm_state.specs.State.{HasProgram}
+use Rattle.dm_services.specs.state.State.{HasProgram}
 use Rattle.dm_history.specs.declared.copies.Kept.{Kept}
 use Rattle.dm_history.specs.Becomes.{Becomes}
 use Rattle.dm_history.specs.Pasts.{Past}

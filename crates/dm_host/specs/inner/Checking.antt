@@ -1,6 +1,6 @@
 -- The run of a session under the checker. Private contracts and proofs alone name this.
 use Rattle.std.specs.Prelude.{ℕ, List, Option, Some, None}
-use Rattle.dm_state.specs.declared.stop.Stop.{Stop}
+use Rattle.dm_services.specs.declared.state.stop.Stop.{Stop}
 use Rattle.dm_debug.specs.Debugged.{Debugged}
 use Rattle.dm_findings.specs.Report.{Reported}
 use Rattle.dm_host.specs.Checking.{IsChecked, IsPartlyChecked}

@@ -1,6 +1,6 @@
 -- The tests before a load, and the session that a load begins. Private contracts and proofs alone name these.
 use Rattle.std.specs.Prelude.{◌≡◌, ℕ, ◌<◌, ◌≤◌, List, Result, Ok, Err, length}
-use Rattle.dm_state.specs.State.{State}
+use Rattle.dm_services.specs.state.State.{State}
 use Rattle.dm_machine.specs.Start.{IsLoaded, HasNoRoom}
 use Rattle.dm_proc.specs.Programs.{IsName}
 use Rattle.dm_debug.specs.Debugged.{Debugged}

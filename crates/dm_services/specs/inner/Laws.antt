@@ -5,7 +5,7 @@ use Rattle.dm_space.specs.Memory.{Memory}
 use Rattle.dm_space.specs.Places.{IsShaped}
 use Rattle.dm_console.specs.Streams.{Streams}
 use Rattle.dm_space.specs.declared.entry_points.Service.{Service}
-use Rattle.dm_state.specs.State.{State, Answer}
+use Rattle.dm_services.specs.state.State.{State, Answer}
 use Rattle.dm_services.specs.Services.{Serves}
 use Rattle.dm_services.specs.Laws.{with_change}
 

@@ -4,13 +4,13 @@ use Rattle.std.specs.List.{flat_map}
 use Rattle.dm_space.specs.Memory.{Memory}
 use Rattle.dm_space.specs.declared.entry_points.EntryPoint.{EntryPoint}
 use Rattle.dm_space.specs.EntryPoints.{entry_point_at}
-use Rattle.dm_quiet.specs.Marks.{level_at}
+use Rattle.dm_touches.specs.quiet.Marks.{level_at}
 use Rattle.dm_requests.specs.declared.request.Access.{Access}
 use Rattle.dm_requests.specs.declared.request.Access.TheVariants.{Execute, Write, Read, Either}
 use Rattle.dm_requests.specs.declared.request.Point.{Point}
-use Rattle.dm_state.specs.declared.stop.Stop.{Stop}
-use Rattle.dm_state.specs.declared.stop.Stop.TheVariants.{Steps as AllSteps, Memory as NoMemory}
-use Rattle.dm_state.specs.State.{State}
+use Rattle.dm_services.specs.declared.state.stop.Stop.{Stop}
+use Rattle.dm_services.specs.declared.state.stop.Stop.TheVariants.{Steps as AllSteps, Memory as NoMemory}
+use Rattle.dm_services.specs.state.State.{State}
 use Rattle.dm_machine.specs.declared.until.Breakpoint.{Breakpoint}
 use Rattle.dm_machine.specs.Run.{IsRun}
 use Rattle.dm_target.specs.declared.going.Pause.{Pause}

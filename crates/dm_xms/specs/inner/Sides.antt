@@ -1,9 +1,9 @@
 -- Where the bytes of a side of a move (function 0Bh) lie. For private contracts and proofs alone.
 use Rattle.std.specs.Prelude.{◌≡◌, ◌⊎◌, ℕ, ◌+◌, ◌≤◌, ◌<◌, ◌^◌, Bool, true, false}
 use Rattle.dm_space.specs.Memory.{Memory}
-use Rattle.dm_moves.specs.declared.spans.SpanKind.{SpanKind}
-use Rattle.dm_moves.specs.declared.spans.SpanKind.TheVariants.{Linear, Pages, Single}
-use Rattle.dm_moves.specs.Spans.{IsInside}
+use Rattle.dm_space.specs.declared.moves.spans.SpanKind.{SpanKind}
+use Rattle.dm_space.specs.declared.moves.spans.SpanKind.TheVariants.{Linear, Pages, Single}
+use Rattle.dm_space.specs.moves.Spans.{IsInside}
 use Rattle.dm_xms.specs.declared.moves.Side.{Side}
 
 -- the region lies in one block of the pool

@@ -1,5 +1,5 @@
 use Rattle.std.proofs.Common.{Bool, Option, ap, sym, subst}
-use Rattle.dm_state.specs.declared.stop.Stop.{Stop}
+use Rattle.dm_services.specs.declared.state.stop.Stop.{Stop}
 use Rattle.dm_findings.specs.Report.{Reported}
 use Rattle.dm_checker.specs.Checks.{IsReport}
 use Rattle.dm_checker.specs.Checking.{UnderWay, GoesOn}

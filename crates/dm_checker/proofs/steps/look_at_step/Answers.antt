@@ -1,6 +1,6 @@
 use Rattle.std.proofs.Common.{◌≡◌, Option, Some, sym, ◌∙◌, ap, subst}
-use Rattle.dm_state.specs.declared.stop.Stop.{Stop}
-use Rattle.dm_state.specs.declared.stop.Stop.TheVariants.{Exited}
+use Rattle.dm_services.specs.declared.state.stop.Stop.{Stop}
+use Rattle.dm_services.specs.declared.state.stop.Stop.TheVariants.{Exited}
 use Rattle.dm_machine.specs.Run.{Answers}
 use Rattle.dm_checker.specs.inner.Steps.{ChecksOne}
 use Rattle.dm_checker.proofs.Stepping.{touched_going, touched_calling, goes_on, exits, was_over}

@@ -1,5 +1,5 @@
 use Rattle.std.proofs.Common.{subst}
-use Rattle.dm_state.specs.declared.stop.Stop.{Stop}
+use Rattle.dm_services.specs.declared.state.stop.Stop.{Stop}
 use Rattle.dm_machine.specs.Run.{IsRun}
 use Rattle.dm_checker.proofs.Once.{ran_on, ran_out}
 use Rattle.dm_checker.proofs.steps.run_once.Goals as goal

@@ -1,6 +1,6 @@
 use Rattle.std.proofs.Common.{◌∙◌, ℕ, List, Option, None, length, refl, sym, ap, subst, arith}
-use Rattle.dm_state.specs.declared.stop.Stop.{Stop}
-use Rattle.dm_state.specs.State.{State}
+use Rattle.dm_services.specs.declared.state.stop.Stop.{Stop}
+use Rattle.dm_services.specs.state.State.{State}
 use Rattle.dm_findings.specs.declared.report.Listed.{Listed}
 use Rattle.dm_checker.specs.Checking.{GoesOn, HasProcesses, IsUnderWay}
 use Rattle.dm_checker.proofs.Checking.{at_err}

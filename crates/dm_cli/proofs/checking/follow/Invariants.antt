@@ -1,5 +1,5 @@
 use Rattle.std.proofs.Common.{◌≡◌, ℕ, length}
-use Rattle.dm_state.specs.State.{State, HasProgram}
+use Rattle.dm_services.specs.state.State.{State, HasProgram}
 use Rattle.dm_json.specs.Forms.{lines_in}
 use Rattle.dm_checker.specs.Checking.{IsUnderWay}
 use Rattle.dm_cli.specs.Messages.{HasPrinted}

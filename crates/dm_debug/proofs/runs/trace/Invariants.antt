@@ -1,4 +1,4 @@
-use Rattle.dm_state.specs.State.{HasProgram}
+use Rattle.dm_services.specs.state.State.{HasProgram}
 use Rattle.dm_debug.proofs.Traced.{HasTraced}
 use Rattle.dm_debug.proofs.runs.trace.Given as goal
 

@@ -1,5 +1,5 @@
 use Rattle.std.proofs.Common.{◌≤◌, take, drop}
-use Rattle.dm_state.specs.State.{HasProgram}
+use Rattle.dm_services.specs.state.State.{HasProgram}
 use Rattle.dm_history.specs.Becomes.{Becomes}
 use Rattle.dm_history.specs.inner.Replays.{LeadsBeyond}
 use Rattle.dm_history.proofs.replay.replay.Given as goal

@@ -1,5 +1,5 @@
 use Rattle.std.specs.Prelude.{codes}
-use Rattle.dm_processes.specs.Processes.{name_text}
+use Rattle.dm_findings.specs.processes.Processes.{name_text}
 use Rattle.dm_json.specs.Objects.{closing, number_member, opening, string_member}
 use Rattle.dm_json.specs.Processes.{last_member, process_object}
 use Rattle.dm_reports.proofs.Puts.{behind, ends_with}

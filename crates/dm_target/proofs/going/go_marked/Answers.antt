@@ -3,7 +3,7 @@ use Rattle.dm_target.specs.Going.{has_arrived}
 use Rattle.dm_target.specs.Going as going
 use Rattle.dm_history.specs.Pasts.{Past}
 use Rattle.dm_target.specs.inner.Looking.{Ends}
-use Rattle.dm_state.specs.State.{State}
+use Rattle.dm_services.specs.state.State.{State}
 use Rattle.dm_target.proofs.Passing.{ends_with, goes_with, more_passes, near_arrives, near_none, passes_at}
 use Rattle.dm_target.proofs.going.go_marked.Goals as goal
 use Rattle.dm_target.proofs.going.go_marked.Goals.{then-made-eq0+in_default, else-made-eq0+else-has_arrived}

@@ -1,5 +1,5 @@
 use Rattle.std.proofs.Common.{ap, ◌∙◌}
-use Rattle.dm_state.specs.State.{State}
+use Rattle.dm_services.specs.state.State.{State}
 use Rattle.dm_target.proofs.LastHits.{part_of}
 use Rattle.dm_target.proofs.returning.look_at.Goals as goal
 

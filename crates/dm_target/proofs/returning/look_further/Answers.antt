@@ -1,5 +1,5 @@
 use Rattle.std.proofs.Common.{◌≡◌, ◌-◌, true, false, None, ap, subst, ◌∙◌, arith}
-use Rattle.dm_state.specs.State.{State}
+use Rattle.dm_services.specs.state.State.{State}
 use Rattle.dm_target.specs.Going.{Continues}
 use Rattle.dm_target.proofs.Searching.{stopped_seen, arrived_seen, hit_seen}
 use Rattle.dm_target.proofs.returning.look_further.Goals as goal

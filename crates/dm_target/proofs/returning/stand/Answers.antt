@@ -1,5 +1,5 @@
 use Rattle.std.proofs.Common.{◌≡◌, true, false, Some, ap, sym, subst, ◌∙◌, arith}
-use Rattle.dm_state.specs.State.{State}
+use Rattle.dm_services.specs.state.State.{State}
 use Rattle.dm_target.specs.Going.{is_among, place_of}
 use Rattle.dm_target.specs.inner.Surveying.{IsStand}
 use Rattle.dm_target.specs.inner.Surveying as surveying

@@ -1,6 +1,6 @@
 use Rattle.std.proofs.Common.{sym, subst, ap, arith}
 use Rattle.std.proofs.lemmas.Result.{IfOk-weaker}
-use Rattle.dm_state.specs.State.{State}
+use Rattle.dm_services.specs.state.State.{State}
 use Rattle.dm_target.specs.Returning.{Meets}
 use Rattle.dm_target.specs.inner.Surveying.{IsMet}
 use Rattle.dm_target.proofs.LastHits.{branch_at}

@@ -1,5 +1,5 @@
 use Rattle.std.proofs.Common.{ℕ, Option, Some, None, ap, subst, arith}
-use Rattle.dm_state.specs.State.{State}
+use Rattle.dm_services.specs.state.State.{State}
 use Rattle.dm_history.specs.Pasts.{Past, Was, GoesBack}
 use Rattle.dm_target.specs.Returning.{Meets, begun, to_start}
 use Rattle.dm_target.specs.inner.Surveying.{IsMet, IsLast}

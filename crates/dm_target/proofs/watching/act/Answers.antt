@@ -1,5 +1,5 @@
 use Rattle.std.proofs.Common.{◌∙◌, ap}
-use Rattle.dm_state.specs.State.{State}
+use Rattle.dm_services.specs.state.State.{State}
 use Rattle.dm_target.specs.inner.Looking.{wants}
 use Rattle.dm_target.proofs.Looking.{looks_as, changed_hits}
 use Rattle.dm_target.proofs.watching.act.Goals as goal

@@ -1,6 +1,6 @@
 use Rattle.std.proofs.Common.{◌≡◌, ◌∙◌, ◌-◌, ◌<◌, ◌≤◌, Bool, true, false, List, length, Option, Some, None, refl, ap, sym, subst, arith}
-use Rattle.dm_state.specs.declared.stop.Stop.{Stop}
-use Rattle.dm_state.specs.declared.stop.Stop.TheVariants.{Steps as AllSteps}
+use Rattle.dm_services.specs.declared.state.stop.Stop.{Stop}
+use Rattle.dm_services.specs.declared.state.stop.Stop.TheVariants.{Steps as AllSteps}
 use Rattle.dm_findings.specs.declared.report.Listed.{Listed}
 use Rattle.dm_checker.specs.Checks.{IsReport}
 use Rattle.dm_checker.specs.Checking.{UnderWay, going}

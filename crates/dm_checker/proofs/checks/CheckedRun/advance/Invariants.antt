@@ -1,5 +1,5 @@
 use Rattle.std.proofs.Common.{◌≡◌, ◌+◌, ◌-◌, ◌≤◌, ℕ, true, length}
-use Rattle.dm_state.specs.State.{State, HasProgram}
+use Rattle.dm_services.specs.state.State.{State, HasProgram}
 use Rattle.dm_checker.specs.Checking.{IsUnderWay, IsLonger}
 use Rattle.dm_checker.specs.Watching.{IsWatch}
 use Rattle.dm_checker.proofs.Checking.{HasChecked}

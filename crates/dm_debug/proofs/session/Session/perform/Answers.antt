@@ -2,7 +2,7 @@ use Rattle.std.proofs.Common.{ℕ, List, sym, subst}
 use Rattle.std.proofs.lemmas.Result.{on_ok_weaker, on_err_weaker}
 use Rattle.dm_machine.specs.declared.until.Breakpoint.{Breakpoint}
 use Rattle.dm_machine.specs.Until.{RunsUntil}
-use Rattle.dm_command.specs.declared.command.Command.TheVariants as v
+use Rattle.dm_requests.specs.declared.commands.command.Command.TheVariants as v
 use Rattle.dm_debug.specs.Debugged.{Debugged}
 use Rattle.dm_debug.specs.Points.{with_point, without_point}
 use Rattle.dm_debug.specs.Runs.{GoesTo}

@@ -1,7 +1,7 @@
 use Rattle.std.proofs.Common.{true, refl, ap, ◌∙◌}
 use Rattle.std.proofs.lemmas.Result.{IfOk-weaker}
 use Rattle.dm_space.specs.Memory.{Memory}
-use Rattle.dm_state.specs.State.{State}
+use Rattle.dm_services.specs.state.State.{State}
 use Rattle.dm_gdb.specs.declared.replies.Reply.TheVariants as reply
 use Rattle.dm_target.specs.Registers.{all_registers}
 use Rattle.dm_gdb.specs.Servers.{Served, Replies, plain, registers, register, memory, inserts, removes, describes, places, threads, ends, memory_reply, register_reply, threads_reply}

@@ -1,5 +1,5 @@
 use Rattle.std.proofs.Common.{◌≡◌, ℕ, List, ◌∙◌, ap, refl, subst}
-use Rattle.dm_state.specs.State.{State}
+use Rattle.dm_services.specs.state.State.{State}
 use Rattle.dm_requests.specs.declared.request.Point.{Point}
 use Rattle.dm_target.specs.Returning.{Returns}
 use Rattle.dm_gdb.specs.Servers.{Served, continues_back, with_past, undone_reply}

@@ -1,5 +1,5 @@
 use Rattle.std.proofs.Common.{◌∙◌, ap}
-use Rattle.dm_state.specs.State.{State}
+use Rattle.dm_services.specs.state.State.{State}
 use Rattle.dm_gdb.proofs.Replying.{goes_to_as}
 use Rattle.dm_gdb.proofs.server.Server.go_to.Goals as goal
 

@@ -1,5 +1,5 @@
 use Rattle.std.proofs.Common.{◌≤◌, sym, subst}
-use Rattle.dm_state.specs.State.{State, HasProgram}
+use Rattle.dm_services.specs.state.State.{State, HasProgram}
 use Rattle.dm_history.proofs.Going.{known-of, was-of}
 use Rattle.dm_history.proofs.history.History.rebuilt.Goals as goal
 

@@ -1,5 +1,5 @@
 use Rattle.std.proofs.Common.{List, ◌++◌, ◌∙◌, ap, sym}
-use Rattle.dm_inventory.specs.declared.arena.ArenaBlock.{ArenaBlock}
+use Rattle.dm_views.specs.declared.inventory.arena.ArenaBlock.{ArenaBlock}
 use Rattle.dm_host.proofs.host.Host.blocks.Goals as goal
 
 pub returns-in-Ok-clause-ok : goal.returns-in-Ok-clause-ok

@@ -1,5 +1,5 @@
 use Rattle.std.proofs.Common.{sym, subst}
-use Rattle.dm_state.specs.State.{State, AreConsistent}
+use Rattle.dm_services.specs.state.State.{State, AreConsistent}
 use Rattle.dm_machine.proofs.machine.Machine.copy.Goals as goal
 
 pub invariant_of-result : goal.invariant_of-result

@@ -1,6 +1,6 @@
 use Rattle.std.proofs.Common.{Bool, List, [], ◌∷◌, ◌++◌, Option, None, ◌∙◌, ap₂, ap}
 use Rattle.dm_findings.specs.declared.finding.Origin.{Origin}
-use Rattle.dm_processes.specs.declared.process.Process.{Process}
+use Rattle.dm_findings.specs.declared.processes.process.Process.{Process}
 use Rattle.dm_origins.specs.declared.handles.Since.{Since}
 use Rattle.dm_origins.specs.declared.handles.Since.TheVariants.{Unused}
 use Rattle.dm_origins.specs.declared.uppers.UpperSince.{UpperSince}

@@ -1,0 +1,139 @@
+//! Runs up to an event, a stop, or a number of steps.
+
+ghost use Rattle.std.specs.Prelude.{◌≡◌, ◌≢◌, ◌<◌, ◌≤◌, All, IfOk, IfErr, IfSome, OnErr, IsTrue, None, true, map};
+ghost use Rattle.std.specs.List.{list_all};
+ghost use Rattle.dm_space.specs.Memory.{Memory};
+ghost use Rattle.dm_services.specs.declared.state.stop.Stop.TheVariants.{Steps as AllSteps};
+ghost use Rattle.dm_services.specs.state.State.{HasProgram};
+ghost use Rattle.dm_machine.specs.Run.{IsRun};
+ghost use Rattle.dm_debug.specs.stops.Runs.{RunsTo};
+ghost use Rattle.dm_debug.specs.stops.inner.Marking.{is_quick, AreStill, IsGuarded};
+ghost use Rattle.dm_debug.specs.stops.inner.Nearby.{is_place, PassesNear};
+ghost use Rattle.dm_debug.specs.stops.inner.Watching.{watch_of, GoesTo};
+
+use crate::stops::events::{Event, Watch, first_come, watches_of};
+use crate::stops::marking::{are_quick, marks_of};
+use crate::stops::nearby::{are_places, pass};
+use dm_machine::{Breakpoint, Machine, Stop};
+use dm_touches::quiet::Marks;
+use std::alloc::{AllocError, Global};
+
+/// Why a run up to events has ended.
+#[derive(Clone, Copy, Debug, PartialEq, Eq)]
+pub enum Ending {
+    /// The machine stopped, or all steps were made.
+    Stopped(Stop),
+    /// The last step led to an event, the first in the list that came: its place in the list, from 0.
+    Came(usize),
+}
+
+/// Makes at least one step and at most `most`, none but the last of which leads to an event, and returns how many; an `Err` is
+/// why the machine stopped instead. `quick` says that marks tell whether events can come, and `pairs` is room for breakpoints.
+fn advance(
+    machine: &mut Machine,
+    most: u64,
+    events: &[Event],
+    quick: bool,
+    marks: &Option<Marks>,
+    pairs: &mut Vec<Breakpoint>,
+) -> Result<u64, Stop>
+    requires loaded { HasProgram machine.old }
+    requires some { 0 < most }
+    requires quick { IsTrue quick → list_all is_quick events.now ≡ true }
+    requires places { marks.now ≡ None → list_all is_place events.now ≡ true }
+    requires marked { IfSome marks.now (λ m. All (IsGuarded m) events.now) }
+    ensures near { IfOk result (λ n. (start : Memory) → AreStill start machine.old.memory events.now → PassesNear start events.now machine.old n machine.new) }
+    ensures some { IfOk result (λ n. 0 < n) }
+    ensures most { IfOk result (λ n. n ≤ most) }
+    ensures stops { IfErr result (λ why. (why ≢ AllSteps) × IsRun machine.old 1 why machine.new) }
+    ensures loaded { HasProgram machine.new }
+{
+    let made = pass(machine, most, events, quick, marks, pairs);
+    if made != 0 {
+        return Ok(made);
+    }
+    match machine.run(1) {
+        Stop::Steps => Ok(1),
+        why => Err(why),
+    }
+}
+
+/// Makes at most `most` steps, as `run_to` does. `watches` are the events with the bytes before the run, `quick` says that
+/// marks tell whether events can come, and `pairs` is room for breakpoints.
+fn go(
+    machine: &mut Machine,
+    most: u64,
+    events: &[Event],
+    watches: &[Watch],
+    quick: bool,
+    marks: &Option<Marks>,
+    pairs: &mut Vec<Breakpoint>,
+) -> Ending
+    requires loaded { HasProgram machine.old }
+    requires quick { IsTrue quick → list_all is_quick events.now ≡ true }
+    requires places { marks.now ≡ None → list_all is_place events.now ≡ true }
+    requires marked { IfSome marks.now (λ m. All (IsGuarded m) events.now) }
+    ensures goes { (start : Memory) → watches.now ≡ map (watch_of start) events.now → AreStill start machine.old.memory events.now → GoesTo start machine.old most events.now result machine.new }
+    ensures loaded { HasProgram machine.new }
+{
+    let mut left = most;
+    for _ in 0..most {
+        if left == 0 {
+            return Ending::Stopped(Stop::Steps);
+        }
+        match advance(machine, left, events, quick, marks, pairs) {
+            Ok(made) => left -= made,
+            Err(stop) => return Ending::Stopped(stop),
+        }
+        if let Some(place) = first_come(watches, machine) {
+            return Ending::Came(place);
+        }
+    }
+    Ending::Stopped(Stop::Steps)
+}
+
+/// Marks on the memory that these events look at; None if all are places. An `Err` is a failed allocation.
+fn marks_if_any(alloc: Global, events: &[Event]) -> Result<Option<Marks>, AllocError>
+    ensures places { IfOk result (λ marks. marks ≡ None → list_all is_place events.now ≡ true) }
+    ensures marked { IfOk result (λ marks. IfSome marks (λ m. All (IsGuarded m) events.now)) }
+{
+    if are_places(events) {
+        return Ok(None);
+    }
+    Ok(Some(marks_of(alloc, events)?))
+}
+
+/// Makes at most `most` steps, but none after the first one that leads to one of the events, and returns why the steps ended.
+/// A program must be loaded.
+///
+/// # Errors
+///
+/// `AllocError` if an allocation fails, and nothing has changed.
+pub fn run_to(
+    alloc: Global,
+    machine: &mut Machine,
+    most: u64,
+    events: &[Event],
+) -> Result<Ending, AllocError>
+    requires { HasProgram machine.old }
+    ensures ok { IfOk result (λ ending. RunsTo machine.old most events.now ending machine.new) }
+    ensures err { OnErr result (machine.new ≡ machine.old) }
+    ensures loaded { HasProgram machine.new }
+{
+    if most == 0 || events.is_empty() {
+        return Ok(Ending::Stopped(machine.run(most)));
+    }
+    let watches = watches_of(alloc, events, machine.space())?;
+    let mut pairs = Vec::new(alloc);
+    let marks = marks_if_any(alloc, events)?;
+    let quick = are_quick(events);
+    Ok(go(
+        machine,
+        most,
+        events,
+        watches.as_slice(),
+        quick,
+        &marks,
+        &mut pairs,
+    ))
+}

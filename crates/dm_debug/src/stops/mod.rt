@@ -1,0 +1,11 @@
+//! Runs that end at events: a step that leads to a place, a step after which a byte of memory reads otherwise, an `INT`
+//! instruction that is next.
+
+mod events;
+mod going;
+mod marking;
+mod memory;
+mod nearby;
+
+pub use events::{Event, Range};
+pub use going::{Ending, run_to};

@@ -1,8 +1,0 @@
-use Rattle.dm_inventory.proofs.ArenaRows.{Telling, ahead}
-use Rattle.dm_inventory.proofs.arena.put_list.Given as goal
-
-abbrev pub invariant-walk : goal.invariant-walk
-invariant-walk l = Telling l.initial.told l.list l.initial.out.items l.told l.out.items
-
-abbrev pub decreases-walk : goal.decreases-walk
-decreases-walk l = ahead l.told.at

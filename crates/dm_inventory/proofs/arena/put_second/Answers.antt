@@ -1,5 +1,0 @@
-use Rattle.dm_inventory.proofs.ArenaLists.{second_told}
-use Rattle.dm_inventory.proofs.arena.put_second.Goals as goal
-
-pub returns : goal.returns
-returns c = rw c.end_of.ensures (second_told c.args.first.memory c.walk_second.result c.in_ok-walked.walked _ _ c.walk_second.ensures.memory c.walk_second.ensures.second c.in_ok-walked.ensures)

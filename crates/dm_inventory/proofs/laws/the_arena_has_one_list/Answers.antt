@@ -1,5 +1,0 @@
-use Rattle.dm_inventory.proofs.ArenaOnce.{arena_once}
-use Rattle.dm_inventory.proofs.laws.the_arena_has_one_list.Goals as goal
-
-pub returns : goal.returns
-returns c = arena_once

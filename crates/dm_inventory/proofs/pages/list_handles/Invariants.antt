@@ -1,7 +1,0 @@
-use Rattle.std.proofs.Common.{◌≡◌, ◌++◌}
-use Rattle.dm_inventory.specs.Rows.{rows_in_turn}
-use Rattle.dm_inventory.specs.Pages.{handle_row}
-use Rattle.dm_inventory.proofs.pages.list_handles.Given as goal
-
-abbrev pub invariant-loop-number : goal.invariant-loop-number
-invariant-loop-number l = l.out.items ≡ l.initial.out.items ++ rows_in_turn (handle_row l.ems) l.number

@@ -1,9 +1,0 @@
-use Rattle.std.proofs.Common.{◌≡◌, ◌≤◌, ◌-◌}
-use Rattle.dm_moves.specs.inner.Copying.{read_in}
-use Rattle.dm_moves.proofs.copies.read.Given as goal
-
-abbrev pub invariant-loop-done : goal.invariant-loop-done
-invariant-loop-done l = record { within : l.done ≤ l.len; copied : l.space ≡ read_in l.fn.space l.span 0 l.at l.done }
-
-abbrev pub decreases-loop-done : goal.decreases-loop-done
-decreases-loop-done l = l.len - l.done

@@ -1,0 +1,17 @@
+//! The packets of GDB's remote serial protocol: what is read from a stream of bytes, and the bytes that are sent.
+//!
+//! Source: the GDB manual, appendix "GDB Remote Serial Protocol", sections "Overview", "Interrupts" and "Packet
+//! Acknowledgment".
+
+mod checks;
+mod content;
+mod escapes;
+mod laws;
+mod link;
+mod received;
+mod receiver;
+
+pub use laws::streams_are_read;
+pub use link::Link;
+pub use received::{Payload, Received};
+pub use receiver::Receiver;

@@ -1,6 +1,0 @@
-use Rattle.std.proofs.Common.{◌≡◌, take, map}
-use Rattle.dm_stops.specs.inner.Watching.{watch_of}
-use Rattle.dm_stops.proofs.events.watches_of.Given as goal
-
-abbrev pub invariant-loop-event : goal.invariant-loop-event
-invariant-loop-event l = l.watches.items ≡ map (watch_of l.space.memory) (take l.event-index l.events)

@@ -1,6 +1,0 @@
-use Rattle.std.proofs.Common.{◌≡◌, ◌+◌, drop}
-use Rattle.dm_stops.specs.Events.{reads_as}
-use Rattle.dm_stops.proofs.memory.reads_as.Given as goal
-
-abbrev pub invariant-loop-k : goal.invariant-loop-k
-invariant-loop-k l = reads_as l.space.memory (l.address + l.k) (drop l.k l.bytes) ≡ reads_as l.space.memory l.address l.bytes

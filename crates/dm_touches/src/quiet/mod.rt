@@ -1,0 +1,8 @@
+//! Marked memory, and which instructions touch none of it: a step of an instruction that reads and writes no marked
+//! byte need not be looked at.
+
+mod marks;
+mod touch;
+
+pub use marks::Marks;
+pub use touch::{Touch, touch_of};

@@ -1,0 +1,81 @@
+-- The findings of a checked run as records: of which kind each is, where and when it was found, and what it is about.
+use Rattle.std.specs.Prelude.{ℕ, Option, Some, None}
+use Rattle.dm_findings.specs.declared.calls.Call.{Call}
+use Rattle.dm_findings.specs.declared.calls.Call.TheVariants.{DivideError, Terminate, Dos, ExpandedMemory, Multiplex, ExtendedMemory, Interrupt}
+use Rattle.dm_findings.specs.declared.sites.Site.{Site}
+use Rattle.dm_findings.specs.declared.sites.Site.TheVariants.{At, Before}
+use Rattle.dm_findings.specs.declared.finding.Act.{Act}
+use Rattle.dm_findings.specs.declared.finding.Act.TheVariants as act
+use Rattle.dm_findings.specs.declared.finding.Finding.{Finding}
+use Rattle.dm_findings.specs.declared.finding.Finding.TheVariants.{Held}
+use Rattle.dm_findings.specs.declared.finding.Kept.{Kept}
+use Rattle.dm_findings.specs.declared.finding.Kept.TheVariants as kept
+use Rattle.dm_findings.specs.declared.finding.Origin.{Origin}
+use Rattle.dm_findings.specs.declared.report.Listed.{Listed}
+use Rattle.dm_findings.specs.Findings.{is_error}
+use Rattle.dm_findings.specs.Repeats as findings
+use Rattle.dm_findings.specs.Repeats.{left_kind}
+use Rattle.dm_views.specs.declared.inventory.findings.Act as performed
+use Rattle.dm_views.specs.declared.inventory.findings.Place.{Place}
+use Rattle.dm_views.specs.declared.inventory.findings.FoundRecord.{FoundRecord}
+use Rattle.dm_views.specs.inventory.Pages.{number_of}
+use Rattle.dm_views.specs.inventory.Details.{details_of}
+
+-- ---- kinds
+
+-- the kind of a finding, as a number: its place among the kinds, where what a resident program holds counts as left
+-- allocated; `dm check --json` has a word for each
+abbrev pub kind_of : Finding → ℕ
+kind_of (Held k) = left_kind k
+kind_of f = findings.kind_of f
+
+-- ---- what was performed, and where
+
+-- a call: by an interrupt alone (1), by an interrupt and the number of a function (2), or by a far call of the extended
+-- memory driver with that of a function (3)
+abbrev pub call_of : Call → performed.Act
+call_of DivideError = record { how = 1; interrupt = 0; function = 0; next = 0 }
+call_of Terminate = record { how = 1; interrupt = 0x20; function = 0; next = 0 }
+call_of (Dos number) = record { how = 2; interrupt = 0x21; function = number; next = 0 }
+call_of (ExpandedMemory number) = record { how = 2; interrupt = 0x67; function = number; next = 0 }
+call_of Multiplex = record { how = 1; interrupt = 0x2F; function = 0; next = 0 }
+call_of (ExtendedMemory number) = record { how = 3; interrupt = 0; function = number; next = 0 }
+call_of (Interrupt number) = record { how = 1; interrupt = number; function = 0; next = 0 }
+
+-- what was performed: an instruction (0), with the offset after it, or a call
+abbrev pub act_of : Act → performed.Act
+act_of (act.Instruction ins next) = record { how = 0; interrupt = 0; function = 0; next = next }
+act_of (act.Call call) = call_of call
+
+-- a place in the code of a program, and whether the instruction that was performed ends there
+abbrev pub place_of : Site → Place
+place_of (At segment offset) = record { cs = segment; ip = offset; before = 0 }
+place_of (Before segment offset) = record { cs = segment; ip = offset; before = 1 }
+
+-- where something was allocated or freed; zeros where that is not known
+abbrev pub origin_place : Option Origin → Place
+origin_place None = record { cs = 0; ip = 0; before = 0 }
+origin_place (Some o) = place_of o.site
+
+-- the step in which something was allocated or freed; 0 where that is not known
+abbrev pub origin_step : Option Origin → ℕ
+origin_step None = 0
+origin_step (Some o) = o.step
+
+-- ---- findings
+
+-- the record of a finding that a report lists
+abbrev pub record_of : Listed → FoundRecord
+record_of f = record {
+  step = f.found.step;
+  more = f.more;
+  last = f.last;
+  origin_step = origin_step f.found.origin;
+  kind = kind_of f.found.finding;
+  is_error = number_of (is_error f.found.finding);
+  at = place_of f.found.site;
+  origin_at = origin_place f.found.origin;
+  act = act_of f.found.act;
+  process = f.found.process;
+  details = details_of f.found.finding;
+}
