@@ -6,6 +6,7 @@ import subprocess
 
 import believed
 import header
+import served
 import specs
 
 # The sentences of each page, by the names of the figures in `counted`; a blank stands for any space. The figures of a page's second list are those of the
@@ -112,15 +113,6 @@ def variants(path, name):
     return len(re.findall(r"^    \w+(?:\(|,| \{|$)", found[1], re.M))
 
 
-def numbers_served(crate):
-    """How many numbers the definition `function_of` of a crate gives a function, or its definition `call` an effect."""
-    text = specs.text_of(f"crates/{crate}/specs/Functions.antt")
-    found = re.search(r"^(?:function_of|call(?: upper)? c) number =\n((?:    .*\n)+)", text, re.M)
-    if not found:
-        raise Uncounted(f"crates/{crate}/specs/Functions.antt has no table of numbers")
-    return len(re.findall(r"\bif number == 0x\w+ then\b", found[1]))
-
-
 def crates():
     """For each crate of crates.txt, those that it uses."""
     found = dict(re.findall(r"^(\w+)[^:#\n]*:(.*)$", specs.text_of("crates.txt"), re.M))
@@ -162,9 +154,9 @@ def of_tree():
         "forms": variants("crates/dm_forms/src/form.rt", "Form"),
         # (A test compares this number with the table's, and has the prefixes in it.)
         "table_entries": captured("crates/dm_asm_tests/src/table.rt", r'^    same\(&rt, "rows", text\.lines\(\)\.count\(\), (\d+)\);$') - PREFIXES,
-        "functions_of_dos": numbers_served("dm_services"),
-        "functions_of_ems": numbers_served("dm_ems_calls"),
-        "functions_of_xms": numbers_served("dm_xms_calls"),
+        "functions_of_dos": len(served.numbers(served.DOS)),
+        "functions_of_ems": len(served.numbers(served.EXPANDED)),
+        "functions_of_xms": len(served.numbers(served.EXTENDED)),
         "terminal_conversations": elements("tools/terminal", "TALKS"),
         "gdb_conversations": count(r"tools/talks/\w+\.talk"),
         "python_tests": tests_in(files, "python/tests"),

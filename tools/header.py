@@ -9,7 +9,7 @@ import re
 
 ROOT = os.path.dirname(os.path.dirname(os.path.abspath(__file__)))
 # The crate of the exports, and those that have the records and statuses which C gets.
-CRATES = ("dm_c", "dm_host_calls", "dm_inventory")
+FOLDERS = ("dm_c/src", "dm_host_calls/src", "dm_views/src/inventory")
 # The C type of a number, and of each type of the exports.
 NUMBERS = {"u8": "uint8_t", "u16": "uint16_t", "u32": "uint32_t", "u64": "uint64_t", "usize": "size_t"}
 TYPES = {**NUMBERS, "Handle": "mezguld", "Stopped": "mezguld_stopped", "Registers": "mezguld_cpu", "Point": "mezguld_point", "Awaited": "mezguld_event",
@@ -87,7 +87,7 @@ class Exports:
     """What the crates export, as C would declare it."""
 
     def __init__(self):
-        paths = [path for crate in CRATES for path in sorted(glob.glob(f"{ROOT}/crates/{crate}/src/*.rt"))]
+        paths = [path for folder in FOLDERS for path in sorted(glob.glob(f"{ROOT}/crates/{folder}/*.rt"))]
         code = {path: re.sub(r"//[^\n]*", "", text_of(os.path.relpath(path, ROOT))) for path in paths}
         whole = "\n".join(code.values())
         self.marked = len(re.findall(r"#\[unsafe\(no_mangle\)\]", whole))

@@ -27,6 +27,9 @@ def text_of(path):
     with open(f"{ROOT}/{path}", encoding="utf-8") as file:
         return file.read()
 
+# A file of definitions that only proofs and private contracts name.
+INNER = re.compile(r"/specs/(?:\w+/)?inner/")
+
 
 def crate_names():
     """The crates without the test crates, and their groups, in the order of crates.txt."""
@@ -52,7 +55,7 @@ class Definition:
 
     @property
     def is_inner(self):
-        return "/specs/inner/" in self.path
+        return bool(INNER.search(self.path))
 
     def size(self):
         """Its lines without comments: neither the one above it, nor those of its fields."""
@@ -144,8 +147,9 @@ class Specs:
     def read_source(self, crate, path):
         # (A program has no public functions: all its contracts count.)
         is_program = os.path.exists(f"{ROOT}/crates/{crate}/src/main.rt")
-        exported = exports(crate)
-        module = os.path.relpath(path, f"crates/{crate}/src")[: -len(".rt")].replace("/", ".")
+        exported = exports(os.path.dirname(path))
+        module = os.path.relpath(path, f"crates/{crate}/src")[: -len(".rt")].removesuffix("/mod").replace("/", ".")
+        file = os.path.splitext(os.path.basename(path))[0]
         lines = text_of(path).split("\n")
         whole, inner, block, trait, function, docs, is_open = {}, {}, None, None, None, [], False
         for number, line in enumerate(lines, 1):
@@ -158,7 +162,7 @@ class Specs:
                 block, inner = impl, {}
             elif TRAIT.match(line):
                 trait = TRAIT.match(line)[1]
-                function = Contract(crate, path, trait, trait in exported or module.split(".")[0] in exported, number)
+                function = Contract(crate, path, trait, trait in exported or file in exported, number)
                 self.contracts.append(function)
                 self.imports[id(function)] = (whole, inner)
             elif trait and re.match(r"^\s+ghost (?!use)\w+:", line):
@@ -168,7 +172,7 @@ class Specs:
             elif begun:
                 outer = f"{block[2]}::" if block else f"{trait}::" if trait else ""
                 # (A method of a trait is as public as the trait.)
-                is_shown = (block[2] if block else trait or begun[2]) in exported or module.split(".")[0] in exported
+                is_shown = (block[2] if block else trait or begun[2]) in exported or file in exported
                 is_public = is_program or is_shown and (begun[1] == "pub " or bool(trait or block and block[1]))
                 function = Contract(crate, path, outer + begun[2], is_public, number)
                 self.contracts.append(function)
@@ -334,11 +338,11 @@ def tried(line):
         yield from (f"{crate}.{module}.{name}" for name in names)
 
 
-def exports(crate):
-    """The names that a library re-exports: of functions, types and modules."""
+def exports(folder):
+    """The names that a library, or a module with a folder of its own, re-exports: of functions, types and modules."""
     found = set()
-    path = f"crates/{crate}/src/lib.rt"
-    if os.path.exists(f"{ROOT}/{path}"):
+    path = next((it for it in (f"{folder}/lib.rt", f"{folder}/mod.rt") if os.path.exists(f"{ROOT}/{it}")), None)
+    if path:
         text = text_of(path)
         found.update(re.findall(r"^pub mod (\w+);", text, re.M))
         for names in re.findall(r"^pub use (?:\w+::)+\{?([^;{}]+)\}?;", text, re.M):
@@ -387,9 +391,9 @@ def code_imports(crate, lines):
     """The types of crates that the lines `use` of some code bring in, as far as their modules' names show."""
     found = {}
     for line in lines:
-        used = re.match(r"^use (crate|dm_\w+)::(?:(\w+)::)?\{?([\w, ]+)\}?;$", line)
+        used = re.match(r"^use (crate|dm_\w+)::(?:\w+::)*\{?([\w, ]+)\}?;$", line)
         if used:
-            for name in re.split(r",\s*", used[3]):
+            for name in re.split(r",\s*", used[2]):
                 found[name.strip()] = f"{crate if used[1] == 'crate' else used[1]}.?.{name.strip()}"
     return found
 

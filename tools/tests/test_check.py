@@ -19,7 +19,7 @@ PLANTED = (
     ("docs/proved.md", "`axioms=39`", "`axioms=40`", "axioms=39"),
     ("docs/proved.md", "it changes the buffer alone | yes | - |", "it changes the buffer alone | - | - |", "calls `os::c::rattle_arg`"),
     ("bench/README.md", " million steps a second of processor time", " million steps a minute of processor time", "README.md: not once"),
-    ("docs/architecture.md", "- **`dm_moves`**", "- **`dm_spans`**", "no item for dm_moves"),
+    ("docs/architecture.md", "- **`dm_views`**", "- **`dm_spans`**", "no item for dm_views"),
     ("README.md", "## What it is not", f"## What it is not{' word' * 400}", "words, and not at most 700"),
     ("docs/install.md", "## From a package", f"## From a package\n\n{'more ' * 33}", "165 characters"),
     ("docs/testing.md", "edits in the `must-fail` directories", "edits of the gate", "docs/testing.md: not once, but 0 times"),

@@ -1,0 +1,31 @@
+"""The functions that are served, by their numbers, as the tables of definitions have them: `function_of` of INT 21h, `call` of the drivers."""
+import re
+
+import specs
+
+# The folders of the definitions: of INT 21h, INT 67h and the extended memory driver.
+DOS, EXPANDED, EXTENDED = "dm_services/specs", "dm_drivers/specs/expanded", "dm_drivers/specs/extended"
+
+
+class Unread(Exception):
+    """A file of definitions does not list functions by their numbers."""
+
+
+def numbers(folder):
+    """The numbers, rising, that the table in a folder of definitions gives a function."""
+    path = f"crates/{folder}/Functions.antt"
+    found = re.search(r"^(?:function_of|call(?: upper)? c) number =\n((?:    .*\n)+)", specs.text_of(path), re.M)
+    if not found:
+        raise Unread(f"{path} has no table of numbers")
+    return sorted(int(number, 16) for number in re.findall(r"\bif number == 0x(\w+) then\b", found[1]))
+
+
+def spelled(folder):
+    """The numbers as the manual has them: `06h to 0Ch, 25h`."""
+    runs = []
+    for number in numbers(folder):
+        if runs and runs[-1][-1] == number - 1:
+            runs[-1].append(number)
+        else:
+            runs.append([number])
+    return ", ".join(f"{run[0]:02X}h to {run[-1]:02X}h" if len(run) > 2 else ", ".join(f"{it:02X}h" for it in run) for run in runs)
