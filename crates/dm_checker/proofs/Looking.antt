@@ -13,7 +13,9 @@ use Rattle.dm_findings.specs.Calls.{call_of}
 use Rattle.dm_checker.specs.declared.acts.Before.{Before}
 use Rattle.dm_checker.specs.declared.watch.Watched.{Watched}
 use Rattle.dm_checker.specs.declared.watch.Watch.{Watch}
-use Rattle.dm_findings.specs.outcomes.Calls.{is_arena, is_ending, is_starting, arranges, call_findings}
+use Rattle.dm_services.specs.declared.functions.Function.{Function}
+use Rattle.dm_services.specs.Functions.{function_of}
+use Rattle.dm_findings.specs.outcomes.Calls.{allocates, frees, resizes, arranges_lists, is_arena, ends, keeps, is_ending, is_starting, arranges, call_findings}
 use Rattle.dm_checker.specs.Freed.{freed_twice}
 use Rattle.dm_checker.specs.Headers.{overwritten, mapped_away}
 use Rattle.dm_checker.specs.Shown.{Shown}
@@ -91,35 +93,35 @@ or_right : (a b : Bool) → (a || b) ≡ false → b ≡ false
 or_right true b e = (let z : true ≡ false = e in cc)
 or_right false b e = e
 
-not_freeing : (c : Cpu) (number : ℕ) → (is_arena number || is_ending number || is_starting c number) ≡ false → (number == 0x49) ≡ false
-not_freeing c number e =
-    let arena : is_arena number ≡ false = or_left (is_arena number) (is_ending number) (or_left _ (is_starting c number) e) in
-    or_right (number == 0x48) (number == 0x49) (or_left _ (number == 0x4A) (or_left _ (number == 0x58) arena))
+not_freeing : (c : Cpu) (f : Function) → (is_arena f || is_ending f || is_starting c f) ≡ false → frees f ≡ false
+not_freeing c f e =
+    let arena : is_arena f ≡ false = or_left (is_arena f) (is_ending f) (or_left _ (is_starting c f) e) in
+    or_right (allocates f) (frees f) (or_left _ (resizes f) (or_left _ (arranges_lists f) arena))
 
 freed_none : (c d : Cpu) (call : Option Call) (hs : List Header) → arranges c call ≡ false → freed_twice c d call hs ≡ []
 freed_none c d None hs e = refl
 freed_none c d (Some DivideError) hs e = refl
 freed_none c d (Some Terminate) hs e = refl
-freed_none c d (Some (Dos number)) hs e = (let off = not_freeing c number e in rw off refl)
+freed_none c d (Some (Dos number)) hs e = (let off = not_freeing c (function_of number) e in rw off refl)
 freed_none c d (Some (ExpandedMemory number)) hs e = refl
 freed_none c d (Some Multiplex) hs e = refl
 freed_none c d (Some (ExtendedMemory number)) hs e = refl
 freed_none c d (Some (Interrupt number)) hs e = refl
 
 -- functions that do not free, resize or keep
-not_arranging : (c : Cpu) (number : ℕ) → (is_arena number || is_ending number || is_starting c number) ≡ false → ((number == 0x49) ≡ false) × ((number == 0x4A) ≡ false) × ((number == 0x31) ≡ false)
-not_arranging c number e =
-    let both = or_left (is_arena number || is_ending number) (is_starting c number) e in
-    let arena : is_arena number ≡ false = or_left (is_arena number) (is_ending number) both in
-    let ending : is_ending number ≡ false = or_right (is_arena number) (is_ending number) both in
-    let without58 : ((number == 0x48) || (number == 0x49) || (number == 0x4A)) ≡ false = or_left _ (number == 0x58) arena in
-    (not_freeing c number e, or_right ((number == 0x48) || (number == 0x49)) (number == 0x4A) without58, or_right (number == 0x00) (number == 0x31) (or_left _ (number == 0x4C) ending))
+not_arranging : (c : Cpu) (f : Function) → (is_arena f || is_ending f || is_starting c f) ≡ false → (frees f ≡ false) × (resizes f ≡ false) × (keeps f ≡ false)
+not_arranging c f e =
+    let both = or_left (is_arena f || is_ending f) (is_starting c f) e in
+    let arena : is_arena f ≡ false = or_left (is_arena f) (is_ending f) both in
+    let ending : is_ending f ≡ false = or_right (is_arena f) (is_ending f) both in
+    let lists : (allocates f || frees f || resizes f) ≡ false = or_left _ (arranges_lists f) arena in
+    (not_freeing c f e, or_right (allocates f || frees f) (resizes f) lists, or_right (ends f) (keeps f) ending)
 
 if_whole_none : (o : Option ℕ) (fs : List Finding) → fs ≡ [] → if_whole o fs ≡ []
 if_whole_none None fs e = e
 if_whole_none (Some at) fs e = refl
 
-arranged_dos : (a20 : Bool) (present : ℕ) (c d : Cpu) (number : ℕ) (old : List Header) (new : Shown) → (number == 0x49) ≡ false → (number == 0x4A) ≡ false → (number == 0x31) ≡ false → arranged_by a20 present c d (Some (Dos number)) old new ≡ []
+arranged_dos : (a20 : Bool) (present : ℕ) (c d : Cpu) (number : ℕ) (old : List Header) (new : Shown) → frees (function_of number) ≡ false → resizes (function_of number) ≡ false → keeps (function_of number) ≡ false → arranged_by a20 present c d (Some (Dos number)) old new ≡ []
 arranged_dos a20 present c d number old new e f g =
     let first : other_freed present c d number old ≡ [] = rw e refl in
     let stack : stack_freed a20 c d number new.headers ≡ [] = rw (e, f) refl in
@@ -130,7 +132,7 @@ arranged_none : (a20 : Bool) (present : ℕ) (c d : Cpu) (call : Option Call) (o
 arranged_none a20 present c d None old new e = refl
 arranged_none a20 present c d (Some DivideError) old new e = refl
 arranged_none a20 present c d (Some Terminate) old new e = refl
-arranged_none a20 present c d (Some (Dos number)) old new e = (let off = not_arranging c number e in arranged_dos a20 present c d number old new off.0 off.1 off.2)
+arranged_none a20 present c d (Some (Dos number)) old new e = (let off = not_arranging c (function_of number) e in arranged_dos a20 present c d number old new off.0 off.1 off.2)
 arranged_none a20 present c d (Some (ExpandedMemory number)) old new e = refl
 arranged_none a20 present c d (Some Multiplex) old new e = refl
 arranged_none a20 present c d (Some (ExtendedMemory number)) old new e = refl

@@ -8,6 +8,8 @@ use Rattle.dm_cpu.specs.declared.cpu.Cpu.{Cpu}
 use Rattle.dm_cpu.specs.Guest.{up}
 use Rattle.dm_blocks.specs.declared.header.Header.{Header}
 use Rattle.dm_services.specs.state.State.{State}
+use Rattle.dm_services.specs.Functions.{function_of}
+use Rattle.dm_findings.specs.outcomes.Calls.{frees, keeps, resizes}
 use Rattle.dm_findings.specs.declared.calls.Call.{Call}
 use Rattle.dm_findings.specs.declared.calls.Call.TheVariants.{Dos}
 use Rattle.dm_findings.specs.declared.finding.Finding.{Finding}
@@ -28,7 +30,7 @@ other_block present segment b =
 -- c and d are the registers before and after the call, `headers` the arena before it
 abbrev pub other_freed : ℕ → Cpu → Cpu → ℕ → List Header → List Finding
 other_freed present c d number headers =
-    if (number == 0x49) && not d.flags.carry then flat_map (other_block present c.es) headers else []
+    if frees (function_of number) && not d.flags.carry then flat_map (other_block present c.es) headers else []
 
 -- ---- the stack
 
@@ -40,7 +42,8 @@ stack_in address b = if is_in_free b address then StackFreed (up b.segment 1) �
 -- return address at SS:SP; `headers` is the arena after it
 abbrev pub stack_freed : Bool → Cpu → Cpu → ℕ → List Header → List Finding
 stack_freed a20 c d number headers =
-    if ((number == 0x49) || (number == 0x4A)) && not d.flags.carry then flat_map (stack_in (linear a20 c.ss c.sp)) headers else []
+    if (frees (function_of number) || resizes (function_of number)) && not d.flags.carry
+    then flat_map (stack_in (linear a20 c.ss c.sp)) headers else []
 
 -- ---- a resident process
 
@@ -53,7 +56,7 @@ has_size segment size (b ∷ headers) = ((b.segment + 1 == segment) && (b.size =
 -- arena after the call
 abbrev pub not_resized : ℕ → Cpu → ℕ → List Header → List Finding
 not_resized present c number headers =
-    if (number == 0x31) && not (has_size present c.dx headers) then NotResized c.dx ∷ [] else []
+    if keeps (function_of number) && not (has_size present c.dx headers) then NotResized c.dx ∷ [] else []
 
 -- ---- all of it
 

@@ -3,6 +3,8 @@
 use Rattle.std.specs.Prelude.{ℕ, ◌+◌, ◌==◌, ◌&&◌, ◌||◌, not, Bool, false, if◌then◌else◌, List, [], ◌∷◌, Option, Some}
 use Rattle.dm_cpu.specs.declared.cpu.Cpu.{Cpu}
 use Rattle.dm_blocks.specs.declared.header.Header.{Header}
+use Rattle.dm_services.specs.Functions.{function_of}
+use Rattle.dm_findings.specs.outcomes.Calls.{frees}
 use Rattle.dm_findings.specs.declared.calls.Call.{Call}
 use Rattle.dm_findings.specs.declared.calls.Call.TheVariants.{Dos}
 use Rattle.dm_findings.specs.declared.finding.Finding.{Finding}
@@ -17,5 +19,5 @@ is_free_at (b ∷ headers) segment = ((b.segment + 1 == segment) && (b.owner == 
 -- c and d are the registers before and after the call, `headers` the arena before it
 abbrev pub freed_twice : Cpu → Cpu → Option Call → List Header → List Finding
 freed_twice c d (Some (Dos number)) headers =
-    if (number == 0x49) && not d.flags.carry && is_free_at headers c.es then FreedTwice c.es ∷ [] else []
+    if frees (function_of number) && not d.flags.carry && is_free_at headers c.es then FreedTwice c.es ∷ [] else []
 freed_twice c d _ headers = []

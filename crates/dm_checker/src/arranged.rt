@@ -9,9 +9,10 @@ ghost use Rattle.dm_checker.specs.Watching.{header_of, shown_of};
 
 use crate::acts::Before;
 use crate::watch::{Watch, Watched};
-use dm_findings::outcomes::put;
 use dm_cpu::Cpu;
+use dm_findings::outcomes::{frees, keeps, put, resizes};
 use dm_findings::{Call, Finding};
+use dm_services::function_of;
 use dm_touches::{FarAddress, is_in_free};
 use std::alloc::AllocError;
 
@@ -58,7 +59,7 @@ fn put_other_freed(
 ) -> Result<(), AllocError>
     ensures { OnOk result (out.new.items ≡ out.old.items ++ other_freed present before.now after.now number (map header_of headers.now)) }
 {
-    if number == 0x49 && !after.flags.carry {
+    if frees(function_of(number)) && !after.flags.carry {
         return put_each_other(out, present, before.es, headers);
     }
     Ok(())
@@ -99,7 +100,7 @@ fn put_stack_freed(
 ) -> Result<(), AllocError>
     ensures { OnOk result (out.new.items ≡ out.old.items ++ stack_freed a20 before.now after.now number (map header_of headers.now)) }
 {
-    if (number == 0x49 || number == 0x4A) && !after.flags.carry {
+    if (frees(function_of(number)) || resizes(function_of(number))) && !after.flags.carry {
         let top = FarAddress {
             segment: before.ss,
             offset: before.sp,
@@ -133,7 +134,7 @@ fn put_not_resized(
 ) -> Result<(), AllocError>
     ensures { OnOk result (out.new.items ≡ out.old.items ++ not_resized present before.now number (map header_of headers.now)) }
 {
-    if number == 0x31 && !has_size(present, before.dx, headers) {
+    if keeps(function_of(number)) && !has_size(present, before.dx, headers) {
         return put(out, Finding::NotResized(before.dx));
     }
     Ok(())

@@ -10,9 +10,9 @@ ghost use Rattle.dm_checker.specs.Checking.{GoesOn, GoesToFirst, HasProcesses, I
 use crate::steps::{look_at_step, pass};
 use crate::watch::{Watch, read_arena};
 use dm_findings::Report;
+use dm_findings::processes::Process;
 use dm_machine::{Machine, Stop};
 use dm_origins::Origins;
-use dm_findings::processes::Process;
 use std::alloc::{AllocError, Global};
 use std::marker::Model;
 

@@ -5,9 +5,10 @@ ghost use Rattle.dm_checker.specs.Freed.{is_free_at, freed_twice};
 ghost use Rattle.dm_checker.specs.Watching.{header_of};
 
 use crate::watch::Watched;
-use dm_findings::outcomes::put;
 use dm_cpu::Cpu;
+use dm_findings::outcomes::{frees, put};
 use dm_findings::{Call, Finding};
+use dm_services::function_of;
 use std::alloc::AllocError;
 
 /// Whether one of the headers is that of the block at `segment`, and the block is free.
@@ -36,7 +37,7 @@ pub(crate) fn put_freed_twice(
     let Some(Call::Dos(number)) = call else {
         return Ok(());
     };
-    if number == 0x49 && !after.flags.carry && is_free_at(headers, before.es) {
+    if frees(function_of(number)) && !after.flags.carry && is_free_at(headers, before.es) {
         return put(out, Finding::FreedTwice(before.es));
     }
     Ok(())

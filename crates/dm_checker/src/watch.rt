@@ -8,8 +8,8 @@ use crate::marking::marks_of;
 use dm_blocks::{Header, Headers, Step, is_linked, walk};
 use dm_machine::Machine;
 use dm_pool::Block;
-use dm_touches::quiet::Marks;
 use dm_space::Space;
+use dm_touches::quiet::Marks;
 use std::alloc::{AllocError, Global};
 
 /// 2^40: a number below it has five bytes.

@@ -2,10 +2,10 @@
 //! program left allocated; and the report that collects them.
 #![tactic(auto)]
 
-pub mod outcomes;
-pub mod processes;
 mod calls;
 mod finding;
+pub mod outcomes;
+pub mod processes;
 mod repeats;
 mod report;
 mod sites;

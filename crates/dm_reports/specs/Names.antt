@@ -1,38 +1,40 @@
 -- The names of calls in the report of `dm check`: MS-DOS Programmer's Reference, "System Calls"; LIM EMS 4.0, section
 -- 3; XMS 3.0. Numbers that are not served have none.
 use Rattle.std.specs.Prelude.{ℕ, ◌==◌, if◌then◌else◌, List, [], ◌++◌, codes}
+use Rattle.dm_services.specs.declared.functions.Function.{Function}
+use Rattle.dm_services.specs.declared.functions.Function.TheVariants.{Terminate as EndProgram, EchoCharacter, WriteCharacter, DirectCharacter, DirectInput, ReadCharacter, WriteText, ReadLine, CheckInput, FlushAndRead, SetVector, Version, Keep, GetVector, ReadHandle, WriteHandle, Allocate, Free, Resize, LoadProgram, Exit, ExitCode, Process, AllocationStrategy, Unknown}
+use Rattle.dm_services.specs.Functions.{function_of}
 use Rattle.dm_views.specs.Digits.{two_digits}
 use Rattle.dm_findings.specs.declared.calls.Call.{Call}
 use Rattle.dm_findings.specs.declared.calls.Call.TheVariants.{DivideError, Terminate, Dos, ExpandedMemory, Multiplex, ExtendedMemory, Interrupt}
 
--- the name of a function of INT 21h in parentheses, after a space; empty for a number that is not served
-abbrev pub dos_name : ℕ → List ℕ
-dos_name number =
-    if number == 0x00 then codes " (Terminate Program)" else
-    if number == 0x01 then codes " (Read Keyboard with Echo)" else
-    if number == 0x02 then codes " (Display Character)" else
-    if number == 0x06 then codes " (Direct Console I/O)" else
-    if number == 0x07 then codes " (Direct Console Input)" else
-    if number == 0x08 then codes " (Read Keyboard Without Echo)" else
-    if number == 0x09 then codes " (Display String)" else
-    if number == 0x0A then codes " (Buffered Keyboard Input)" else
-    if number == 0x0B then codes " (Check Keyboard Status)" else
-    if number == 0x0C then codes " (Flush Buffer, Read Keyboard)" else
-    if number == 0x25 then codes " (Set Interrupt Vector)" else
-    if number == 0x30 then codes " (Get Version Number)" else
-    if number == 0x31 then codes " (Keep Program)" else
-    if number == 0x35 then codes " (Get Interrupt Vector)" else
-    if number == 0x3F then codes " (Read File or Device)" else
-    if number == 0x40 then codes " (Write File or Device)" else
-    if number == 0x48 then codes " (Allocate Memory)" else
-    if number == 0x49 then codes " (Free Allocated Memory)" else
-    if number == 0x4A then codes " (Set Memory Block Size)" else
-    if number == 0x4B then codes " (Load Program)" else
-    if number == 0x4C then codes " (End Program)" else
-    if number == 0x4D then codes " (Get Child-Program Return Value)" else
-    if number == 0x51 then codes " (Get Program Segment Prefix Address)" else
-    if number == 0x58 then codes " (Allocation Strategy, Upper-Memory Link)" else
-    if number == 0x62 then codes " (Get Program Segment Prefix Address)" else []
+-- the name of a function of INT 21h in parentheses, after a space; empty for `Unknown`
+abbrev pub dos_name : Function → List ℕ
+dos_name EndProgram = codes " (Terminate Program)"
+dos_name EchoCharacter = codes " (Read Keyboard with Echo)"
+dos_name WriteCharacter = codes " (Display Character)"
+dos_name DirectCharacter = codes " (Direct Console I/O)"
+dos_name DirectInput = codes " (Direct Console Input)"
+dos_name ReadCharacter = codes " (Read Keyboard Without Echo)"
+dos_name WriteText = codes " (Display String)"
+dos_name ReadLine = codes " (Buffered Keyboard Input)"
+dos_name CheckInput = codes " (Check Keyboard Status)"
+dos_name FlushAndRead = codes " (Flush Buffer, Read Keyboard)"
+dos_name SetVector = codes " (Set Interrupt Vector)"
+dos_name Version = codes " (Get Version Number)"
+dos_name Keep = codes " (Keep Program)"
+dos_name GetVector = codes " (Get Interrupt Vector)"
+dos_name ReadHandle = codes " (Read File or Device)"
+dos_name WriteHandle = codes " (Write File or Device)"
+dos_name Allocate = codes " (Allocate Memory)"
+dos_name Free = codes " (Free Allocated Memory)"
+dos_name Resize = codes " (Set Memory Block Size)"
+dos_name LoadProgram = codes " (Load Program)"
+dos_name Exit = codes " (End Program)"
+dos_name ExitCode = codes " (Get Child-Program Return Value)"
+dos_name Process = codes " (Get Program Segment Prefix Address)"
+dos_name AllocationStrategy = codes " (Allocation Strategy, Upper-Memory Link)"
+dos_name Unknown = []
 
 -- the name of a function of INT 67h in parentheses, after a space; empty for a number that is not served
 abbrev pub expanded_name : ℕ → List ℕ
@@ -86,7 +88,7 @@ extended_name number =
 abbrev pub call_text : Call → List ℕ
 call_text DivideError = codes "interrupt 0"
 call_text Terminate = codes "INT 20h"
-call_text (Dos number) = codes "INT 21h function " ++ two_digits number ++ codes "h" ++ dos_name number
+call_text (Dos number) = codes "INT 21h function " ++ two_digits number ++ codes "h" ++ dos_name (function_of number)
 call_text (ExpandedMemory number) = codes "INT 67h function " ++ two_digits number ++ codes "h" ++ expanded_name number
 call_text Multiplex = codes "INT 2Fh"
 call_text (ExtendedMemory number) = codes "XMS function " ++ two_digits number ++ codes "h" ++ extended_name number

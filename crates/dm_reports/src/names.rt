@@ -6,40 +6,40 @@ ghost use Rattle.dm_views.specs.Digits.{two_digits};
 ghost use Rattle.dm_reports.specs.Names.{call_text, dos_name, expanded_name, extended_name};
 
 use dm_findings::Call;
+use dm_services::{Function, function_of};
 use dm_views::byte_digits;
 use std::alloc::AllocError;
 
-/// The name of a function of INT 21h in parentheses, after a space; empty for a number that is not served.
-fn dos_name(number: u8) -> &'static [u8]
-    ensures { result.now ≡ dos_name number }
+/// The name of a function of INT 21h in parentheses, after a space; empty for `Unknown`.
+fn dos_name(function: Function) -> &'static [u8]
+    ensures { result.now ≡ dos_name function }
 {
-    match number {
-        0x00 => b" (Terminate Program)",
-        0x01 => b" (Read Keyboard with Echo)",
-        0x02 => b" (Display Character)",
-        0x06 => b" (Direct Console I/O)",
-        0x07 => b" (Direct Console Input)",
-        0x08 => b" (Read Keyboard Without Echo)",
-        0x09 => b" (Display String)",
-        0x0A => b" (Buffered Keyboard Input)",
-        0x0B => b" (Check Keyboard Status)",
-        0x0C => b" (Flush Buffer, Read Keyboard)",
-        0x25 => b" (Set Interrupt Vector)",
-        0x30 => b" (Get Version Number)",
-        0x31 => b" (Keep Program)",
-        0x35 => b" (Get Interrupt Vector)",
-        0x3F => b" (Read File or Device)",
-        0x40 => b" (Write File or Device)",
-        0x48 => b" (Allocate Memory)",
-        0x49 => b" (Free Allocated Memory)",
-        0x4A => b" (Set Memory Block Size)",
-        0x4B => b" (Load Program)",
-        0x4C => b" (End Program)",
-        0x4D => b" (Get Child-Program Return Value)",
-        0x51 => b" (Get Program Segment Prefix Address)",
-        0x58 => b" (Allocation Strategy, Upper-Memory Link)",
-        0x62 => b" (Get Program Segment Prefix Address)",
-        _ => b"",
+    match function {
+        Function::Terminate => b" (Terminate Program)",
+        Function::EchoCharacter => b" (Read Keyboard with Echo)",
+        Function::WriteCharacter => b" (Display Character)",
+        Function::DirectCharacter => b" (Direct Console I/O)",
+        Function::DirectInput => b" (Direct Console Input)",
+        Function::ReadCharacter => b" (Read Keyboard Without Echo)",
+        Function::WriteText => b" (Display String)",
+        Function::ReadLine => b" (Buffered Keyboard Input)",
+        Function::CheckInput => b" (Check Keyboard Status)",
+        Function::FlushAndRead => b" (Flush Buffer, Read Keyboard)",
+        Function::SetVector => b" (Set Interrupt Vector)",
+        Function::Version => b" (Get Version Number)",
+        Function::Keep => b" (Keep Program)",
+        Function::GetVector => b" (Get Interrupt Vector)",
+        Function::ReadHandle => b" (Read File or Device)",
+        Function::WriteHandle => b" (Write File or Device)",
+        Function::Allocate => b" (Allocate Memory)",
+        Function::Free => b" (Free Allocated Memory)",
+        Function::Resize => b" (Set Memory Block Size)",
+        Function::LoadProgram => b" (Load Program)",
+        Function::Exit => b" (End Program)",
+        Function::ExitCode => b" (Get Child-Program Return Value)",
+        Function::Process => b" (Get Program Segment Prefix Address)",
+        Function::AllocationStrategy => b" (Allocation Strategy, Upper-Memory Link)",
+        Function::Unknown => b"",
     }
 }
 
@@ -123,7 +123,7 @@ pub fn put_call(out: &mut Vec<u8>, call: Call) -> Result<(), AllocError>
         Call::Terminate => out.extend_from_slice(b"INT 20h"),
         Call::Dos(number) => {
             out.extend_from_slice(b"INT 21h function ")?;
-            put_function(out, number, dos_name(number))
+            put_function(out, number, dos_name(function_of(number)))
         }
         Call::ExpandedMemory(number) => {
             out.extend_from_slice(b"INT 67h function ")?;

@@ -12,7 +12,7 @@ use Rattle.dm_space.specs.declared.entry_points.Service.{Service}
 use Rattle.dm_space.specs.declared.entry_points.Service.TheVariants as service
 use Rattle.dm_space.specs.declared.entry_points.Service.TheVariants.{DivideError, Dos}
 use Rattle.dm_services.specs.declared.functions.Function.{Function}
-use Rattle.dm_services.specs.declared.functions.Function.TheVariants.{EchoCharacter, WriteCharacter, DirectCharacter, ReadCharacter, WriteText, ReadLine, CheckInput, FlushAndRead, SetVector, Version, Keep, GetVector, ReadHandle, WriteHandle, Allocate, Free, Resize, LoadProgram, Exit, ExitCode, Process, AllocationStrategy, Terminate, Unknown}
+use Rattle.dm_services.specs.declared.functions.Function.TheVariants.{EchoCharacter, WriteCharacter, DirectCharacter, DirectInput, ReadCharacter, WriteText, ReadLine, CheckInput, FlushAndRead, SetVector, Version, Keep, GetVector, ReadHandle, WriteHandle, Allocate, Free, Resize, LoadProgram, Exit, ExitCode, Process, AllocationStrategy, Terminate, Unknown}
 use Rattle.dm_services.specs.state.State.{State, Answer, interrupt_returned}
 use Rattle.dm_services.specs.Text.{print}
 use Rattle.dm_services.specs.Characters.{character_of, read_character, echo_of, echo_character, write_character, poll_of, poll_character, direct_character, check_input}
@@ -229,6 +229,7 @@ calls-kept : (s : State) (g : Function) (x : Answer) → Calls s g x → Kept s 
 calls-kept s EchoCharacter x e = by s x _ e (echo_character-kept s)
 calls-kept s WriteCharacter x e = by s x _ e (write_character-kept s)
 calls-kept s DirectCharacter x e = by s x _ e (direct_character-kept s)
+calls-kept s DirectInput x e = by s x _ e (read_character-kept s)
 calls-kept s ReadCharacter x e = by s x _ e (read_character-kept s)
 calls-kept s WriteText x e = by s x _ e (print-kept s)
 calls-kept s ReadLine x e = by s x _ e (read_line-kept s)

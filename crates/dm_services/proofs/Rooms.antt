@@ -13,7 +13,7 @@ use Rattle.dm_space.specs.declared.entry_points.Service.{Service}
 use Rattle.dm_space.specs.declared.entry_points.Service.TheVariants as service
 use Rattle.dm_space.specs.declared.entry_points.Service.TheVariants.{DivideError, Dos}
 use Rattle.dm_services.specs.declared.functions.Function.{Function}
-use Rattle.dm_services.specs.declared.functions.Function.TheVariants.{EchoCharacter, WriteCharacter, DirectCharacter, ReadCharacter, WriteText, ReadLine, CheckInput, FlushAndRead, SetVector, Version, Keep, GetVector, ReadHandle, WriteHandle, Allocate, Free, Resize, LoadProgram, Exit, ExitCode, Process, AllocationStrategy, Terminate, Unknown}
+use Rattle.dm_services.specs.declared.functions.Function.TheVariants.{EchoCharacter, WriteCharacter, DirectCharacter, DirectInput, ReadCharacter, WriteText, ReadLine, CheckInput, FlushAndRead, SetVector, Version, Keep, GetVector, ReadHandle, WriteHandle, Allocate, Free, Resize, LoadProgram, Exit, ExitCode, Process, AllocationStrategy, Terminate, Unknown}
 use Rattle.dm_services.specs.state.State.{State, Answer}
 use Rattle.dm_services.specs.Text.{written, text_at, print}
 use Rattle.dm_services.specs.Characters.{character_of, read_character, echo_of, echo_character, write_character, poll_of, poll_character, direct_character, check_input}
@@ -207,6 +207,7 @@ calls-keep : (s : State) (g : Function) (x : Answer) → Calls s g x → Keeps s
 calls-keep s EchoCharacter x e = by s x _ e (echo_character-keeps s)
 calls-keep s WriteCharacter x e = by s x _ e (write_character-keeps s)
 calls-keep s DirectCharacter x e = by s x _ e (direct_character-keeps s)
+calls-keep s DirectInput x e = by s x _ e (read_character-keeps s)
 calls-keep s ReadCharacter x e = by s x _ e (read_character-keeps s)
 calls-keep s WriteText x e = by s x _ e (print-keeps s)
 calls-keep s ReadLine x e = by s x _ e (read_line-keeps s)

@@ -9,7 +9,7 @@ use Rattle.dm_space.specs.declared.entry_points.Service.{Service}
 use Rattle.dm_space.specs.declared.entry_points.Service.TheVariants as service
 use Rattle.dm_space.specs.declared.entry_points.Service.TheVariants.{DivideError, Dos}
 use Rattle.dm_services.specs.declared.functions.Function.{Function}
-use Rattle.dm_services.specs.declared.functions.Function.TheVariants.{EchoCharacter, WriteCharacter, DirectCharacter, ReadCharacter, WriteText, ReadLine, CheckInput, FlushAndRead, SetVector, Version, Keep, GetVector, ReadHandle, WriteHandle, Allocate, Free, Resize, LoadProgram, Exit, ExitCode, Process, AllocationStrategy, Terminate, Unknown}
+use Rattle.dm_services.specs.declared.functions.Function.TheVariants.{EchoCharacter, WriteCharacter, DirectCharacter, DirectInput, ReadCharacter, WriteText, ReadLine, CheckInput, FlushAndRead, SetVector, Version, Keep, GetVector, ReadHandle, WriteHandle, Allocate, Free, Resize, LoadProgram, Exit, ExitCode, Process, AllocationStrategy, Terminate, Unknown}
 use Rattle.dm_arena.specs.declared.fit.Strategy.{Strategy}
 use Rattle.dm_arena.specs.declared.refusal.ArenaRefusal.{ArenaRefusal}
 use Rattle.dm_arena.proofs.Unseen.{allocation-unseen, freeing-unseen, resizing-unseen, linking-unseen, telling-unseen}
@@ -158,6 +158,7 @@ calls-unseen : (f : Memory → Memory) (u : IsUnseen f) (s : State) (g : Functio
 calls-unseen f u s EchoCharacter x e = ap (answer_with f) e ∙ sym (echo_character-unseen f u s)
 calls-unseen f u s WriteCharacter x e = ap (answer_with f) e ∙ sym (write_character-unseen f u s)
 calls-unseen f u s DirectCharacter x e = ap (answer_with f) e ∙ sym (direct_character-unseen f u s)
+calls-unseen f u s DirectInput x e = ap (answer_with f) e ∙ sym (read_character-unseen f u s)
 calls-unseen f u s ReadCharacter x e = ap (answer_with f) e ∙ sym (read_character-unseen f u s)
 calls-unseen f u s WriteText x e = ap (answer_with f) e ∙ sym (print-unseen f u s)
 calls-unseen f u s ReadLine x e = ap (answer_with f) e ∙ sym (read_line-unseen f u s)

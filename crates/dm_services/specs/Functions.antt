@@ -4,7 +4,7 @@ use Rattle.std.specs.Prelude.{◌≡◌, ℕ, ◌==◌, if◌then◌else◌, tru
 use Rattle.dm_cpu.specs.Cpu.{byte_of}
 use Rattle.dm_ins.specs.declared.operand.ByteRegister.TheVariants.{Al}
 use Rattle.dm_services.specs.declared.functions.Function.{Function}
-use Rattle.dm_services.specs.declared.functions.Function.TheVariants.{EchoCharacter, WriteCharacter, DirectCharacter, ReadCharacter, WriteText, ReadLine, CheckInput, FlushAndRead, SetVector, Version, Keep, GetVector, ReadHandle, WriteHandle, Allocate, Free, Resize, LoadProgram, Exit, ExitCode, Process, AllocationStrategy, Terminate, Unknown}
+use Rattle.dm_services.specs.declared.functions.Function.TheVariants.{EchoCharacter, WriteCharacter, DirectCharacter, DirectInput, ReadCharacter, WriteText, ReadLine, CheckInput, FlushAndRead, SetVector, Version, Keep, GetVector, ReadHandle, WriteHandle, Allocate, Free, Resize, LoadProgram, Exit, ExitCode, Process, AllocationStrategy, Terminate, Unknown}
 use Rattle.dm_services.specs.state.State.{State, Answer, go, interrupt_returned, with_carry}
 use Rattle.dm_services.specs.Text.{print}
 use Rattle.dm_services.specs.Characters.{echo_character, write_character, direct_character, read_character, check_input}
@@ -25,7 +25,7 @@ function_of number =
     if number == 0x01 then EchoCharacter else
     if number == 0x02 then WriteCharacter else
     if number == 0x06 then DirectCharacter else
-    if number == 0x07 then ReadCharacter else
+    if number == 0x07 then DirectInput else
     if number == 0x08 then ReadCharacter else
     if number == 0x09 then WriteText else
     if number == 0x0A then ReadLine else
@@ -56,6 +56,7 @@ abbrev pub Calls : State → Function → Answer → Type 0
 Calls s EchoCharacter x = x ≡ echo_character s
 Calls s WriteCharacter x = x ≡ write_character s
 Calls s DirectCharacter x = x ≡ direct_character s
+Calls s DirectInput x = x ≡ read_character s
 Calls s ReadCharacter x = x ≡ read_character s
 Calls s WriteText x = x ≡ print s
 Calls s ReadLine x = x ≡ read_line s

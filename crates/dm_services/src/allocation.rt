@@ -3,9 +3,9 @@
 ghost use Rattle.std.specs.Prelude.{◌≡◌};
 ghost use Rattle.dm_services.specs.Allocation.{answered, refused, Allocation, Freeing, Resizing};
 
+use crate::state::Parts;
 use dm_arena::ArenaRefusal;
 use dm_cpu::Cpu;
-use crate::state::Parts;
 
 /// Puts the error code of a failed call of 48h, 49h, 4Ah or 58h into AX: 7, 8 or 9. For 8, not enough memory, BX
 /// becomes the largest size possible, in paragraphs; for 7 and 9, BX stays.

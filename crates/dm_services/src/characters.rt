@@ -5,8 +5,8 @@ ghost use Rattle.std.specs.Prelude.{◌≡◌, None};
 ghost use Rattle.dm_services.specs.inner.Wanting.{OrMemory};
 ghost use Rattle.dm_services.specs.Characters.{read_character, echo_character, write_character, poll_character, direct_character, check_input, input_status};
 
-use dm_ins::ByteRegister;
 use crate::state::{Parts, Stop};
+use dm_ins::ByteRegister;
 
 /// 07h and 08h: reads the next byte of the input into AL, without echo. Returns `InputEnded`, with nothing changed, if
 /// none is left.

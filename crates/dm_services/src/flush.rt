@@ -5,8 +5,8 @@ ghost use Rattle.dm_services.specs.Flush.{flush_and_read};
 
 use crate::characters::{direct_character, echo_character, read_character};
 use crate::lines::read_line;
-use dm_ins::ByteRegister;
 use crate::state::{Parts, Stop};
+use dm_ins::ByteRegister;
 
 /// 0Ch: performs the function in AL if it is 01h, 06h, 07h, 08h or 0Ah, which read the console, and stops where that
 /// function does; for any other AL, AL becomes 0 and the call returns. No input is dropped: a redirected stream has

@@ -14,12 +14,12 @@ use crate::flush::flush_and_read;
 use crate::handles::{read_handle, write_handle};
 use crate::lines::read_line;
 use crate::processes::{keep, load_program, tell_code, terminate};
+use crate::state::{Parts, Stop};
 use crate::strategies::allocation_strategy;
 use crate::system::{tell_process, tell_version};
 use crate::text::print;
 use crate::vectors::{get_vector, set_vector};
 use dm_ins::ByteRegister;
-use crate::state::{Parts, Stop};
 
 /// A function of INT 21h, which AH names.
 #[derive(Clone, Copy, Debug, PartialEq, Eq)]
@@ -32,7 +32,9 @@ pub enum Function {
     WriteCharacter,
     /// 06h: writes DL to the console, or, with DL = FFh, reads a byte into AL if there is one.
     DirectCharacter,
-    /// 07h and 08h: reads a byte of the input into AL.
+    /// 07h: reads a byte of the input into AL.
+    DirectInput,
+    /// 08h: reads a byte of the input into AL.
     ReadCharacter,
     /// 09h: writes the text at DS:DX, up to a `$`.
     WriteText,
@@ -76,7 +78,7 @@ pub enum Function {
 
 /// The function of INT 21h with this number, which calls have in AH; `Unknown` for a number that is not served.
 #[inline(always)]
-pub(crate) fn function_of(number: u8) -> Function
+pub fn function_of(number: u8) -> Function
     ensures { result ≡ Rattle.dm_services.specs.Functions.function_of number }
 {
     match number {
@@ -84,7 +86,8 @@ pub(crate) fn function_of(number: u8) -> Function
         0x01 => Function::EchoCharacter,
         0x02 => Function::WriteCharacter,
         0x06 => Function::DirectCharacter,
-        0x07 | 0x08 => Function::ReadCharacter,
+        0x07 => Function::DirectInput,
+        0x08 => Function::ReadCharacter,
         0x09 => Function::WriteText,
         0x0A => Function::ReadLine,
         0x0B => Function::CheckInput,
@@ -131,7 +134,7 @@ fn call(parts: &mut Parts, function: Function) -> Option<Stop>
         Function::EchoCharacter => return echo_character(parts),
         Function::WriteCharacter => return write_character(parts),
         Function::DirectCharacter => return direct_character(parts),
-        Function::ReadCharacter => return read_character(parts),
+        Function::DirectInput | Function::ReadCharacter => return read_character(parts),
         Function::WriteText => return print(parts),
         Function::ReadLine => return read_line(parts),
         Function::CheckInput => return check_input(parts),

@@ -2,7 +2,6 @@
 //! INT 21h (MS-DOS Programmer's Reference, "System Calls").
 #![tactic(auto)]
 
-pub mod state;
 mod allocation;
 mod at_once;
 mod buffers;
@@ -14,13 +13,14 @@ mod laws;
 mod lines;
 mod processes;
 mod services;
+pub mod state;
 mod strategies;
 mod system;
 mod text;
 mod vectors;
 
 pub use at_once::serve_at_once;
-pub use functions::Function;
+pub use functions::{Function, function_of};
 pub use laws::services_have_one_answer;
 pub use services::serve;
 pub use strategies::StrategyFunction;

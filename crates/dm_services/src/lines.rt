@@ -5,8 +5,8 @@ ghost use Rattle.std.specs.Prelude.{◌≡◌, ◌<◌, ◌≤◌, IfSome, lengt
 ghost use Rattle.dm_services.specs.inner.Wanting.{OrMemory};
 ghost use Rattle.dm_services.specs.Lines.{line_length, kept_bytes, read_line};
 
-use arrayvec::ArrayVec;
 use crate::state::{Parts, Stop};
+use arrayvec::ArrayVec;
 
 /// How many bytes of the input stand before the first 0Dh; None where there is no 0Dh.
 #[tactic(auto, unfolding(crate::specs::Lines::line_length))]

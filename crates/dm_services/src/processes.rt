@@ -7,9 +7,9 @@ ghost use Rattle.dm_services.specs.state.State.{HasProgram};
 ghost use Rattle.dm_services.specs.Processes.{concluded, not_loaded, Executing, Overlaying, Loading, Terminating, Keeping, tell_code};
 
 use crate::allocation::answer;
+use crate::state::{Parts, Stop};
 use dm_ins::ByteRegister;
 use dm_proc::{ArenaDestroyed, Ending, ExecRefusal};
-use crate::state::{Parts, Stop};
 
 /// The error code that function 4Bh returns in AX for a refusal.
 fn code_of(refusal: ExecRefusal) -> u16

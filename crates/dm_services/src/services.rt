@@ -5,8 +5,8 @@ ghost use Rattle.dm_services.specs.Wanting.{OrWants};
 
 use crate::functions::dos_call;
 use crate::processes::terminate;
-use dm_space::entry_points::Service;
 use crate::state::{Parts, Stop};
+use dm_space::entry_points::Service;
 
 /// Performs a service: for a divide error ends the present process with code FFh, for INT 20h with code 0; for INT 21h
 /// performs the function in AH. Returns None if the machine goes on, and `Exited` if the first program has ended, both

@@ -8,9 +8,9 @@ ghost use Rattle.dm_services.specs.Strategies;
 ghost use Rattle.dm_services.specs.Strategies.{Linking, SetsLink, StrategyCalls, TellsLink};
 
 use crate::allocation::{answer, refuse};
+use crate::state::Parts;
 use dm_arena::{Area, Fit, Strategy, link, linked};
 use dm_ins::ByteRegister;
-use crate::state::Parts;
 
 /// A subfunction of function 58h.
 #[derive(Clone, Copy, Debug, PartialEq, Eq)]

@@ -3,9 +3,9 @@ ghost use Rattle.std.specs.Prelude.{◌≡◌, ◌≤◌, ◌-◌, ◌++◌, len
 ghost use Rattle.dm_services.specs.Text.{print, text_at};
 ghost use Rattle.dm_services.specs.inner.Wanting.{OrMemory};
 
+use crate::state::{Parts, Stop};
 use dm_console::Console;
 use dm_space::Space;
-use crate::state::{Parts, Stop};
 
 /// How many bytes stand before the first `$` from segment:offset on; 65,536 where the segment has no `$`. Offsets wrap.
 pub(crate) fn text_length(space: &Space, segment: u16, offset: u16) -> usize

@@ -4,8 +4,8 @@ ghost use Rattle.std.specs.Prelude.{◌≡◌};
 ghost use Rattle.dm_services.specs.inner.Wanting.{OrMemory};
 ghost use Rattle.dm_services.specs.Vectors.{set_vector, get_vector};
 
-use dm_ins::ByteRegister;
 use crate::state::{Parts, Stop};
+use dm_ins::ByteRegister;
 
 /// 25h: sets the vector of interrupt AL, the two words at 0000:4*AL (offset, then segment), to DS:DX. AX stays.
 #[tactic(auto, unfolding(crate::specs::Vectors::set_vector))]

@@ -5,6 +5,9 @@ use Rattle.std.specs.Prelude.{ℕ, ◌+◌, ◌==◌, ◌&&◌, ◌||◌, not, B
 use Rattle.dm_ins.specs.declared.operand.ByteRegister.TheVariants.{Ah, Al, Bl}
 use Rattle.dm_cpu.specs.declared.cpu.Cpu.{Cpu}
 use Rattle.dm_cpu.specs.Cpu.{byte_of}
+use Rattle.dm_services.specs.declared.functions.Function.{Function}
+use Rattle.dm_services.specs.declared.functions.Function.TheVariants.{Allocate, Free, Resize, AllocationStrategy, Terminate as EndProgram, Exit, Keep, LoadProgram, Unknown}
+use Rattle.dm_services.specs.Functions.{function_of}
 use Rattle.dm_findings.specs.declared.calls.Call.{Call}
 use Rattle.dm_findings.specs.declared.calls.Call.TheVariants.{DivideError, Terminate, Dos, ExpandedMemory, Multiplex, ExtendedMemory, Interrupt}
 use Rattle.dm_findings.specs.declared.finding.Finding.{Finding}
@@ -12,25 +15,52 @@ use Rattle.dm_findings.specs.declared.finding.Finding.TheVariants.{Refused, NotA
 
 -- ---- calls that write headers
 
--- whether the function of INT 21h with this number is one of the arena: 48h, 49h, 4Ah or 58h
-abbrev pub is_arena : ℕ → Bool
-is_arena number = (number == 0x48) || (number == 0x49) || (number == 0x4A) || (number == 0x58)
+-- whether a function of INT 21h allocates a block, frees one, resizes one, or sets how blocks are chosen and the lists linked
+abbrev pub allocates : Function → Bool
+allocates Allocate = true
+allocates _ = false
 
--- whether the function of INT 21h with this number ends a process: 00h, 31h or 4Ch
-abbrev pub is_ending : ℕ → Bool
-is_ending number = (number == 0x00) || (number == 0x31) || (number == 0x4C)
+abbrev pub frees : Function → Bool
+frees Free = true
+frees _ = false
 
--- whether the call of INT 21h with this number and these registers may start a process: 4Bh, but not with AL = 3, which
--- loads an overlay (any other AL but 0 is an error)
-abbrev pub is_starting : Cpu → ℕ → Bool
-is_starting c number = (number == 0x4B) && not (byte_of c Al == 3)
+abbrev pub resizes : Function → Bool
+resizes Resize = true
+resizes _ = false
+
+abbrev pub arranges_lists : Function → Bool
+arranges_lists AllocationStrategy = true
+arranges_lists _ = false
+
+-- whether a function of INT 21h is one of the arena
+abbrev pub is_arena : Function → Bool
+is_arena f = allocates f || frees f || resizes f || arranges_lists f
+
+-- whether a function of INT 21h ends a process; whether the process stays resident then
+abbrev pub ends : Function → Bool
+ends EndProgram = true
+ends Exit = true
+ends _ = false
+
+abbrev pub keeps : Function → Bool
+keeps Keep = true
+keeps _ = false
+
+abbrev pub is_ending : Function → Bool
+is_ending f = ends f || keeps f
+
+-- whether a call of a function of INT 21h with these registers may start a process: 4Bh, but not with AL = 3, which loads
+-- an overlay (any other AL but 0 is an error)
+abbrev pub is_starting : Cpu → Function → Bool
+is_starting c LoadProgram = not (byte_of c Al == 3)
+is_starting c _ = false
 
 -- whether a call is one that may write headers: a call of the arena, or a start or an end of a process
 abbrev pub arranges : Cpu → Option Call → Bool
 arranges c None = false
 arranges c (Some DivideError) = true
 arranges c (Some Terminate) = true
-arranges c (Some (Dos number)) = is_arena number || is_ending number || is_starting c number
+arranges c (Some (Dos number)) = is_arena (function_of number) || is_ending (function_of number) || is_starting c (function_of number)
 arranges c (Some (ExpandedMemory number)) = false
 arranges c (Some Multiplex) = false
 arranges c (Some (ExtendedMemory number)) = false
@@ -40,7 +70,7 @@ arranges c (Some (Interrupt number)) = false
 abbrev pub stays : Call → Bool
 stays DivideError = false
 stays Terminate = false
-stays (Dos number) = number == 0x31
+stays (Dos number) = keeps (function_of number)
 stays (ExpandedMemory number) = false
 stays Multiplex = false
 stays (ExtendedMemory number) = false
@@ -55,8 +85,8 @@ refusal stray code = if stray then NotAllocated code else Refused code
 
 -- whether the code of a failed function of INT 21h says that ES is no block's segment, for a block to be freed (49h) or
 -- resized (4Ah)
-abbrev pub is_stray_block : ℕ → ℕ → Bool
-is_stray_block number code = ((number == 0x49) || (number == 0x4A)) && (code == 0x09)
+abbrev pub is_stray_block : Function → ℕ → Bool
+is_stray_block f code = (frees f || resizes f) && (code == 0x09)
 
 -- whether the status of a failed function of INT 67h says that the handle whose pages are to be freed (45h) is not in
 -- use
@@ -70,11 +100,11 @@ is_stray_extended number code = ((number == 0x0A) && (code == 0xA2)) || ((number
 
 -- the finding that a call of INT 21h failed; none if CF is clear in d. AX in d is the error code, below 256. For code 8
 -- of 48h and 4Ah, BX in c is how many paragraphs were asked for, and BX in d how many are available
-abbrev pub refused_by_dos : Cpu → Cpu → ℕ → List Finding
-refused_by_dos c d number =
+abbrev pub refused_by_dos : Cpu → Cpu → Function → List Finding
+refused_by_dos c d f =
     if not d.flags.carry then [] else
-    if (byte_of d Al == 8) && ((number == 0x48) || (number == 0x4A)) then Short c.bx d.bx ∷ []
-    else refusal (is_stray_block number (byte_of d Al)) (byte_of d Al) ∷ []
+    if (byte_of d Al == 8) && (allocates f || resizes f) then Short c.bx d.bx ∷ []
+    else refusal (is_stray_block f (byte_of d Al)) (byte_of d Al) ∷ []
 
 -- the finding that a call of INT 67h failed with this status; none for 00h, success, and for 92h, which says that a
 -- move was done and its regions overlap
@@ -86,25 +116,12 @@ refused_by_status number status = if (status == 0) || (status == 0x92) then [] e
 abbrev pub refused_by_error : ℕ → Cpu → List Finding
 refused_by_error number d = if (d.ax == 0) && not (byte_of d Bl == 0) then refusal (is_stray_extended number (byte_of d Bl)) (byte_of d Bl) ∷ [] else []
 
--- whether the function of INT 21h with this number reads or writes the console
-abbrev pub is_console : ℕ → Bool
-is_console number =
-    (number == 0x01) || (number == 0x02) || (number == 0x06) || (number == 0x07) || (number == 0x08) || (number == 0x09)
-    || (number == 0x0A) || (number == 0x0B) || (number == 0x0C) || (number == 0x3F) || (number == 0x40)
-
--- whether the function of INT 21h with this number sets or returns a vector, or returns the version, the exit code of a
--- child or the present process
-abbrev pub is_system : ℕ → Bool
-is_system number = (number == 0x25) || (number == 0x30) || (number == 0x35) || (number == 0x4D) || (number == 0x51) || (number == 0x62)
-
--- whether INT 21h serves the function with this number; a call of any other fails with code 01h
-abbrev pub is_served : ℕ → Bool
-is_served number = is_console number || is_system number || is_arena number || is_ending number || (number == 0x4B)
-
--- whether a call of the function of INT 21h with this number is looked at for failure: 48h, 49h, 4Ah, 4Bh and 58h, and
--- each that is not served. (Carry from a function of the console is left to the program)
-abbrev pub may_be_refused : ℕ → Bool
-may_be_refused number = is_arena number || (number == 0x4B) || not (is_served number)
+-- whether a call of a function of INT 21h is looked at for failure: 48h, 49h, 4Ah, 4Bh and 58h, and each that is not
+-- served. (Carry from a function of the console is left to the program)
+abbrev pub may_be_refused : Function → Bool
+may_be_refused LoadProgram = true
+may_be_refused Unknown = true
+may_be_refused f = is_arena f
 
 -- what is found of a call, by the registers before (c) and after it (d): that it failed, that it is interrupt 0, by which
 -- a division error ends the process, or an interrupt that is not served; none otherwise
@@ -112,7 +129,7 @@ abbrev pub call_findings : Cpu → Cpu → Option Call → List Finding
 call_findings c d None = []
 call_findings c d (Some DivideError) = DivisionError ∷ []
 call_findings c d (Some Terminate) = []
-call_findings c d (Some (Dos number)) = if may_be_refused number then refused_by_dos c d number else []
+call_findings c d (Some (Dos number)) = if may_be_refused (function_of number) then refused_by_dos c d (function_of number) else []
 call_findings c d (Some (ExpandedMemory number)) = refused_by_status number (byte_of d Ah)
 call_findings c d (Some Multiplex) = []
 call_findings c d (Some (ExtendedMemory number)) = refused_by_error number d

@@ -1,35 +1,100 @@
-//! Which calls may change the arena, and the findings about calls: calls that failed, and division errors (MS-DOS Programmer's Reference, "System Calls"; LIM EMS 4.0, section 3; XMS 3.0). Each function `put_..`
-//! appends its findings to `out`; an `Err` is a failed allocation.
+//! Which calls may change the arena, and the findings about calls: calls that failed, and division errors (MS-DOS
+//! Programmer's Reference, "System Calls"; LIM EMS 4.0, section 3; XMS 3.0). Each function `put_..` appends
+//! its findings to `out`; an `Err` is a failed allocation.
 
 ghost use Rattle.std.specs.Prelude.{◌≡◌, ◌++◌, OnOk};
-ghost use Rattle.dm_findings.specs.outcomes.Calls.{is_arena, is_ending, is_starting, arranges, stays, refusal, refused_by_dos, refused_by_status, refused_by_error, is_console, is_system, is_served, call_findings};
+ghost use Rattle.dm_findings.specs.outcomes.Calls.{allocates, frees, resizes, arranges_lists, is_arena, ends, keeps, is_ending, is_starting, arranges, stays, refusal, refused_by_dos, refused_by_status, refused_by_error, may_be_refused, call_findings};
 
 use crate::outcomes::appending::put;
-use dm_cpu::Cpu;
 use crate::{Call, Finding};
+use dm_cpu::Cpu;
 use dm_ins::ByteRegister;
+use dm_services::{Function, function_of};
 use std::alloc::AllocError;
 
-/// Whether INT 21h has a function of the arena with this number: 48h, 49h, 4Ah or 58h.
-fn is_arena(number: u8) -> bool
-    ensures { result ≡ is_arena number }
+/// Whether a function of INT 21h allocates a block.
+fn allocates(function: Function) -> bool
+    ensures { result ≡ allocates function }
 {
-    number == 0x48 || number == 0x49 || number == 0x4A || number == 0x58
+    match function {
+        Function::Allocate => true,
+        _ => false,
+    }
 }
 
-/// Whether INT 21h has a function with this number that ends a process: 00h, 31h or 4Ch.
-pub(crate) fn is_ending(number: u8) -> bool
-    ensures { result ≡ is_ending number }
+/// Whether a function of INT 21h frees a block.
+pub fn frees(function: Function) -> bool
+    ensures { result ≡ frees function }
 {
-    number == 0x00 || number == 0x31 || number == 0x4C
+    match function {
+        Function::Free => true,
+        _ => false,
+    }
 }
 
-/// Whether the call of INT 21h with this number and these registers may start a process: 4Bh, but not with AL = 3.
-/// (With any other AL but 0 it fails.)
-pub(crate) fn is_starting(cpu: &Cpu, number: u8) -> bool
-    ensures { result ≡ is_starting cpu.now number }
+/// Whether a function of INT 21h resizes a block.
+pub fn resizes(function: Function) -> bool
+    ensures { result ≡ resizes function }
 {
-    number == 0x4B && cpu.byte(ByteRegister::Al) != 3
+    match function {
+        Function::Resize => true,
+        _ => false,
+    }
+}
+
+/// Whether a function of INT 21h sets how blocks are chosen, or links the lists.
+fn arranges_lists(function: Function) -> bool
+    ensures { result ≡ arranges_lists function }
+{
+    match function {
+        Function::AllocationStrategy => true,
+        _ => false,
+    }
+}
+
+/// Whether a function of INT 21h is one of the arena.
+fn is_arena(function: Function) -> bool
+    ensures { result ≡ is_arena function }
+{
+    allocates(function) || frees(function) || resizes(function) || arranges_lists(function)
+}
+
+/// Whether a function of INT 21h ends a process, which does not stay.
+fn ends(function: Function) -> bool
+    ensures { result ≡ ends function }
+{
+    match function {
+        Function::Terminate | Function::Exit => true,
+        _ => false,
+    }
+}
+
+/// Whether a function of INT 21h ends a process, which stays resident.
+pub fn keeps(function: Function) -> bool
+    ensures { result ≡ keeps function }
+{
+    match function {
+        Function::Keep => true,
+        _ => false,
+    }
+}
+
+/// Whether a function of INT 21h ends a process.
+pub(crate) fn is_ending(function: Function) -> bool
+    ensures { result ≡ is_ending function }
+{
+    ends(function) || keeps(function)
+}
+
+/// Whether a call of a function of INT 21h with these registers may start a process: 4Bh, but not with AL = 3. (With
+/// any other AL but 0 it fails.)
+pub(crate) fn is_starting(cpu: &Cpu, function: Function) -> bool
+    ensures { result ≡ is_starting cpu.now function }
+{
+    match function {
+        Function::LoadProgram => cpu.byte(ByteRegister::Al) != 3,
+        _ => false,
+    }
 }
 
 /// Whether a call is one that may write headers: a call of the arena, or a start or an end of a process.
@@ -38,9 +103,10 @@ pub fn arranges(cpu: &Cpu, call: Option<Call>) -> bool
 {
     match call {
         Some(Call::DivideError) | Some(Call::Terminate) => true,
-        Some(Call::Dos(number)) => is_arena(number)
-            || is_ending(number)
-            || is_starting(cpu, number),
+        Some(Call::Dos(number)) => {
+            let function = function_of(number);
+            is_arena(function) || is_ending(function) || is_starting(cpu, function)
+        }
         _ => false,
     }
 }
@@ -50,7 +116,7 @@ pub fn stays(call: Call) -> bool
     ensures { result ≡ stays call }
 {
     match call {
-        Call::Dos(number) => number == 0x31,
+        Call::Dos(number) => keeps(function_of(number)),
         _ => false,
     }
 }
@@ -74,18 +140,18 @@ fn put_refused_by_dos(
     out: &mut Vec<Finding>,
     before: &Cpu,
     after: &Cpu,
-    number: u8,
+    function: Function,
 ) -> Result<(), AllocError>
-    ensures { OnOk result (out.new.items ≡ out.old.items ++ refused_by_dos before.now after.now number) }
+    ensures { OnOk result (out.new.items ≡ out.old.items ++ refused_by_dos before.now after.now function) }
 {
     if !after.flags.carry {
         return Ok(());
     }
     let code = after.byte(ByteRegister::Al);
-    if code == 8 && (number == 0x48 || number == 0x4A) {
+    if code == 8 && (allocates(function) || resizes(function)) {
         return put(out, Finding::Short(before.bx, after.bx));
     }
-    let stray = (number == 0x49 || number == 0x4A) && code == 0x09;
+    let stray = (frees(function) || resizes(function)) && code == 0x09;
     put(out, refusal(stray, code))
 }
 
@@ -113,45 +179,14 @@ fn put_refused_by_error(out: &mut Vec<Finding>, number: u8, after: &Cpu) -> Resu
     Ok(())
 }
 
-/// Whether the function of INT 21h with this number reads or writes the console.
-fn is_console(number: u8) -> bool
-    ensures { result ≡ is_console number }
+/// Whether a call of a function of INT 21h is looked at for failure.
+fn may_be_refused(function: Function) -> bool
+    ensures { result ≡ may_be_refused function }
 {
-    number == 0x01
-        || number == 0x02
-        || number == 0x06
-        || number == 0x07
-        || number == 0x08
-        || number == 0x09
-        || number == 0x0A
-        || number == 0x0B
-        || number == 0x0C
-        || number == 0x3F
-        || number == 0x40
-}
-
-/// Whether the function of INT 21h with this number sets or returns a vector, or returns the version, the exit code of
-/// a child or the present process.
-fn is_system(number: u8) -> bool
-    ensures { result ≡ is_system number }
-{
-    number == 0x25
-        || number == 0x30
-        || number == 0x35
-        || number == 0x4D
-        || number == 0x51
-        || number == 0x62
-}
-
-/// Whether INT 21h serves the function with this number.
-fn is_served(number: u8) -> bool
-    ensures { result ≡ is_served number }
-{
-    is_console(number)
-        || is_system(number)
-        || is_arena(number)
-        || is_ending(number)
-        || number == 0x4B
+    match function {
+        Function::LoadProgram | Function::Unknown => true,
+        _ => is_arena(function),
+    }
 }
 
 /// Appends what is found of a call, by the registers before and after it: that it failed, that it is interrupt 0, by
@@ -168,8 +203,9 @@ pub fn put_of_call(
     match call {
         Some(Call::DivideError) => put(out, Finding::DivisionError),
         Some(Call::Dos(number)) => {
-            if is_arena(number) || number == 0x4B || !is_served(number) {
-                put_refused_by_dos(out, before, after, number)
+            let function = function_of(number);
+            if may_be_refused(function) {
+                put_refused_by_dos(out, before, after, function)
             } else {
                 Ok(())
             }

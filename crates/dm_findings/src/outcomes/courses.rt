@@ -4,16 +4,17 @@
 ghost use Rattle.std.specs.Prelude.{◌≡◌};
 ghost use Rattle.dm_findings.specs.outcomes.Courses.{ends_process, has_started};
 
+use crate::Call;
 use crate::outcomes::calls::{is_ending, is_starting};
 use dm_cpu::Cpu;
-use crate::Call;
+use dm_services::function_of;
 
 /// Whether a call started a process, by the registers before and after it.
 pub fn has_started(before: &Cpu, after: &Cpu, call: Option<Call>) -> bool
     ensures { result ≡ has_started before.now after.now call }
 {
     match call {
-        Some(Call::Dos(number)) => is_starting(before, number) && !after.flags.carry,
+        Some(Call::Dos(number)) => is_starting(before, function_of(number)) && !after.flags.carry,
         _ => false,
     }
 }
@@ -25,7 +26,7 @@ pub fn ends_process(call: Option<Call>) -> bool
     match call {
         Some(Call::DivideError) => true,
         Some(Call::Terminate) => true,
-        Some(Call::Dos(number)) => is_ending(number),
+        Some(Call::Dos(number)) => is_ending(function_of(number)),
         _ => false,
     }
 }

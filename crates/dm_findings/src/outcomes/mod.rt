@@ -6,5 +6,5 @@ mod calls;
 mod courses;
 
 pub use appending::put;
-pub use calls::{arranges, put_of_call, stays};
+pub use calls::{arranges, frees, keeps, put_of_call, resizes, stays};
 pub use courses::{ends_process, has_started};

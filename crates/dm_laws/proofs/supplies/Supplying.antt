@@ -143,6 +143,7 @@ module _ (bytes : List ℕ) (more : Bool) where
   calls s function.EchoCharacter x e a goes = ap A e ∙ echoes bytes more s (goes_by x _ e goes)
   calls s function.WriteCharacter x e a goes = ap A e ∙ writes bytes more s
   calls s function.DirectCharacter x e a goes = ap A e ∙ acts_directly bytes more s a
+  calls s function.DirectInput x e a goes = ap A e ∙ reads bytes more s (goes_by x _ e goes)
   calls s function.ReadCharacter x e a goes = ap A e ∙ reads bytes more s (goes_by x _ e goes)
   calls s function.WriteText x e a goes = ap A e
   calls s function.ReadLine x e a goes = ap A e ∙ reads_line bytes more s (goes_by x _ e goes)

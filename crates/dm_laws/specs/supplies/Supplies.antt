@@ -39,6 +39,7 @@ abbrev pub asks_by : State → Function → Bool
 asks_by s function.EchoCharacter = false
 asks_by s function.WriteCharacter = false
 asks_by s function.DirectCharacter = polls_in_vain s
+asks_by s function.DirectInput = false
 asks_by s function.ReadCharacter = false
 asks_by s function.WriteText = false
 asks_by s function.ReadLine = false
