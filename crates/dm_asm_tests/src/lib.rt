@@ -3,9 +3,9 @@
 //! They are apart from the crates that they test, because a crate with tests is proved twice.
 #![tactic(auto)]
 
+mod checks;
 #[cfg(test)]
 pub mod lines;
-mod checks;
 #[cfg(test)]
 mod listings;
 #[cfg(test)]

@@ -7,9 +7,9 @@ ghost use Rattle.dm_cli.specs.inner.Statuses.{end_of};
 use crate::fault::Fault;
 use crate::files::{Storage, read_file, write_fault};
 use dm_asm::{assemble, disassemble};
+use dm_console::writers::write_all;
 use dm_machine::Out;
 use dm_options::command_line::AsmOptions;
-use dm_console::writers::write_all;
 use std::alloc::Global;
 
 /// The largest number of bytes of a program that `dm disasm` lists.

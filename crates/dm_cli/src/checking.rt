@@ -17,12 +17,12 @@ use crate::files::Storage;
 use crate::loading::loaded;
 use crate::messages::{print_fault, print_now};
 use dm_checker::CheckedRun;
+use dm_console::writers::write_all;
 use dm_findings::Report;
+use dm_findings::processes::Process;
 use dm_json::{Form, form_of, put_end_in, put_lines_in, put_processes_in, put_summary_in};
 use dm_machine::{Machine, Out, Stop};
 use dm_options::command_line::CheckOptions;
-use dm_console::writers::write_all;
-use dm_findings::processes::Process;
 use std::alloc::{AllocError, Global};
 use std::io::Read;
 

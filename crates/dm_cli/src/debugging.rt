@@ -12,10 +12,10 @@ ghost use Rattle.dm_cli.specs.Faults.{IsReadFault, IsWriteFault};
 use crate::fault::Fault;
 use crate::files::{MOST_BYTES, Storage, read_fault};
 use crate::loading::loaded_for_debug;
+use dm_console::writers::write_all;
 use dm_debug::{CommandRefusal, Session};
 use dm_machine::Out;
 use dm_options::command_line::DebugOptions;
-use dm_console::writers::write_all;
 use std::alloc::Global;
 use std::io::{BufRead, BufReader, Read};
 

@@ -14,7 +14,7 @@ mod output;
 mod serving;
 
 pub use commands::{dm_main, refuse_words};
-pub use dm_options::{command_line, options};
 pub use dm_console::writers::Sink;
+pub use dm_options::{command_line, options};
 pub use files::{Storage, System};
 pub use output::{WriteFault, run_program};

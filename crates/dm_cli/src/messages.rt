@@ -6,8 +6,8 @@ ghost use Rattle.dm_cli.specs.Faults.{fault_line};
 ghost use Rattle.dm_cli.specs.Messages.{Prints, HasPrinted, Stream, stop_text};
 
 use crate::fault::Fault;
-use dm_machine::{Out, Stop};
 use dm_console::writers::{Failed, write_all};
+use dm_machine::{Out, Stop};
 use itoa::Buffer;
 use std::io;
 use std::io::{ErrorKind, Write};

@@ -6,8 +6,8 @@ ghost use Rattle.dm_machine.specs.Run.{IsRun};
 ghost use Rattle.dm_services.specs.state.State.{HasProgram};
 ghost use Rattle.dm_services.specs.declared.state.stop.Stop.{Stop};
 
-use dm_machine::{Machine, Out, Stop};
 use dm_console::writers::write_all;
+use dm_machine::{Machine, Out, Stop};
 use thiserror::Error;
 
 /// The output was not written whole, because a write failed or took no byte.

@@ -12,10 +12,10 @@ ghost use Rattle.dm_cli.specs.inner.Statuses.{end_of};
 use crate::fault::Fault;
 use crate::files::{Storage, read_fault};
 use crate::loading::loaded_for_debug;
+use dm_console::writers::write_all;
 use dm_gdb::Connection;
 use dm_machine::Out;
 use dm_options::command_line::DebugOptions;
-use dm_console::writers::write_all;
 use std::alloc::Global;
 use std::io::{BufReader, Read};
 

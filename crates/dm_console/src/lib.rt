@@ -2,7 +2,7 @@
 //! advance. INT 21h reads and writes it, by functions 01h, 02h, 06h to 0Ch, 3Fh and 40h.
 #![tactic(auto)]
 
-pub mod writers;
 mod console;
+pub mod writers;
 
 pub use console::Console;

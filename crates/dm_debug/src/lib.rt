@@ -2,7 +2,6 @@
 //! for.
 #![tactic(auto)]
 
-pub mod stops;
 mod input;
 mod laws;
 mod listings;
@@ -10,6 +9,7 @@ mod points;
 mod refusal;
 mod runs;
 mod session;
+pub mod stops;
 
 pub use laws::runs_have_one_answer;
 pub use points::Points;

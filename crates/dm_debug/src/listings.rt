@@ -9,8 +9,8 @@ ghost use Rattle.dm_views.specs.Extended.{extended_text};
 ghost use Rattle.dm_views.specs.Pages.{pages_text};
 ghost use Rattle.dm_views.specs.Registers.{IsRegistersText};
 
-use dm_requests::commands::LogicalAddress;
 use dm_machine::Machine;
+use dm_requests::commands::LogicalAddress;
 use dm_views::{put_arena, put_bytes, put_code, put_extended, put_pages, put_registers};
 use std::alloc::AllocError;
 

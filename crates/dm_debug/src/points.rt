@@ -4,8 +4,8 @@ ghost use Rattle.std.specs.Prelude.{◌≡◌, ◌<◌, ◌++◌, ◌∷◌, [],
 ghost use Rattle.dm_debug.specs.Points.{is_point, point_at, is_set, is_seventeenth, with_point, without_point, points_text, AreDistinct};
 
 use arrayvec::ArrayVec;
-use dm_requests::commands::LogicalAddress;
 use dm_machine::Breakpoint;
+use dm_requests::commands::LogicalAddress;
 use dm_views::put_address;
 use std::alloc::AllocError;
 use std::marker::Model;

@@ -15,9 +15,9 @@ use crate::listings::{arena, dump, extended, output, pages, put_machine, unassem
 use crate::points::{Points, put_points};
 use crate::refusal::CommandRefusal;
 use crate::runs::{enter, go, trace};
-use dm_requests::commands::{Bytes, Command, LogicalAddress, read_command};
-use dm_machine::{Breakpoint, Cpu, Machine, Out, Stop};
 use dm_console::writers::write_all;
+use dm_machine::{Breakpoint, Cpu, Machine, Out, Stop};
+use dm_requests::commands::{Bytes, Command, LogicalAddress, read_command};
 use std::alloc::{AllocError, Global};
 use std::marker::Model;
 

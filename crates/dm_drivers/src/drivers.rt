@@ -3,11 +3,11 @@ ghost use Rattle.std.specs.Prelude.{◌≡◌};
 ghost use Rattle.dm_services.specs.state.State.{AreConsistent};
 ghost use Rattle.dm_drivers.specs.Drivers.{driven, acted, given_back};
 
-use crate::multiplex::multiplex_call;
 use crate::expanded::expanded_memory_call;
-use dm_space::entry_points::Driver;
-use dm_services::state::Parts;
 use crate::extended::extended_memory_call;
+use crate::multiplex::multiplex_call;
+use dm_services::state::Parts;
+use dm_space::entry_points::Driver;
 
 /// Performs the call of the driver, before the return to the program: INT 67h changes registers, memory and the tables
 /// of expanded memory, the extended memory driver registers, memory and its own tables, INT 2Fh registers alone. The

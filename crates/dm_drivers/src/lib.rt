@@ -2,10 +2,10 @@
 //! the entry point of the extended memory driver, and a far call of F000:0400 is that driver (XMS 3.0).
 #![tactic(auto)]
 
-pub mod extended;
-pub mod expanded;
 mod at_once;
 mod drivers;
+pub mod expanded;
+pub mod extended;
 mod laws;
 mod multiplex;
 

@@ -4,8 +4,8 @@
 ghost use Rattle.std.specs.Prelude.{◌≡◌, ◌<◌, ◌^◌};
 ghost use Rattle.dm_ems_move.specs.RegionMoves.{length_at, described};
 
-use dm_space::moves::{byte_after, word_after};
 use dm_space::Space;
+use dm_space::moves::{byte_after, word_after};
 
 /// The offset of the source's description in the structure.
 pub(crate) const SOURCE: usize = 4;

@@ -8,9 +8,9 @@ ghost use Rattle.dm_ems.specs.Calls.{answer, left};
 ghost use Rattle.dm_ems_move.specs.Many.{map_many, window_of, paired, after_pairs};
 
 use dm_ems::{Ems, Status, set_windows};
-use dm_space::moves::word_after;
 use dm_pool::Block;
 use dm_space::Space;
+use dm_space::moves::word_after;
 
 /// The logical page number that unmaps a window.
 const NO_PAGE: u16 = 0xFFFF;

@@ -12,9 +12,9 @@ ghost use Rattle.dm_ems_move.specs.inner.Maps.{numbers, map_entry};
 
 use arrayvec::ArrayVec;
 use dm_ems::{Ems, Page, Status, set_windows};
-use dm_space::moves::word_after;
 use dm_pool::Block;
 use dm_space::Space;
+use dm_space::moves::word_after;
 
 /// The size of a map in bytes.
 const SIZE: u8 = 16;

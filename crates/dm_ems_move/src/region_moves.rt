@@ -12,9 +12,9 @@ ghost use Rattle.dm_ems_move.specs.RegionMoves.{length_at, conventional, expande
 use crate::description::{DESTINATION, Description, SOURCE, described, length_at};
 use arrayvec::ArrayVec;
 use dm_ems::{Ems, Status};
-use dm_space::moves::{Span, SpanKind, exchange_bytes, move_bytes, overlap};
 use dm_pool::Block;
 use dm_space::Space;
+use dm_space::moves::{Span, SpanKind, exchange_bytes, move_bytes, overlap};
 
 /// The largest number of bytes that a call moves or exchanges: 1 MiB.
 const MOST: usize = 0x10_0000;

@@ -13,8 +13,8 @@ use crate::server::Server;
 use dm_checker::CheckedRun;
 use dm_findings::{Listed, Report};
 use dm_machine::{Machine, Stop};
-use dm_requests::packets::Payload;
 use dm_reports::{put_lines, put_unlisted, reason_of};
+use dm_requests::packets::Payload;
 use std::alloc::{AllocError, Global};
 
 /// The most steps that one command makes.

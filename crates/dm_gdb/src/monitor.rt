@@ -12,9 +12,9 @@ use crate::checking::is_check;
 use crate::replies::Reply;
 use crate::server::Server;
 use crate::texts::Text;
-use dm_requests::commands::{Command, read_command, read_number};
 use dm_debug::Session;
 use dm_machine::Stop;
+use dm_requests::commands::{Command, read_command, read_number};
 use dm_requests::packets::Payload;
 use std::alloc::{AllocError, Global};
 

@@ -9,8 +9,8 @@ use crate::host::Host;
 use crate::kept::Kept;
 use crate::refusal::Refusal;
 use dm_findings::Found;
-use dm_views::inventory::{FoundRecord, list_findings};
 use dm_reports::put_found;
+use dm_views::inventory::{FoundRecord, list_findings};
 use std::alloc::{AllocError, Global};
 
 /// The line of a finding, as `dm check` prints it. `AllocError` if an allocation fails.

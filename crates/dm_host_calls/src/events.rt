@@ -4,8 +4,8 @@ ghost use Rattle.std.specs.List.{list_all};
 ghost use Rattle.dm_host_calls.specs.Events.{is_known, event_of, ended_of, place_in};
 
 use crate::values::{Stopped, stopped_of};
-use dm_machine::Breakpoint;
 use dm_debug::stops::{Ending, Event, Range};
+use dm_machine::Breakpoint;
 use std::alloc::{AllocError, Global};
 
 /// The status if the kind of an event is none.

@@ -6,11 +6,11 @@ ghost use Rattle.dm_json.specs.Forms.{end_in, form_of, found_in, lines_in, proce
 use crate::objects::{put_end_object, put_found_object, put_summary_objects};
 use crate::processes::put_process_objects;
 use dm_cpu::Cpu;
-use dm_findings::{Found, Listed, Report};
 use dm_findings::processes::Process;
+use dm_findings::{Found, Listed, Report};
 use dm_reports::{put_found, put_processes, put_stop, put_summary};
-use dm_space::Space;
 use dm_services::state::Stop;
+use dm_space::Space;
 use std::alloc::{AllocError, Global};
 
 /// How a report is written.

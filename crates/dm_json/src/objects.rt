@@ -17,8 +17,8 @@ use dm_findings::{
 };
 use dm_ins::Ins;
 use dm_reports::{kind_of, put_instruction, put_number, put_told, reason_of};
-use dm_space::Space;
 use dm_services::state::Stop;
+use dm_space::Space;
 use std::alloc::{AllocError, Global};
 
 /// What a program has allocated at its end, in words with `_` between.

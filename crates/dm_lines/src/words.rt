@@ -10,8 +10,8 @@ ghost use Rattle.dm_lines.specs.inner.Words.{begins};
 
 use crate::token::Token;
 use dm_ins::{ByteRegister, Mnemonic, Repeat, SegmentRegister, WordRegister};
-use dm_text::{byte_register_name, mnemonic_name, segment_register_name, word_register_name};
 use dm_text::words::Size;
+use dm_text::{byte_register_name, mnemonic_name, segment_register_name, word_register_name};
 
 /// Another name of a mnemonic, as JC for JB.
 #[derive(Clone, Copy, Debug, PartialEq, Eq)]

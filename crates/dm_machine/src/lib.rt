@@ -13,12 +13,12 @@ mod steps;
 mod unmarked;
 mod until;
 
-pub use dm_cpu::{Cpu, Flags};
 pub use dm_console::writers::{Failed, Out};
+pub use dm_cpu::{Cpu, Flags};
 pub use dm_pool::Sizes;
 pub use dm_proc::{AddError, Programs};
-pub use dm_space::Space;
 pub use dm_services::state::{Config, Stop};
+pub use dm_space::Space;
 pub use laws::{
     a_step_has_one_answer, room_is_enough, tables_and_memory_are_consistent, there_is_one_run,
     there_is_one_run_until, unseen_bytes_change_nothing,

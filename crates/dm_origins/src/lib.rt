@@ -2,10 +2,10 @@
 //! memory blocks, the high memory area, A20, and memory of the arena; and which processes ran.
 #![tactic(auto)]
 
-pub mod leaks;
 mod chunks;
 mod freed;
 mod handles;
+pub mod leaks;
 mod origins;
 mod uppers;
 

@@ -1,7 +1,7 @@
 //! The breakpoints of a session, no two of which are at one address.
 use crate::checks::same;
-use dm_requests::commands::LogicalAddress;
 use dm_debug::Points;
+use dm_requests::commands::LogicalAddress;
 use std::test::Fail;
 
 /// Sets a breakpoint where there is room for it.

@@ -3,8 +3,8 @@
 use crate::checks::same_of;
 use crate::files::Slow;
 use crate::machines::loaded_as;
-use dm_debug::{CommandRefusal, Session};
 use dm_console::writers::Sink;
+use dm_debug::{CommandRefusal, Session};
 use std::alloc::Global;
 use std::process::Abort;
 use std::test::Fail;

@@ -7,8 +7,8 @@ use crate::telling::{tell, tell_refused};
 use crate::whole::Whole;
 use anyhow::Result;
 use dm_cli::run_program;
-use dm_machine::{Machine, NewError, Stop};
 use dm_console::writers::Sink;
+use dm_machine::{Machine, NewError, Stop};
 use std::alloc::Global;
 
 /// MOV AH,9; MOV DX,10Ch; INT 21h; MOV AX,4C00h; INT 21h; `hi$`

@@ -4,8 +4,8 @@ use crate::machines::{Scene, machine_at};
 use crate::telling::{tell, tell_refused};
 use crate::whole::Whole;
 use anyhow::Result;
-use dm_debug::{CommandRefusal, Session};
 use dm_console::writers::Sink;
+use dm_debug::{CommandRefusal, Session};
 use std::alloc::Global;
 
 /// MOV AH,9; MOV DX,10Ch; INT 21h; MOV AX,4C00h; INT 21h; `hi$`

@@ -7,8 +7,8 @@ ghost use Rattle.dm_reports.specs.Stops.{is_exit, reason_text, place_text, code_
 use crate::names::put_call;
 use dm_cpu::Cpu;
 use dm_findings::{Call, Site, call_of, site_of};
-use dm_space::Space;
 use dm_services::state::Stop;
+use dm_space::Space;
 use dm_views::{byte_digits, put_address};
 use std::alloc::AllocError;
 

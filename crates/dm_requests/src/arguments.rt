@@ -5,9 +5,9 @@ ghost use Rattle.hex.specs.Hex.{decode_of};
 ghost use Rattle.dm_requests.specs.commands.Numbers.{if_good};
 ghost use Rattle.dm_requests.specs.Arguments.{cut_at, two_numbers, after_prefix, access_of, point_of};
 
-use crate::request::{Access, Point};
 use crate::commands::read_number;
 use crate::packets::Payload;
+use crate::request::{Access, Point};
 use hex::FromHexError;
 use std::alloc::{AllocError, Global};
 

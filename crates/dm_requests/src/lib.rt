@@ -3,10 +3,10 @@
 //! Source: the GDB manual, appendix "GDB Remote Serial Protocol", sections "Packets", "General Query Packets" and "vCont".
 #![tactic(auto)]
 
-pub mod packets;
-pub mod commands;
 mod arguments;
+pub mod commands;
 mod names;
+pub mod packets;
 mod reading;
 mod request;
 

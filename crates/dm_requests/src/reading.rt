@@ -4,10 +4,10 @@ ghost use Rattle.std.specs.Prelude.{◌≡◌, IfOk};
 ghost use Rattle.dm_requests.specs.Requests.{set_bytes, memory_of, set_memory_of, register_of, set_register_with, set_register_of, set_registers_of, insertion, removal, feature_of, command_of, query_of, request_of};
 
 use crate::arguments::{after_prefix, cut_at, point_of, two_numbers, unhex};
-use crate::names::{named_query, named_verb, single};
-use crate::request::Request;
 use crate::commands::read_number;
+use crate::names::{named_query, named_verb, single};
 use crate::packets::Payload;
+use crate::request::Request;
 use std::alloc::{AllocError, Global};
 
 /// `m ADDRESS,COUNT`.

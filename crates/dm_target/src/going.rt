@@ -9,8 +9,8 @@ use crate::nearby::{marks_if_any, pass};
 use crate::watching::look;
 use dm_history::History;
 use dm_machine::{Breakpoint, Machine, Stop};
-use dm_touches::quiet::Marks;
 use dm_requests::Point;
+use dm_touches::quiet::Marks;
 use std::alloc::Global;
 
 /// The linear addresses of a range that is stepped through: `start` and those above it, below `end`.

@@ -8,8 +8,8 @@ ghost use Rattle.dm_target.specs.inner.Looking.{HasLevel, IsGuarded, IsGuardedAt
 use crate::going::Span;
 use dm_history::History;
 use dm_machine::Breakpoint;
-use dm_touches::quiet::Marks;
 use dm_requests::{Access, Point};
+use dm_touches::quiet::Marks;
 use std::alloc::{AllocError, Global};
 
 /// How many paragraphs there are: those of all linear addresses.

@@ -2,11 +2,11 @@
 #![tactic(auto)]
 
 pub mod disassembly;
-pub mod words;
 mod laws;
 mod line;
 mod names;
 mod texts;
+pub mod words;
 
 pub use laws::{names_are_read, texts_are_parted};
 pub use line::{Line, byte_number};

@@ -2,11 +2,11 @@
 //! what is found of them.
 #![tactic(auto)]
 
-pub mod quiet;
 mod access;
 mod elements;
 mod found;
 mod laws;
+pub mod quiet;
 mod touches;
 
 pub use access::{Access, access_of};

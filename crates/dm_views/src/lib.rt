@@ -5,12 +5,12 @@
 //! line feed (0Ah). An `Err` is a failed allocation; what `out` then holds is not known.
 #![tactic(auto)]
 
-pub mod inventory;
 mod arena;
 mod bytes;
 mod code;
 mod digits;
 mod extended;
+pub mod inventory;
 mod laws;
 mod pages;
 mod registers;

@@ -9,8 +9,8 @@ ghost use Rattle.dm_xms.specs.Moves.{double_after, described, side, move_between
 
 use crate::status::Status;
 use crate::tables::{Handle, Xms};
-use dm_space::moves::{Span, SpanKind, move_blocks, move_bytes, word_after};
 use dm_space::Space;
+use dm_space::moves::{Span, SpanKind, move_blocks, move_bytes, word_after};
 
 /// The linear address at which the memory of handle 0 ends: after the high memory area.
 const END: usize = 0x10_FFF0;

@@ -10,7 +10,9 @@ use crate::extended::area::{release_area, take_area, tell_version};
 use crate::extended::blocks::{
     allocate, deallocate, lock, move_memory, reallocate, tell_free, tell_information, unlock,
 };
-use crate::extended::line::{disable_globally, disable_locally, enable_globally, enable_locally, tell_line};
+use crate::extended::line::{
+    disable_globally, disable_locally, enable_globally, enable_locally, tell_line,
+};
 use crate::extended::uppers::{release, request, resize};
 use dm_cpu::Cpu;
 use dm_ins::ByteRegister;

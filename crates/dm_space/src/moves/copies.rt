@@ -4,8 +4,8 @@ ghost use Rattle.std.specs.Prelude.{◌≡◌, ◌+◌, ◌%◌, ◌<◌, ◌≤
 ghost use Rattle.dm_space.specs.moves.inner.Copying.{read_in, written_out};
 ghost use Rattle.dm_space.specs.moves.Spans.{span_moved, spans_exchanged, IsInside};
 
-use crate::moves::spans::{PAGE, Span, SpanKind};
 use crate::Space;
+use crate::moves::spans::{PAGE, Span, SpanKind};
 
 /// How many of the next `left` bytes of a span come before the next multiple of 4000h: their places lie side by side.
 /// `at` is where the first of them stands, as [`Span::at`] counts.

@@ -3,8 +3,8 @@
 ghost use Rattle.std.specs.Prelude.{◌≡◌, ◌+◌, ◌^◌, ◌<◌, ◌∷◌, []};
 ghost use Rattle.dm_space.specs.moves.Spans.{span, place_in, IsInside};
 
-use dm_pool::Block;
 use crate::{Place, Space};
+use dm_pool::Block;
 use std::marker::Model;
 use std::slice;
 

@@ -6,9 +6,9 @@ ghost use Rattle.dm_ins.specs.declared.ins.Ins.{Ins};
 ghost use Rattle.dm_text.specs.disassembly.Listing.{bytes_at, data_text, IsListing, IsListedLine, StandsInFile};
 ghost use Rattle.dm_text.specs.Texts.{text_of};
 
+use crate::{Line, byte_number, text};
 use dm_decode::decode;
 use dm_ins::{Ins, encode};
-use crate::{Line, byte_number, text};
 use std::alloc::{AllocError, Global};
 
 /// The offset of a program's first byte in its segment.

@@ -8,10 +8,10 @@ ghost use Rattle.dm_ins.specs.Spelling.{SpellsAction};
 ghost use Rattle.dm_text.specs.words.Words.{AreWords, size_word, word_before, word_written};
 ghost use Rattle.dm_text.specs.words.inner.Search.{FirstWays, HaveWords, IsNot, Taken, action_of, first_way, taken};
 
+use crate::size_is_given;
 use crate::words::written::{Size, Words, Written};
 use arrayvec::ArrayVec;
 use dm_ins::{Action, Ins, Mnemonic, Operand, Prefixes, Width, new_encoded};
-use crate::size_is_given;
 
 /// A way to take a written operand. One that can be taken in one way only is taken in the first.
 #[derive(Clone, Copy, Debug, PartialEq, Eq)]
