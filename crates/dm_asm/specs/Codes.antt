@@ -20,7 +20,7 @@ use Rattle.dm_asm.specs.Labels.{Label, label_place, term_place}
 
 -- ---- with the places of labels
 
--- what an operand of an instruction is written as, in the terms of `dm_words`; `next` is the offset of the next
+-- what an operand of an instruction is written as, in the terms of `dm_text::words`; `next` is the offset of the next
 -- instruction. None if its label is unknown, or the label and what is added to it lie outside 0 to FFFFh
 abbrev pub written_for : List Label → Mnemonic → ℕ → Term → Option Written
 written_for labels m next term = do

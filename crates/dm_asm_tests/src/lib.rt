@@ -3,9 +3,10 @@
 //! They are apart from the crates that they test, because a crate with tests is proved twice.
 #![tactic(auto)]
 
+#[cfg(test)]
 mod checks;
 #[cfg(test)]
-pub mod lines;
+mod lines;
 #[cfg(test)]
 mod listings;
 #[cfg(test)]

@@ -15,7 +15,7 @@ use Rattle.dm_checker.specs.declared.watch.Watched.{Watched}
 use Rattle.dm_checker.specs.declared.watch.Watch.{Watch}
 use Rattle.dm_services.specs.declared.functions.Function.{Function}
 use Rattle.dm_services.specs.Functions.{function_of}
-use Rattle.dm_findings.specs.outcomes.Calls.{allocates, frees, resizes, arranges_lists, is_arena, ends, keeps, is_ending, is_starting, arranges, call_findings}
+use Rattle.dm_origins.specs.outcomes.Calls.{allocates, frees, resizes, arranges_lists, is_arena, ends, keeps, is_ending, is_starting, arranges, call_findings}
 use Rattle.dm_checker.specs.Freed.{freed_twice}
 use Rattle.dm_checker.specs.Headers.{overwritten, mapped_away}
 use Rattle.dm_checker.specs.Shown.{Shown}

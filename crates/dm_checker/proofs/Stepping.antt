@@ -20,7 +20,7 @@ use Rattle.dm_findings.specs.Report.{Reported}
 use Rattle.dm_origins.specs.Origins.{Known}
 use Rattle.dm_checker.specs.declared.acts.Before.{Before}
 use Rattle.dm_checker.specs.declared.watch.Watch.{Watch}
-use Rattle.dm_findings.specs.outcomes.Calls.{stays, call_findings}
+use Rattle.dm_origins.specs.outcomes.Calls.{stays, call_findings}
 use Rattle.dm_checker.specs.Freed.{freed_twice}
 use Rattle.dm_origins.specs.leaks.Leaks.{leaks}
 use Rattle.dm_touches.specs.declared.elements.Elements.{Elements}

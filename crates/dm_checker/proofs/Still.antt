@@ -5,7 +5,7 @@ use Rattle.dm_services.specs.state.State.{State}
 use Rattle.dm_findings.specs.declared.finding.Finding.{Finding}
 use Rattle.dm_findings.specs.Calls.{call_of}
 use Rattle.dm_checker.specs.declared.watch.Watch.{Watch}
-use Rattle.dm_findings.specs.outcomes.Calls.{arranges, call_findings}
+use Rattle.dm_origins.specs.outcomes.Calls.{arranges, call_findings}
 use Rattle.dm_checker.specs.Freed.{freed_twice}
 use Rattle.dm_checker.specs.Findings.{turned, findings}
 use Rattle.dm_checker.specs.Watching.{header_of, broken_at, shown_of, IsWatch, IsSeen}

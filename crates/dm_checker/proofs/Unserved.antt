@@ -19,7 +19,7 @@ use Rattle.dm_findings.specs.declared.calls.Call.{Call}
 use Rattle.dm_findings.specs.declared.calls.Call.TheVariants.{Dos, Interrupt}
 use Rattle.dm_findings.specs.declared.finding.Finding.TheVariants.{Refused}
 use Rattle.dm_findings.specs.Calls.{is_bare_return, call_by, call_of}
-use Rattle.dm_findings.specs.outcomes.Calls.{may_be_refused, refused_by_dos, call_findings}
+use Rattle.dm_origins.specs.outcomes.Calls.{may_be_refused, refused_by_dos, call_findings}
 use Rattle.dm_checker.specs.Laws.{UnservedCallsAreFound}
 use Rattle.dm_checker.proofs.Reading.{still_running}
 

@@ -9,7 +9,7 @@ use Rattle.dm_cpu.specs.Guest.{up}
 use Rattle.dm_blocks.specs.declared.header.Header.{Header}
 use Rattle.dm_services.specs.state.State.{State}
 use Rattle.dm_services.specs.Functions.{function_of}
-use Rattle.dm_findings.specs.outcomes.Calls.{frees, keeps, resizes}
+use Rattle.dm_origins.specs.outcomes.Calls.{frees, keeps, resizes}
 use Rattle.dm_findings.specs.declared.calls.Call.{Call}
 use Rattle.dm_findings.specs.declared.calls.Call.TheVariants.{Dos}
 use Rattle.dm_findings.specs.declared.finding.Finding.{Finding}

@@ -11,7 +11,7 @@ use Rattle.dm_findings.specs.declared.finding.Found.{Found}
 use Rattle.dm_findings.specs.Calls.{call_of}
 use Rattle.dm_findings.specs.Findings.{is_of_free_memory}
 use Rattle.dm_findings.specs.Report.{Reported, report_of}
-use Rattle.dm_findings.specs.outcomes.Calls.{stays}
+use Rattle.dm_origins.specs.outcomes.Calls.{stays}
 use Rattle.dm_origins.specs.leaks.Leaks.{leaks}
 use Rattle.dm_origins.specs.Origins.{Known}
 use Rattle.dm_checker.specs.Findings.{Finds, IsFound}

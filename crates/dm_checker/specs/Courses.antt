@@ -5,7 +5,7 @@ use Rattle.dm_findings.specs.declared.processes.process.Process.{Process}
 use Rattle.dm_findings.specs.processes.Processes.{process_at, with_end}
 use Rattle.dm_origins.specs.Origins.{Known}
 use Rattle.dm_services.specs.state.State.{State}
-use Rattle.dm_findings.specs.outcomes.Courses.{ends_process, has_started}
+use Rattle.dm_origins.specs.outcomes.Courses.{ends_process, has_started}
 
 -- the processes after the step from s to t with this call, if they were ps before it
 abbrev pub processes_after : State → State → Option Call → List Process → List Process

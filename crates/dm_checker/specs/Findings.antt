@@ -21,7 +21,7 @@ use Rattle.dm_origins.specs.Origins.{Known, origin_of}
 use Rattle.dm_checker.specs.Shown.{Shown, IsShown}
 use Rattle.dm_checker.specs.Headers.{overwritten, mapped_away}
 use Rattle.dm_touches.specs.Found.{touch_findings}
-use Rattle.dm_findings.specs.outcomes.Calls.{arranges, call_findings}
+use Rattle.dm_origins.specs.outcomes.Calls.{arranges, call_findings}
 use Rattle.dm_checker.specs.Freed.{freed_twice}
 use Rattle.dm_checker.specs.Arranged.{arranged}
 

@@ -4,7 +4,7 @@ use Rattle.std.specs.Prelude.{ℕ, ◌+◌, ◌==◌, ◌&&◌, ◌||◌, not, B
 use Rattle.dm_cpu.specs.declared.cpu.Cpu.{Cpu}
 use Rattle.dm_blocks.specs.declared.header.Header.{Header}
 use Rattle.dm_services.specs.Functions.{function_of}
-use Rattle.dm_findings.specs.outcomes.Calls.{frees}
+use Rattle.dm_origins.specs.outcomes.Calls.{frees}
 use Rattle.dm_findings.specs.declared.calls.Call.{Call}
 use Rattle.dm_findings.specs.declared.calls.Call.TheVariants.{Dos}
 use Rattle.dm_findings.specs.declared.finding.Finding.{Finding}

@@ -11,7 +11,7 @@ use Rattle.dm_findings.specs.declared.calls.Call.TheVariants.{Dos}
 use Rattle.dm_findings.specs.declared.finding.Finding.TheVariants.{Refused}
 use Rattle.dm_findings.specs.declared.finding.Found.{Found}
 use Rattle.dm_findings.specs.Calls.{call_of}
-use Rattle.dm_findings.specs.outcomes.Calls.{call_findings}
+use Rattle.dm_origins.specs.outcomes.Calls.{call_findings}
 use Rattle.dm_checker.specs.Checks.{Checks}
 
 -- a checked run is a run: the same steps, stop and state

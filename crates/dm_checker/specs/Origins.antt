@@ -9,7 +9,7 @@ use Rattle.dm_origins.specs.Origins.{Known, known_first, with_handles, with_bloc
 use Rattle.dm_services.specs.state.State.{State}
 use Rattle.dm_machine.specs.Step.{MakesStep}
 use Rattle.dm_checker.specs.Shown.{Shown, IsShown}
-use Rattle.dm_findings.specs.outcomes.Calls.{arranges}
+use Rattle.dm_origins.specs.outcomes.Calls.{arranges}
 use Rattle.dm_checker.specs.Courses.{present_process, with_course}
 
 -- the step from s to t, as who allocated or freed: its number, and where in its code the program performs it

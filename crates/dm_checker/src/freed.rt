@@ -6,8 +6,8 @@ ghost use Rattle.dm_checker.specs.Watching.{header_of};
 
 use crate::watch::Watched;
 use dm_cpu::Cpu;
-use dm_findings::outcomes::{frees, put};
 use dm_findings::{Call, Finding};
+use dm_origins::outcomes::{frees, put};
 use dm_services::function_of;
 use std::alloc::AllocError;
 

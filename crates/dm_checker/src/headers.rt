@@ -9,8 +9,8 @@ ghost use Rattle.dm_checker.specs.Headers.{shown_at, same_contents, overwritten,
 ghost use Rattle.dm_checker.specs.Watching.{IsBits, IsWatched, header_of, IsKept, contents_by};
 
 use crate::watch::{Watched, bits_at};
-use dm_findings::outcomes::put;
 use dm_findings::{Contents, Finding};
+use dm_origins::outcomes::put;
 use dm_pool::Block;
 use dm_space::Space;
 use std::alloc::AllocError;

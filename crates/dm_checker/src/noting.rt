@@ -11,11 +11,11 @@ ghost use Rattle.dm_checker.specs.inner.Steps.{IsBefore};
 use crate::acts::Before;
 use crate::watch::{Watch, Watched};
 use dm_blocks::Header;
-use dm_findings::outcomes::{arranges, ends_process, has_started};
 use dm_findings::processes::Process;
 use dm_findings::{Call, Origin};
 use dm_machine::Machine;
 use dm_origins::Origins;
+use dm_origins::outcomes::{arranges, ends_process, has_started};
 use std::alloc::{AllocError, Global};
 
 /// The headers without their bytes. An `Err` is a failed allocation.

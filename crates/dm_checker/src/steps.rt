@@ -22,11 +22,11 @@ use crate::headers::{put_all_mapped_away, put_all_overwritten};
 use crate::noting::note;
 use crate::touched::put_touched;
 use crate::watch::{Broken, Watch, read_arena};
-use dm_findings::outcomes::{arranges, put, put_of_call, stays};
 use dm_findings::{Act, Call, Finding, Found, Report};
 use dm_machine::{Machine, Stop, tables_and_memory_are_consistent};
 use dm_origins::Origins;
 use dm_origins::leaks::put_leaks;
+use dm_origins::outcomes::{arranges, put, put_of_call, stays};
 use std::alloc::{AllocError, Global};
 
 /// Appends to `out` that the step destroyed the arena or made it whole again, if it did, by where the arena's list

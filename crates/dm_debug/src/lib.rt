@@ -1,5 +1,7 @@
 //! The debugger of `dm debug` and of the hosts of `dm_host`: a session executes the commands that lines of text ask
 //! for.
+//!
+//! Module `stops` has runs up to events, as hosts ask for them.
 #![tactic(auto)]
 
 mod input;

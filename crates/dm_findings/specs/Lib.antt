@@ -1,4 +1,3 @@
-pub mod outcomes
 pub mod processes
 pub mod Calls
 pub mod Findings

@@ -4,7 +4,6 @@
 
 mod calls;
 mod finding;
-pub mod outcomes;
 pub mod processes;
 mod repeats;
 mod report;

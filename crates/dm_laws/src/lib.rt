@@ -1,4 +1,4 @@
-//! Laws of the machine that no single contract states: each is a function without a body's work, proved once.
+//! Laws of the definitions, a module for each subject: each is the contract of a function that does nothing.
 #![tactic(auto)]
 
 pub mod arena;

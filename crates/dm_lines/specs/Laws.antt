@@ -62,7 +62,7 @@ PiecesAreRead = (ps : List Piece) (comment : List ℕ) → parted false ps ≡ t
 -- ---- instructions
 
 -- the operand that an instruction's text is read as (`own_term`) is written as what that text shows (`written_of` of
--- `dm_words`), wherever the instruction stands
+-- `dm_text::words`), wherever the instruction stands
 abbrev pub OwnTermsAreWritten : Type 0
 OwnTermsAreWritten = (a : Action) (next place : ℕ) (o : Operand) → written_of a.mnemonic (own_term a next o) place next ≡ Some (read.written_of a next o)
 

@@ -1,4 +1,4 @@
--- What an operand is written as in the terms of `dm_words`: with the value of its label, `place`, and, as an outline,
+-- What an operand is written as in the terms of `dm_text::words`: with the value of its label, `place`, and, as an outline,
 -- before labels have values. `next` is the offset of the next instruction. None says that a label and what is added
 -- to it lie outside 0 to FFFFh.
 -- Source: Intel 8086 Family User's Manual, section 2.9 (labels and numbers of ASM-86); which operands a label may be

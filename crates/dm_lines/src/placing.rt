@@ -1,4 +1,4 @@
-//! From an operand to what it is written as in the terms of `dm_words`: with the value of its label, and, as an
+//! From an operand to what it is written as in the terms of `dm_text::words`: with the value of its label, and, as an
 //! outline, before labels have values. `place` is the value of the label, `next` the offset of the next instruction.
 
 ghost use Rattle.std.specs.Prelude.{◌≡◌};

@@ -1,3 +1,4 @@
+pub mod outcomes
 pub mod leaks
 pub mod Origins
 pub mod inner

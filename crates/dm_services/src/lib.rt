@@ -1,5 +1,7 @@
 //! The services that act in place of interrupt handlers: interrupt 0, INT 20h and the functions of
 //! INT 21h (MS-DOS Programmer's Reference, "System Calls").
+//!
+//! Module `state` has what they act on.
 #![tactic(auto)]
 
 mod allocation;

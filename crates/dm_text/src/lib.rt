@@ -1,4 +1,6 @@
 //! The text of an instruction, and the names that it is made of.
+//!
+//! Module `words` reads written words as an instruction, and `disassembly` makes the listing of a program's bytes.
 #![tactic(auto)]
 
 pub mod disassembly;

@@ -1,5 +1,7 @@
 //! What an instruction touches: the bytes of memory that it reads and writes, beside those that it is decoded from; and
 //! what is found of them.
+//!
+//! Module `quiet` tells quickly of most instructions that they touch nothing in which something could be found.
 #![tactic(auto)]
 
 mod access;

@@ -3,6 +3,8 @@
 //!
 //! Each function `put_..` appends a text to `out`. Digits are hexadecimal, in upper case, and each line ends with a
 //! line feed (0Ah). An `Err` is a failed allocation; what `out` then holds is not known.
+//!
+//! Module `inventory` has what they show as records, for hosts.
 #![tactic(auto)]
 
 mod arena;

@@ -5,7 +5,7 @@
 //! after a comma, for the second: a number as a byte, as a word and as a distance, `one` if it is 1. The last part
 //! is the second operand's outline, before any label has an address.
 
-use crate::lines::checks::same;
+use crate::checks::same;
 use crate::lines::rows::{Reader, part, put_written};
 use dm_lines::{Instruction, Item, outline, written};
 use std::alloc::Global;

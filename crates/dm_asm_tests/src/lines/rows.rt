@@ -8,7 +8,7 @@
 //! Numbers are decimal; what is added to a label follows it. An operand in memory is the word before it, its
 //! registers and its value.
 
-use crate::lines::checks::same;
+use crate::checks::same;
 use arrayvec::ArrayVec;
 use dm_ins::{Prefixes, Repeat};
 use dm_lines::{Amount, Instruction, Item, Items, Name, Statement, Term, Tokens, Value, read_line};

@@ -1,5 +1,6 @@
 -- The functions of INT 67h: LIM EMS 4.0, section 3. AH is the status, 0 for success; registers that are not named stay.
--- An error sets AH alone, except in 51h, and changes neither tables nor memory.
+-- An error sets AH alone, except in 51h, and changes neither tables nor memory. (92h
+-- is no error.)
 use Rattle.std.specs.Prelude.{ℕ, ◌==◌, if◌then◌else◌, Option, Some, None}
 use Rattle.std.specs.Option.{option_map_or}
 use Rattle.dm_ins.specs.declared.operand.ByteRegister.TheVariants.{Al, Ah}

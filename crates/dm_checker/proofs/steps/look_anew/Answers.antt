@@ -1,7 +1,7 @@
 use Rattle.std.proofs.Common.{◌≡◌, ◌++◌, map, sym, ◌∙◌}
 use Rattle.std.proofs.lemmas.Result.{on_ok_weaker}
 use Rattle.dm_space.specs.Memory.{Memory}
-use Rattle.dm_findings.specs.outcomes.Calls.{arranges}
+use Rattle.dm_origins.specs.outcomes.Calls.{arranges}
 use Rattle.dm_checker.specs.Headers.{overwritten, mapped_away}
 use Rattle.dm_checker.specs.Findings.{all_overwritten}
 use Rattle.dm_checker.specs.Watching.{header_of}

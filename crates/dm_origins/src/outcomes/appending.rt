@@ -2,7 +2,7 @@
 
 ghost use Rattle.std.specs.Prelude.{◌≡◌, ◌++◌, ◌∷◌, [], OnOk};
 
-use crate::Finding;
+use dm_findings::Finding;
 use std::alloc::AllocError;
 
 /// Appends a finding to `out`. An `Err` is a failed allocation.

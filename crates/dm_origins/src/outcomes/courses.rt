@@ -2,11 +2,11 @@
 //! 0).
 
 ghost use Rattle.std.specs.Prelude.{◌≡◌};
-ghost use Rattle.dm_findings.specs.outcomes.Courses.{ends_process, has_started};
+ghost use Rattle.dm_origins.specs.outcomes.Courses.{ends_process, has_started};
 
-use crate::Call;
 use crate::outcomes::calls::{is_ending, is_starting};
 use dm_cpu::Cpu;
+use dm_findings::Call;
 use dm_services::function_of;
 
 /// Whether a call started a process, by the registers before and after it.

@@ -15,37 +15,42 @@ use Rattle.dm_findings.specs.declared.finding.Finding.TheVariants.{Refused, NotA
 
 -- ---- calls that write headers
 
--- whether a function of INT 21h allocates a block, frees one, resizes one, or sets how blocks are chosen and the lists linked
+-- whether a function of INT 21h allocates a block: 48h
 abbrev pub allocates : Function → Bool
 allocates Allocate = true
 allocates _ = false
 
+-- whether it frees a block: 49h
 abbrev pub frees : Function → Bool
 frees Free = true
 frees _ = false
 
+-- whether it resizes a block: 4Ah
 abbrev pub resizes : Function → Bool
 resizes Resize = true
 resizes _ = false
 
+-- whether it sets how blocks are chosen, or links the lists: 58h
 abbrev pub arranges_lists : Function → Bool
 arranges_lists AllocationStrategy = true
 arranges_lists _ = false
 
--- whether a function of INT 21h is one of the arena
+-- whether it is one of the arena
 abbrev pub is_arena : Function → Bool
 is_arena f = allocates f || frees f || resizes f || arranges_lists f
 
--- whether a function of INT 21h ends a process; whether the process stays resident then
+-- whether a function of INT 21h ends a process, which does not stay: 00h or 4Ch
 abbrev pub ends : Function → Bool
 ends EndProgram = true
 ends Exit = true
 ends _ = false
 
+-- whether it ends a process, which stays resident: 31h
 abbrev pub keeps : Function → Bool
 keeps Keep = true
 keeps _ = false
 
+-- whether it ends a process
 abbrev pub is_ending : Function → Bool
 is_ending f = ends f || keeps f
 

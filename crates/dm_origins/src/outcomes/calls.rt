@@ -3,11 +3,11 @@
 //! its findings to `out`; an `Err` is a failed allocation.
 
 ghost use Rattle.std.specs.Prelude.{◌≡◌, ◌++◌, OnOk};
-ghost use Rattle.dm_findings.specs.outcomes.Calls.{allocates, frees, resizes, arranges_lists, is_arena, ends, keeps, is_ending, is_starting, arranges, stays, refusal, refused_by_dos, refused_by_status, refused_by_error, may_be_refused, call_findings};
+ghost use Rattle.dm_origins.specs.outcomes.Calls.{allocates, frees, resizes, arranges_lists, is_arena, ends, keeps, is_ending, is_starting, arranges, stays, refusal, refused_by_dos, refused_by_status, refused_by_error, may_be_refused, call_findings};
 
 use crate::outcomes::appending::put;
-use crate::{Call, Finding};
 use dm_cpu::Cpu;
+use dm_findings::{Call, Finding};
 use dm_ins::ByteRegister;
 use dm_services::{Function, function_of};
 use std::alloc::AllocError;

@@ -5,7 +5,7 @@ use Rattle.dm_cpu.specs.declared.cpu.Cpu.{Cpu}
 use Rattle.dm_services.specs.Functions.{function_of}
 use Rattle.dm_findings.specs.declared.calls.Call.{Call}
 use Rattle.dm_findings.specs.declared.calls.Call.TheVariants.{DivideError, Terminate, Dos}
-use Rattle.dm_findings.specs.outcomes.Calls.{is_ending, is_starting}
+use Rattle.dm_origins.specs.outcomes.Calls.{is_ending, is_starting}
 
 -- whether a call started a process, by the registers before and after it: 4Bh with CF clear, but not with AL = 3, which
 -- loads an overlay
