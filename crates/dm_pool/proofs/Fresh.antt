@@ -42,6 +42,10 @@ pub none_units : (n : ℕ) → (no_layout n).units ≡ n
 unfolding no_layout
 none_units n = refl
 
+pub none_places : (n : ℕ) → (no_layout n).places ≡ replicate 576 None
+unfolding no_layout
+none_places n = refl
+
 pub none_blocks : (n : ℕ) (l : Layout) (w : List ℕ) → l.units ≡ (no_layout n).units → l.places ≡ (no_layout n).places → blocks_in l w ≡ no_blocks n
 unfolding no_layout no_blocks
 none_blocks n l w u p = same_blocks l.units n l.places (replicate 576 None) (contents_of l.places w) (replicate 576 []) u p (ap (λ ps. contents_of ps w) p ∙ none_content 576 w)

@@ -17,11 +17,14 @@ const NOWHERE: u32 = u32::MAX;
 
 /// The free runs of a pool, as its bytes list them: the first four bytes of a run are its length in units, the next
 /// four the unit where the next run begins, low byte first.
-#[derive(Drop)]
-pub struct RunList {
+#[derive(Clone, Copy)]
+pub struct RunList<'a> {
     /// All bytes of a store: the low bytes, the scratch bytes, and from the byte 310000h on those of the pool, its
     /// blocks among them.
-    pub region: Region,
+    pub region: &'a Region,
+    /// Whether the pool is in use, as it is from the first call on that takes a block. Before, it has no block, and its
+    /// bytes list nothing.
+    pub in_use: bool,
     /// The unit of the pool where the first run begins; FFFFFFFFh where there is none.
     pub first: u32,
 }

@@ -1,7 +1,7 @@
 //! The bytes of a machine, in one region: low memory by linear address, scratch bytes, and a pool of units of 1 KiB.
-ghost use Rattle.std.specs.Prelude.{◌≡◌, ◌↔◌, IsTrue, ◌+◌, ◌*◌, ◌^◌, ◌<◌, ◌≤◌, Some, None, [], ◌++◌, ◌-◌, true, take, drop, get_or, length, IfOk, IfSome, IsErrOf, MatchOption};
+ghost use Rattle.std.specs.Prelude.{◌≡◌, ◌↔◌, IsTrue, ◌+◌, ◌*◌, ◌^◌, ◌<◌, ◌≤◌, Some, None, [], ◌++◌, ◌-◌, true, take, drop, replicate, get_or, length, IfOk, IfSome, IsErrOf, MatchOption};
 ghost use Rattle.std.specs.Borrow.{sem};
-ghost use Rattle.std.specs.Bool.{MatchBool};
+ghost use Rattle.std.specs.Bool.{MatchBool, OnFalse, OnTrue};
 ghost use Rattle.dm_pool.specs.Blocks.{no_blocks, taken, resized, without, moved_bytes, contents_of, IsAt, IsLive, IsPool};
 ghost use Rattle.dm_pool.specs.FreeList.{AreBased, Spells};
 ghost use Rattle.dm_pool.specs.Gaps.{gaps, free_units, largest, count_fitting};
@@ -214,7 +214,7 @@ impl Store {
         ensures length { length self.now.scratch ≡ 0x200000 }
         ensures within { length result.now ≤ 0x200000 }
     {
-        self.region.part(LOW, self.region.hole() - LOW)
+        self.region.part(LOW, self.region.hole_start() - LOW)
     }
 
     /// The first `len` of the 200000h scratch bytes, lent to be written. All other bytes stay.
@@ -364,6 +364,7 @@ impl Store {
             let len = pool_len(&self.table);
             runs::largest(&self.table, self.region.part(POOL, len))
         } else {
+            // The whole pool is one gap.
             self.table.units()
         }
     }
@@ -380,28 +381,26 @@ impl Store {
         }
     }
 
-    /// Gives the store up for its region: the low bytes, the scratch bytes, and the bytes of the pool with its free
-    /// runs, as a test of the free list reads them. Blocks do not overlap in the bytes of the pool, and the free ones
-    /// list the gaps, rising, from the first run on.
-    pub fn into_free_list(self) -> RunList
-        ensures region { result.region.bytes ≡ self.low ++ (self.scratch ++ drop 0x310000 result.region.bytes) }
-        ensures filled { result.region.to ≤ result.region.from }
-        ensures sizes { (length self.low ≡ 0x110000) × (length self.scratch ≡ 0x200000) }
-        ensures blocks { IsPool self.blocks.units self.blocks.places (drop 0x310000 result.region.bytes) }
-        ensures based { AreBased self.blocks.places }
-        ensures contents { contents_of self.blocks.places (drop 0x310000 result.region.bytes) ≡ self.blocks.contents }
-        ensures free { Spells (drop 0x310000 result.region.bytes) result.first (gaps self.blocks.places self.blocks.units) }
+    /// All bytes of the store, and where the free list of its pool begins, as a test of the free list reads them. Blocks
+    /// do not overlap in the bytes of the pool. Once the pool is in use, the free ones of these can be read, and list
+    /// the gaps, rising, from the first run on; before, it has no block.
+    pub fn free_list(&self) -> RunList<'_>
+        ensures region { result.region.now.bytes ≡ self.now.low ++ (self.now.scratch ++ drop 0x310000 result.region.now.bytes) }
+        ensures sizes { (length self.now.low ≡ 0x110000) × (length self.now.scratch ≡ 0x200000) }
+        ensures blocks { IsPool self.now.blocks.units self.now.blocks.places (drop 0x310000 result.region.now.bytes) }
+        ensures based { AreBased self.now.blocks.places }
+        ensures contents { contents_of self.now.blocks.places (drop 0x310000 result.region.now.bytes) ≡ self.now.blocks.contents }
+        ensures unused { OnFalse result.in_use (self.now.blocks.places ≡ replicate 576 None) }
+        ensures lent { OnTrue result.in_use (result.region.now.to ≤ 0x310000) }
+        ensures free { OnTrue result.in_use (Spells (drop 0x310000 result.region.now.bytes) result.first (gaps self.now.blocks.places self.now.blocks.units)) }
     {
-        let Store {
-            mut region,
-            mut table,
-            mut in_use,
-        } = self;
-        use_pool(&mut region, &mut table, &mut in_use);
-        region.fill_up(POOL);
-        table.recall();
-        let first = table.first();
-        RunList { region, first }
+        self.table.recall();
+        let (in_use, first) = (self.in_use, self.table.first());
+        RunList {
+            region: &self.region,
+            in_use,
+            first,
+        }
     }
 
     /// How many blocks of `units` units, at least 1, fit into the gaps, each whole in one gap.

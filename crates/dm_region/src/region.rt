@@ -144,13 +144,20 @@ impl Region {
         }
     }
 
-    /// How many bytes lie before the hole.
-    pub fn hole(&self) -> usize
+    /// Where the hole begins, which is how many bytes lie before it.
+    pub fn hole_start(&self) -> usize
         ensures value { result ≡ self.now.from }
         ensures within { result ≤ length self.now.bytes }
         ensures zeros { part self.now.bytes result (self.now.to - result) ≡ replicate (self.now.to - result) 0 }
     {
         self.from
+    }
+
+    /// Where the hole ends: the first byte behind it.
+    pub fn hole_end(&self) -> usize
+        ensures { result ≡ self.now.to }
+    {
+        self.to
     }
 
     /// The `len` bytes from byte `from` on.

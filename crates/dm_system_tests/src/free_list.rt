@@ -1,25 +1,33 @@
-//! The free list of a pool, which is kept in its free bytes.
+//! The free list of a pool, which is kept in its free bytes, and what else a store keeps in its region.
 
 use crate::checks::same;
-use dm_pool::{Block, Sizes, Store, UNIT};
-use std::alloc::{AllocError, Global};
+use dm_pool::{Block, Part, Sizes, Store, UNIT};
+use dm_region::Region;
 use std::test::Fail;
 
 /// The byte of a store's region where the pool begins.
 const POOL: usize = 0x31_0000;
 
-/// The first eight bytes of a unit of the pool, where a free run keeps its length and the unit of the next one.
-fn beginning(alloc: Global, store: &Store, unit: usize) -> Result<[u8; 8], AllocError> {
-    let list = store.duplicate(alloc)?.into_free_list();
-    let region = list.region.part(0, list.region.len());
+/// The bytes of the pool; None before the pool is in use.
+fn pool(store: &Store) -> Option<&[u8]> {
+    let list = store.free_list();
+    if list.in_use {
+        Some(list.region.part(POOL, list.region.len() - POOL))
+    } else {
+        None
+    }
+}
+
+/// The first eight bytes of a unit of the pool, where a free run keeps its length and the unit of the next one; zeros
+/// before the pool is in use.
+fn beginning(store: &Store, unit: usize) -> [u8; 8] {
     let mut bytes = [0; 8];
-    if unit < 4 {
-        let at = POOL + unit * UNIT;
-        if at + 8 <= region.len() {
-            bytes.copy_from_slice(&region[at..at + 8]);
+    if let Some(pool) = pool(store) {
+        if unit < 4 && pool.len() == 4 * UNIT {
+            bytes.copy_from_slice(&pool[unit * UNIT..unit * UNIT + 8]);
         }
     }
-    Ok(bytes)
+    bytes
 }
 
 fn give(store: &mut Store, block: Option<Block>) {
@@ -47,10 +55,20 @@ fn free_bytes_tell_the_gaps(rt: HostRuntime) -> Result<(), Fail> {
         xms_kib: 4,
     };
     let mut store = Store::new(rt.alloc(), sizes)?;
+    same(&rt, "a new pool", store.free_list().in_use, false);
+    let first = store.take(1);
+    same(
+        &rt,
+        "one run of three units",
+        beginning(&store, 1),
+        [3, 0, 0, 0, 0xFF, 0xFF, 0xFF, 0xFF],
+    );
+    same(&rt, "the first run", store.free_list().first, 1);
+    give(&mut store, first);
     same(
         &rt,
         "one run of four units",
-        beginning(rt.alloc(), &store, 0)?,
+        beginning(&store, 0),
         [4, 0, 0, 0, 0xFF, 0xFF, 0xFF, 0xFF],
     );
     let _first = store.take(1);
@@ -61,42 +79,54 @@ fn free_bytes_tell_the_gaps(rt: HostRuntime) -> Result<(), Fail> {
     same(
         &rt,
         "a run of one unit",
-        beginning(rt.alloc(), &store, 1)?,
+        beginning(&store, 1),
         [1, 0, 0, 0, 0xFF, 0xFF, 0xFF, 0xFF],
     );
     give(&mut store, fourth);
     same(
         &rt,
         "the next run is at unit 3",
-        beginning(rt.alloc(), &store, 1)?,
+        beginning(&store, 1),
         [1, 0, 0, 0, 3, 0, 0, 0],
     );
     same(
         &rt,
         "the last run",
-        beginning(rt.alloc(), &store, 3)?,
+        beginning(&store, 3),
         [1, 0, 0, 0, 0xFF, 0xFF, 0xFF, 0xFF],
     );
     give(&mut store, third);
     same(
         &rt,
         "three units are one run",
-        beginning(rt.alloc(), &store, 1)?,
+        beginning(&store, 1),
         [3, 0, 0, 0, 0xFF, 0xFF, 0xFF, 0xFF],
     );
     let two = store.take(2);
     same(&rt, "units 1 and 2", base_of(&store, two), Some(1));
-    same(&rt, "zeros", beginning(rt.alloc(), &store, 1)?, [0; 8]);
+    same(&rt, "zeros", beginning(&store, 1), [0; 8]);
     same(
         &rt,
         "the run that is left",
-        beginning(rt.alloc(), &store, 3)?,
+        beginning(&store, 3),
         [1, 0, 0, 0, 0xFF, 0xFF, 0xFF, 0xFF],
     );
     same(&rt, "no more two units", store.take(2).is_none(), true);
     let one = store.take(1);
     same(&rt, "unit 3", base_of(&store, one), Some(3));
     Ok(())
+}
+
+/// The byte `at` of a region; None in its hole, and behind its end.
+fn byte(region: &Region, at: usize) -> Option<u8> {
+    if at >= region.len() {
+        return None;
+    }
+    if at < region.hole_start() || region.hole_end() <= at {
+        region.part(at, 1).first().copied()
+    } else {
+        None
+    }
 }
 
 fn put_first(bytes: &mut [u8], value: u8) {
@@ -115,11 +145,34 @@ fn all_bytes_are_one_region(rt: HostRuntime) -> Result<(), Fail> {
     let mut store = Store::new(rt.alloc(), sizes)?;
     put_first(store.low_mut(), 1);
     put_first(store.scratch_mut(1), 2);
-    let list = store.into_free_list();
-    let region = list.region.part(0, list.region.len());
-    same(&rt, "all bytes", region.len(), 0x31_1000);
-    same(&rt, "low bytes first", region.first().copied(), Some(1));
-    same(&rt, "then scratch", region.get(0x11_0000).copied(), Some(2));
-    same(&rt, "then 4 units", region.get(POOL).copied(), Some(4));
+    let list = store.free_list();
+    same(&rt, "all bytes", list.region.len(), 0x31_1000);
+    same(&rt, "low bytes first", byte(list.region, 0), Some(1));
+    same(&rt, "then scratch", byte(list.region, 0x11_0000), Some(2));
+    same(&rt, "no pool yet", byte(list.region, POOL), None);
+    let _first = store.take(0);
+    let list = store.free_list();
+    same(&rt, "then 4 units", byte(list.region, POOL), Some(4));
+    Ok(())
+}
+
+#[test]
+fn scratch_is_filled_as_far_as_asked(rt: HostRuntime) -> Result<(), Fail> {
+    let sizes = Sizes {
+        ems_pages: 0,
+        xms_kib: 0,
+    };
+    let mut store = Store::new(rt.alloc(), sizes)?;
+    put_first(store.low_mut(), 7);
+    same(&rt, "low bytes", store.low().len(), 0x11_0000);
+    same(&rt, "no scratch bytes yet", store.scratch().len(), 0);
+    store.copy(Part::Low, 0, Part::Scratch, 5, 3);
+    let copied = store.scratch();
+    same(&rt, "bytes", copied, [0, 0, 0, 0, 0, 7, 0, 0].as_slice());
+    same(&rt, "low bytes", store.low().len(), 0x11_0000);
+    same(&rt, "eight bytes", store.scratch().len(), 8);
+    store.copy(Part::Low, 0, Part::Scratch, 2, 1);
+    same(&rt, "no more", store.scratch().len(), 8);
+    same(&rt, "a copy", store.scratch().get(2).copied(), Some(7));
     Ok(())
 }

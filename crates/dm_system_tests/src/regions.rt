@@ -31,9 +31,9 @@ fn regions_begin_as_zeros(rt: HostRuntime) -> Result<(), Fail> {
     same(&rt, "bytes", empty.part(0, 0), b"".as_slice());
     let mut region = Region::new(rt.alloc(), 10)?;
     same(&rt, "length", region.len(), 10);
-    same(&rt, "hole", region.hole(), 0);
+    same(&rt, "hole", region.hole_start(), 0);
     region.fill_up(10);
-    same(&rt, "filled", region.hole(), 10);
+    same(&rt, "filled", region.hole_start(), 10);
     same(&rt, "bytes", all(&region), [0; 10].as_slice());
     Ok(())
 }
@@ -46,7 +46,8 @@ fn a_hole_counts_as_zeros(rt: HostRuntime) -> Result<(), Fail> {
     region.fill_up(2);
     region.fill_down(7);
     region.fill_down(8);
-    same(&rt, "hole", region.hole(), 3);
+    same(&rt, "hole", region.hole_start(), 3);
+    same(&rt, "its end", region.hole_end(), 7);
     region.part_mut(0, 3).copy_from_slice(b"abc");
     region.part_mut(7, 3).copy_from_slice(b"xyz");
     region.copy(0, 8, 2);
@@ -54,7 +55,7 @@ fn a_hole_counts_as_zeros(rt: HostRuntime) -> Result<(), Fail> {
     same(&rt, "before the hole", region.part(0, 3), b"axa".as_slice());
     same(&rt, "behind it", region.part(7, 3), b"xab".as_slice());
     let mut twin = region.duplicate(rt.alloc())?;
-    same(&rt, "hole of the duplicate", twin.hole(), 3);
+    same(&rt, "hole of the duplicate", twin.hole_start(), 3);
     twin.fill_up(7);
     same(&rt, "no hole", all(&twin), b"axa\0\0\0\0xab".as_slice());
     region.fill_down(3);

@@ -4,7 +4,7 @@ use Rattle.dm_region.specs.Holes.{Holed}
 use Rattle.dm_region.specs.Parts.{part}
 use Rattle.dm_region.specs.inner.Places.{or_zero}
 use Rattle.dm_region.proofs.Holes.{hole_zeros}
-use Rattle.dm_region.proofs.region.Region.hole.Goals as goal
+use Rattle.dm_region.proofs.region.Region.hole_start.Goals as goal
 
 pub returns-clause-within : goal.returns-clause-within
 returns-clause-within c =
