@@ -1,5 +1,6 @@
 """The figures that pages show: counted from the sources, and the sentences of the pages in which they stand."""
 import ast
+import itertools
 import os
 import re
 import subprocess
@@ -55,7 +56,7 @@ SENTENCES = {
 
 
 # The lists of differences that tests plant.
-PLANTED = (("test_check.py", "PLANTED"), ("test_check.py", "OF_KIT"), ("test_check.py", "FIGURES"), ("test_header.py", "PLANTED"))
+PLANTED = (("test_check.py", "PLANTED"), ("test_check.py", "OF_KIT"), ("test_header.py", "PLANTED"))
 # The prefixes of the instruction table: four of segments, LOCK and two of repetition.
 PREFIXES = 7
 
@@ -135,6 +136,11 @@ def tests_in(files, folder):
     return sum(matches(path, r"^    def test_", 0) for path in files if re.fullmatch(rf"{folder}/test_\w+\.py", path))
 
 
+def figures_of_pages():
+    """How many figures the sentences of the pages have: a test plants another one at each."""
+    return sum(len(pattern_of(sentence)[1]) for lists in SENTENCES.values() for sentence in itertools.chain(*lists))
+
+
 def of_tree():
     """The figures of the tree, by name, but those of what must be believed."""
     files, uses = tracked(), crates()
@@ -160,7 +166,7 @@ def of_tree():
         "terminal_conversations": elements("tools/terminal", "TALKS"),
         "gdb_conversations": count(r"tools/talks/\w+\.talk"),
         "python_tests": tests_in(files, "python/tests"),
-        "planted": sum(elements(f"tools/tests/{path}", name) for path, name in PLANTED),
+        "planted": sum(elements(f"tools/tests/{path}", name) for path, name in PLANTED) + figures_of_pages(),
         "real_programs": elements("tools/real_programs", "PROGRAMS"),
         # (One more, of a program that calls again and again, stands apart.)
         "browser_pages": elements("tools/browser", "PAGES") + 1,

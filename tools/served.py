@@ -1,4 +1,4 @@
-"""The functions that are served, by their numbers, as the tables of definitions have them: `function_of` of INT 21h, `call` of the drivers."""
+"""The functions that are served, by their numbers, as the tables of definitions have them: `function_of` of INT 21h and of each driver."""
 import re
 
 import specs
@@ -14,10 +14,13 @@ class Unread(Exception):
 def numbers(folder):
     """The numbers, rising, that the table in a folder of definitions gives a function."""
     path = f"crates/{folder}/Functions.antt"
-    found = re.search(r"^(?:function_of|call(?: upper)? c) number =\n((?:    .*\n)+)", specs.text_of(path), re.M)
+    found = re.search(r"^function_of number =\n((?:    .*\n)+)", specs.text_of(path), re.M)
     if not found:
         raise Unread(f"{path} has no table of numbers")
-    return sorted(int(number, 16) for number in re.findall(r"\bif number == 0x(\w+) then\b", found[1]))
+    those = sorted(int(number, 16) for number in re.findall(r"\bif number == 0x(\w+) then\b", found[1]))
+    if len(set(those)) < len(those):
+        raise Unread(f"{path} has a number twice")
+    return those
 
 
 def spelled(folder):

@@ -10,6 +10,7 @@ import unittest
 ROOT = os.path.dirname(os.path.dirname(os.path.dirname(os.path.abspath(__file__))))
 sys.path.insert(0, f"{ROOT}/tools")
 import believed  # noqa: E402
+import figures  # noqa: E402
 import kit  # noqa: E402
 
 PROGRAM = "crates/dm/out/dm"
@@ -36,21 +37,16 @@ OF_KIT = (
     ("docs/proved.md", "`std` 2,366", "`std` 2,400", "`std` 2,366"),
     ("docs/proved.md", "is known to compile some correct code wrongly", "is known to compile all code correctly", "of the kit does not say, or is not quoted"),
 )
-# A file and the text before a figure: another figure in its place is reported with the true one.
-FIGURES_OF_KIT = (("docs/proved.md", "the host and its stack | "),)
-FIGURES = (
-    ("README.md", "To be believed are "),
-    ("README.md", "which say what the machine does, "),
-    ("CONTRIBUTING.md", "There are in all "),
-    ("CONTRIBUTING.md", "This proves "),
-    ("docs/architecture.md", "each with what it uses: "),
-    ("docs/architecture.md", "mnemonics in "),
-    ("docs/proved.md", "the library | the "),
-    ("docs/testing.md", "There are "),
-    ("docs/testing.md", "`tools/terminal` holds "),
-    ("docs/proved.md", "for all public functions "),
-    ("docs/proved.md", "beside the contract of `dm_main` itself, "),
-)
+# The lists of sentences with figures: those of the tree and those of the kit.
+OF_TREE, OF_KIT_ALONE = 0, 1
+
+
+def with_others(text, found, at):
+    """The text with another figure at a place of each of the sentences found in it, and these sentences as they are."""
+    for it in sorted(found, key=lambda one: one.start(), reverse=True):
+        other = "17" if it[at + 1] != "17" else "71"
+        text = f"{text[: it.start(at + 1)]}{other}{text[it.end(at + 1) :]}"
+    return text, [it[0] for it in found]
 
 
 def checked(root, *words):
@@ -84,7 +80,7 @@ class Planted(unittest.TestCase):
     @unittest.skipUnless(kit.name() == believed.KIT, "it is not the kit that the figures are of")
     def test_each_of_the_kit_is_reported(self):
         self.are_reported(OF_KIT)
-        self.figures_are_compared(FIGURES_OF_KIT)
+        self.figures_are_compared(OF_KIT_ALONE)
 
     def are_reported(self, planted):
         for path, old, new, words in planted:
@@ -95,32 +91,50 @@ class Planted(unittest.TestCase):
                 self.is_reported(path, text, text.replace(old, new, 1), words)
 
     def test_each_figure_is_compared(self):
-        self.figures_are_compared(FIGURES)
+        self.figures_are_compared(OF_TREE)
 
-    def figures_are_compared(self, figures):
-        for path, before in figures:
-            with self.subTest(path=path, before=before):
-                with open(f"{self.copy}/{path}", encoding="utf-8") as file:
-                    text = file.read()
-                figure = re.search(re.escape(before).replace(r"\ ", r"\s+") + r"([\d,]+)", text)
-                self.assertIsNotNone(figure)
-                self.is_reported(path, text, f"{text[: figure.start(1)]}17{text[figure.end(1) :]}", figure[1])
+    def figures_are_compared(self, of):
+        """In place of the first figure of each sentence of a page, then of each second one, and so on, docs/check prints a fault of each sentence."""
+        for page, lists in figures.SENTENCES.items():
+            with open(f"{self.copy}/{page}", encoding="utf-8") as file:
+                text = file.read()
+            found = [self.sentence(text, sentence) for sentence in lists[of]]
+            for at in range(max((len(it.groups()) for it in found), default=0)):
+                changed = [it for it in found if at < len(it.groups())]
+                with self.subTest(page=page, figure=at + 1):
+                    self.are_each_reported(page, text, *with_others(text, changed, at))
 
     def test_figures_are_written_again(self):
-        before, planted = {}, {}
-        for path, words in FIGURES:
-            with open(f"{self.copy}/{path}", encoding="utf-8") as file:
-                before.setdefault(path, file.read())
-            text = planted.get(path, before[path])
-            figure = re.search(re.escape(words).replace(r"\ ", r"\s+") + r"([\d,]+)", text)
-            planted[path] = f"{text[: figure.start(1)]}17{text[figure.end(1) :]}"
-        for path, text in planted.items():
-            with open(f"{self.copy}/{path}", "w", encoding="utf-8") as file:
+        before = {}
+        for page, (sentences, _) in figures.SENTENCES.items():
+            with open(f"{self.copy}/{page}", encoding="utf-8") as file:
+                text = before[page] = file.read()
+            for sentence in sentences:
+                for at in range(len(self.sentence(text, sentence).groups())):
+                    text, _ = with_others(text, [self.sentence(text, sentence)], at)
+            self.assertNotEqual(text, before[page])
+            with open(f"{self.copy}/{page}", "w", encoding="utf-8") as file:
                 file.write(text)
         subprocess.run([f"{self.copy}/tools/figures"], capture_output=True, check=False)
-        for path, text in before.items():
-            with open(f"{self.copy}/{path}", encoding="utf-8") as file:
+        for page, text in before.items():
+            with open(f"{self.copy}/{page}", encoding="utf-8") as file:
                 self.assertEqual(file.read(), text)
+
+    def sentence(self, text, sentence):
+        """Where a page has a sentence, with any figures."""
+        found = figures.pattern_of(sentence)[0].search(text)
+        self.assertIsNotNone(found, sentence)
+        return found
+
+    def are_each_reported(self, page, text, planted, sentences):
+        """With `planted` in place of `text` on a page, docs/check says of each of the sentences that the page does not have it."""
+        with open(f"{self.copy}/{page}", "w", encoding="utf-8") as file:
+            file.write(planted)
+        found = checked(self.copy, "--unbuilt")
+        with open(f"{self.copy}/{page}", "w", encoding="utf-8") as file:
+            file.write(text)
+        for sentence in sentences:
+            self.assertIn(f"{page} does not say: {' '.join(sentence.split())}: run tools/figures", found)
 
     def is_reported(self, path, text, planted, words):
         """With `planted` in place of `text` in the file `path`, docs/check prints a fault with `words`."""

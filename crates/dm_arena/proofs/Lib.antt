@@ -20,3 +20,4 @@ pub mod OnePair
 pub mod OneLink
 pub mod Unseen
 pub mod Surveying
+mod Words

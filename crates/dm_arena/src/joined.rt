@@ -8,7 +8,7 @@ ghost use Rattle.dm_arena.specs.inner.Walks.{IsJoinedFront, IsJoined};
 ghost use Rattle.dm_arena.specs.inner.Survey.{IsJoinedTo, IsRunFront};
 
 use crate::writing::put_header;
-use dm_blocks::{Entry, FIRST, entry_at};
+use dm_blocks::{Entry, FIRST, spelled_entry};
 use dm_space::Space;
 
 /// Reads the header at a segment from which a list is spelled. If its block is free, it takes in the free blocks
@@ -20,12 +20,12 @@ pub(crate) fn joined_at(space: &Space, segment: u16, upper: bool) -> Entry
     ensures fits { next result.header ≤ 0xFFFF }
     ensures front { (L : List Header) → IsSpelledFrom space.now.memory segment L → (K : List Header) × IsJoinedFront upper space.now.memory L result K }
 {
-    let mut entry = entry_at(space, segment);
+    let mut entry = spelled_entry(space, segment);
     loop {
         if entry.last || !entry.header.is_free(upper) {
             return entry;
         }
-        let after = entry_at(space, entry.header.next());
+        let after = spelled_entry(space, entry.header.next());
         if !after.header.is_free(upper) {
             return entry;
         }
@@ -48,13 +48,13 @@ pub(crate) fn run_at(space: &Space, segment: u16, upper: bool) -> Run
     ensures fits { next result.entry.header ≤ 0xFFFF }
     ensures front { (L : List Header) → IsSpelledFrom space.now.memory segment L → (K : List Header) × IsRunFront upper space.now.memory L result K }
 {
-    let mut entry = entry_at(space, segment);
+    let mut entry = spelled_entry(space, segment);
     let mut several = false;
     loop {
         if entry.last || !entry.header.is_free(upper) {
             return Run { entry, several };
         }
-        let following = entry_at(space, entry.header.next());
+        let following = spelled_entry(space, entry.header.next());
         if !following.header.is_free(upper) {
             return Run { entry, several };
         }

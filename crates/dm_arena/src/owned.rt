@@ -13,7 +13,7 @@ use crate::fit::Fit;
 use crate::refusal::ArenaRefusal;
 use crate::standing::may_split_outside;
 use dm_blocks::{
-    Entry, FIRST, Header, LINK, entry_at, find, find_low, has_second, is_arena, is_linked,
+    Entry, FIRST, Header, LINK, find, find_low, has_second, is_arena, is_linked, spelled_entry,
 };
 use dm_space::Space;
 
@@ -89,7 +89,7 @@ fn grow(space: &Space, entry: Entry, upper: bool) -> Entry
         if grown.last {
             return grown;
         }
-        let after = entry_at(space, grown.header.next());
+        let after = spelled_entry(space, grown.header.next());
         if !after.header.is_free(upper) {
             return grown;
         }
@@ -153,7 +153,7 @@ fn release(space: &mut Space, first: u16, owner: u16)
 {
     let mut here = first;
     'walk: loop {
-        let entry = entry_at(space, here);
+        let entry = spelled_entry(space, here);
         let header = released_of(entry.header, owner);
         let cut = Cut {
             first: header,

@@ -15,7 +15,7 @@ ghost use Rattle.dm_blocks.specs.inner.Standing.{Occupies};
 ghost use Rattle.dm_arena.specs.inner.Standing.{AreOutside, IsNew, MaySplit};
 
 use crate::joined::joined_at;
-use dm_blocks::{Header, entry_at};
+use dm_blocks::{Header, spelled_entry};
 use dm_pool::Block;
 use dm_space::{Place, Space};
 
@@ -97,7 +97,7 @@ fn stands_outside(
 {
     let mut segment = first;
     'walk: loop {
-        let entry = entry_at(space, segment);
+        let entry = spelled_entry(space, segment);
         if is_on_outside(space, segment, low, high, block, offset) {
             return true;
         }

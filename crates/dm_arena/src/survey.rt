@@ -10,7 +10,7 @@ ghost use Rattle.dm_arena.specs.inner.Survey.{IsRunFront, IsSurvey};
 
 use crate::fit::{Choice, Strategy, in_effect, meet};
 use crate::joined::{Run, run_at};
-use dm_blocks::{Entry, FIRST, entry_at, is_arena, low_entry};
+use dm_blocks::{Entry, FIRST, is_arena, low_entry, spelled_entry};
 use dm_space::Space;
 
 /// What a walk over the joined list has found.
@@ -72,7 +72,7 @@ pub(crate) fn survey_all(space: &Space, strategy: Strategy, n: u16, upper: bool)
     let mut several = false;
     let mut segment = FIRST;
     'walk: loop {
-        let entry = entry_at(space, segment);
+        let entry = spelled_entry(space, segment);
         if !entry.header.is_free(upper) {
             choice = meet(strategy, n, choice, Some(entry.header), upper);
             if entry.last {

@@ -1,7 +1,7 @@
 //! An arena header written: the first five bytes of a paragraph (MS-DOS Programmer's Reference, "Arena header").
-ghost use Rattle.std.specs.Prelude.{◌≡◌, ◌+◌, ◌*◌, ◌<◌, ◌≤◌};
+ghost use Rattle.std.specs.Prelude.{◌≡◌, ◌+◌, ◌*◌, ◌/◌, ◌%◌, ◌<◌, ◌≤◌};
 ghost use Rattle.std.specs.Bool.{OnTrue};
-ghost use Rattle.dm_space.specs.Memory.{IsHeld};
+ghost use Rattle.dm_space.specs.Memory.{IsHeld, Memory};
 ghost use Rattle.dm_space.specs.inner.Places.{IsPoked};
 ghost use Rattle.dm_blocks.specs.Chain.{IsHeader, signature_byte, next};
 ghost use Rattle.dm_arena.specs.inner.Walks.{IsHeaderWritten};
@@ -44,6 +44,20 @@ fn set_low_byte(space: &mut Space, segment: u16, offset: u16, value: u8)
     space.set_low_byte(segment, offset, at, value);
 }
 
+/// Writes a word of a header that stands below segment C000h, in RAM, low byte first: at an offset, below 15, of its
+/// paragraph.
+#[inline(always)]
+fn set_low_word(space: &mut Space, segment: u16, offset: u16, value: u16)
+    requires offset { offset < 15 }
+    requires low { segment < 0xC000 }
+    ensures memory { (M : Memory) × IsPoked space.old.memory (16 * segment + offset) (value % 256) M × IsPoked M (16 * segment + (offset + 1)) (value / 256) space.new.memory }
+    ensures scratch { space.new.scratch ≡ space.old.scratch }
+{
+    knows_sizes(space);
+    let at = segment as u32 * 16 + offset as u32;
+    space.set_low_word(segment, offset, at, value);
+}
+
 /// Does what `write_header` does, for a header below segment C000h.
 #[inline(always)]
 fn write_low_header(space: &mut Space, entry: Entry)
@@ -53,13 +67,27 @@ fn write_low_header(space: &mut Space, entry: Entry)
     ensures scratch { space.new.scratch ≡ space.old.scratch }
 {
     let segment = entry.header.segment;
+    set_low_byte(space, segment, 0, entry.signature());
+    set_low_word(space, segment, 1, entry.header.owner);
+    set_low_word(space, segment, 3, entry.header.size);
+}
+
+/// Does what `write_header` does, byte by byte, wherever the header stands.
+#[cold]
+#[inline(never)]
+fn write_high_header(space: &mut Space, entry: Entry)
+    requires { next entry.header ≤ 0xFFFF }
+    ensures memory { IsHeaderWritten space.old.memory entry.header (signature_byte entry.last) space.new.memory }
+    ensures scratch { space.new.scratch ≡ space.old.scratch }
+{
+    let segment = entry.header.segment;
     let owner = entry.header.owner;
     let size = entry.header.size;
-    set_low_byte(space, segment, 0, entry.signature());
-    set_low_byte(space, segment, 1, (owner % 256) as u8);
-    set_low_byte(space, segment, 2, (owner / 256) as u8);
-    set_low_byte(space, segment, 3, (size % 256) as u8);
-    set_low_byte(space, segment, 4, (size / 256) as u8);
+    set_byte(space, segment, 0, entry.signature());
+    set_byte(space, segment, 1, (owner % 256) as u8);
+    set_byte(space, segment, 2, (owner / 256) as u8);
+    set_byte(space, segment, 3, (size % 256) as u8);
+    set_byte(space, segment, 4, (size / 256) as u8);
 }
 
 /// Writes a header's five bytes: signature (`Z` if it is marked last, else `M`), owner and size. Nothing else changes.
@@ -68,17 +96,11 @@ pub(crate) fn write_header(space: &mut Space, entry: Entry)
     ensures memory { IsHeaderWritten space.old.memory entry.header (signature_byte entry.last) space.new.memory }
     ensures scratch { space.new.scratch ≡ space.old.scratch }
 {
-    let segment = entry.header.segment;
-    if segment < END {
-        return write_low_header(space, entry);
+    if entry.header.segment < END {
+        write_low_header(space, entry);
+    } else {
+        write_high_header(space, entry);
     }
-    let owner = entry.header.owner;
-    let size = entry.header.size;
-    set_byte(space, segment, 0, entry.signature());
-    set_byte(space, segment, 1, (owner % 256) as u8);
-    set_byte(space, segment, 2, (owner / 256) as u8);
-    set_byte(space, segment, 3, (size % 256) as u8);
-    set_byte(space, segment, 4, (size / 256) as u8);
 }
 
 /// Whether memory has a header, with its signature, at its segment.

@@ -16,7 +16,7 @@ use Rattle.dm_ins.specs.Preferred.{IsPreferred}
 use Rattle.dm_ins.specs.Spelling.{SpellsAction}
 use Rattle.dm_ins.proofs.Shortest.{action_fits}
 use Rattle.dm_ins.proofs.Preferred.{has_preferred}
-use Rattle.dm_text.specs.Pieces.{digit, byte_digits}
+use Rattle.dm_text.specs.Pieces.{digit, byte_in_text}
 use Rattle.dm_text.specs.Texts.{text_of}
 use Rattle.dm_text.specs.declared.words.written.Size.{Size}
 use Rattle.dm_text.specs.declared.words.written.Words.{Words}
@@ -29,7 +29,7 @@ use Rattle.dm_lines.specs.declared.term.Amount.TheVariants.{Plus}
 use Rattle.dm_lines.specs.declared.statement.Instruction.{Instruction}
 use Rattle.dm_lines.specs.Own.{memory_term, own_term, own_instruction, own_statement}
 use Rattle.dm_lines.specs.Placing.{amount_byte}
-use Rattle.dm_lines.specs.Statements.{Statement, line_of}
+use Rattle.dm_lines.specs.Statements.{Statement, line_statement}
 use Rattle.dm_lines.specs.Laws as line
 use Rattle.dm_lines.specs.Laws.{TermFits, IsComment, data_statement, OwnTermsAreWritten, OutlinesStand, TextsAreRead, TextsArePlain, DataIsRead}
 use Rattle.dm_text.specs.disassembly.Listing.{bytes_at, data_text, instruction_text, IsListedLine, preferred, other, single, Lists, none, more, IsListing}
@@ -87,33 +87,33 @@ digit_printed d = by (nat_lt d 10)
     by true = omega arith
     by false = omega arith
 
-number_printed : (n : ℕ) → Printed (byte_digits n)
-unfolding byte_digits
+number_printed : (n : ℕ) → Printed (byte_in_text n)
+unfolding byte_in_text
 number_printed n = (omega arith, (digit_printed (n / 16), (digit_printed (n % 16), (omega arith, tt))))
 
-numbers_printed : (bs : List ℕ) → Printed (flat_map (λ c. codes "," ++ byte_digits c) bs)
+numbers_printed : (bs : List ℕ) → Printed (flat_map (λ c. codes "," ++ byte_in_text c) bs)
 numbers_printed [] = tt
-numbers_printed (b ∷ bs) = (omega arith, printed-append (byte_digits b) (flat_map (λ c. codes "," ++ byte_digits c) bs) (number_printed b) (numbers_printed bs))
+numbers_printed (b ∷ bs) = (omega arith, printed-append (byte_in_text b) (flat_map (λ c. codes "," ++ byte_in_text c) bs) (number_printed b) (numbers_printed bs))
 
 data_printed : (bs : List ℕ) → Printed (data_text bs)
 data_printed [] = (omega arith, (omega arith, (omega arith, tt)))
-data_printed (b ∷ bs) = (omega arith, (omega arith, (omega arith, printed-append (byte_digits b) (flat_map (λ c. codes "," ++ byte_digits c) bs) (number_printed b) (numbers_printed bs))))
+data_printed (b ∷ bs) = (omega arith, (omega arith, (omega arith, printed-append (byte_in_text b) (flat_map (λ c. codes "," ++ byte_in_text c) bs) (number_printed b) (numbers_printed bs))))
 
-numbers_long : (bs : List ℕ) → length (flat_map (λ c. codes "," ++ byte_digits c) bs) ≡ 5 * length bs
-unfolding byte_digits
+numbers_long : (bs : List ℕ) → length (flat_map (λ c. codes "," ++ byte_in_text c) bs) ≡ 5 * length bs
+unfolding byte_in_text
 numbers_long [] = refl
-numbers_long (b ∷ bs) = let h : length (flat_map (λ c. codes "," ++ byte_digits c) bs) ≡ 5 * length bs = numbers_long bs in omega (arith, h)
+numbers_long (b ∷ bs) = let h : length (flat_map (λ c. codes "," ++ byte_in_text c) bs) ≡ 5 * length bs = numbers_long bs in omega (arith, h)
 
 data_long : (b : ℕ) (bs : List ℕ) → length (line.data_text b bs) ≡ 7 + 5 * length bs
-unfolding byte_digits
-data_long b bs = let h : length (flat_map (λ c. codes "," ++ byte_digits c) bs) ≡ 5 * length bs = numbers_long bs in omega (arith, h)
+unfolding byte_in_text
+data_long b bs = let h : length (flat_map (λ c. codes "," ++ byte_in_text c) bs) ≡ 5 * length bs = numbers_long bs in omega (arith, h)
 
 -- ---- lines
 
 -- a line is a statement with no label that has these bytes at an offset, and is printed
 record IsLine (bytes : List ℕ) (at k : ℕ) (line : List ℕ) : Type 0 where
   statement : Statement
-  is : line_of line ≡ Some statement
+  is : line_statement line ≡ Some statement
   bare : statement.label ≡ None
   long : HasLength statement.item k
   codes : Codes [] at statement.item bytes

@@ -4,7 +4,7 @@ use Rattle.std.proofs.lemmas.List.{append_assoc, append-nil, length-append}
 use Rattle.dm_asm.specs.declared.labels.Labels.{Labels}
 use Rattle.dm_asm.specs.declared.refusal.AssemblyRefusal.TheVariants as refusal
 use Rattle.dm_asm.specs.Lines.{lines_of}
-use Rattle.dm_asm.specs.Labels.{IsFree, find}
+use Rattle.dm_asm.specs.Labels.{IsFree, place_of_label}
 use Rattle.dm_asm.specs.inner.Kept.{AreKept, AreNear, AreLaid}
 use Rattle.dm_asm.specs.Programs.{Sized, Reads, total, own_label, labels_of, AreRead, AreCoded, joined, Laid, longest_program, IsBehindGood, IsBehindCoded, Assembles, Refuses, syntax, twice, too_long, unknown, range}
 use Rattle.dm_text.specs.words.Laws.{WordsAreOne}
@@ -12,7 +12,7 @@ use Rattle.dm_asm.specs.Codes.{Codes, HasLength, Knows}
 use Rattle.dm_asm.specs.declared.known.Line.{Line}
 use Rattle.dm_asm.specs.declared.known.Line.TheVariants as line
 use Rattle.dm_asm.specs.declared.known.Known.{Known}
-use Rattle.dm_lines.specs.Statements.{Statement, line_of}
+use Rattle.dm_lines.specs.Statements.{Statement, line_statement}
 use Rattle.dm_asm.specs.inner.Fixed.{AreKnown, Keeps}
 use Rattle.dm_asm.proofs.Placed.{not_none, some_same}
 use Rattle.dm_asm.proofs.Remembered.{first_known}
@@ -20,10 +20,10 @@ use Rattle.dm_asm.proofs.Stated.{total_append, labels_more, laid_more, first_rea
 
 -- ---- lines
 
-pub no_statement : (line : List ℕ) → line_of line ≡ None → (x : Sized) → Reads line x → ⊥
-no_statement line e x r = not_none (line_of line) x.statement e r.is
+pub no_statement : (line : List ℕ) → line_statement line ≡ None → (x : Sized) → Reads line x → ⊥
+no_statement line e x r = not_none (line_statement line) x.statement e r.is
 
-pub no_length : (line : List ℕ) (s : Statement) → line_of line ≡ Some s → ((n : ℕ) → HasLength s.item n → ⊥) → (x : Sized) → Reads line x → ⊥
+pub no_length : (line : List ℕ) (s : Statement) → line_statement line ≡ Some s → ((n : ℕ) → HasLength s.item n → ⊥) → (x : Sized) → Reads line x → ⊥
 no_length line s e none x r = none x.long (subst (λ (t : Statement). HasLength t.item x.long) (some_same x.statement s (sym r.is ∙ e)) r.long)
 
 -- ---- the first pass
@@ -116,7 +116,7 @@ no_next text rest behind line number kept known lines codes out l e none =
     none f.first f.reads
 
 pub near : (text : List ℕ) (kept : Labels) (known : Known) → AreLaid text kept known → AreNear kept
-near text kept known a name = subst (λ (r : Option ℕ). IfSome r (λ p. p < 65536)) (sym (a.keeps name)) (by (find name (labels_of a.statements)) (place_fits 0x100 a.statements name))
+near text kept known a name = subst (λ (r : Option ℕ). IfSome r (λ p. p < 65536)) (sym (a.keeps name)) (by (place_of_label name (labels_of a.statements)) (place_fits 0x100 a.statements name))
   where
     by : (r : Option ℕ) → IfSome r (λ p. p ≤ 0x100 + total a.statements) → IfSome r (λ p. p < 65536)
     by None h = tt

@@ -5,7 +5,7 @@ use Rattle.std.specs.Str.{bytes_eq}
 use Rattle.dm_lines.specs.declared.token.Name as Name'
 use Rattle.dm_lines.specs.Statements.{Item, Statement, nothing, instruction, bytes, words}
 use Rattle.dm_text.specs.words.Laws.{WordsAreOne}
-use Rattle.dm_asm.specs.Labels.{Label, IsFree, find}
+use Rattle.dm_asm.specs.Labels.{Label, IsFree, place_of_label}
 use Rattle.dm_lines.specs.Placing.{amount_byte}
 use Rattle.dm_asm.specs.Codes.{Codes, HasLength, value_word}
 use Rattle.dm_ins.specs.Spelling.{word_bytes}
@@ -99,15 +99,15 @@ first_fits : (t : Bool) (at n : ℕ) (r : Option ℕ) → IfSome r (λ p. p ≤ 
 first_fits true at n r h = omega arith
 first_fits false at n r h = h
 
-label_fits : (label : Option Name'.Name) (at n : ℕ) (rest : List Label) (name : Name'.Name) → IfSome (find name rest) (λ p. p ≤ at + n) → IfSome (find name (own_label label at ++ rest)) (λ p. p ≤ at + n)
+label_fits : (label : Option Name'.Name) (at n : ℕ) (rest : List Label) (name : Name'.Name) → IfSome (place_of_label name rest) (λ p. p ≤ at + n) → IfSome (place_of_label name (own_label label at ++ rest)) (λ p. p ≤ at + n)
 label_fits None at n rest name h = h
-label_fits (Some l) at n rest name h = first_fits (bytes_eq l.bytes name.bytes) at n (find name rest) h
+label_fits (Some l) at n rest name h = first_fits (bytes_eq l.bytes name.bytes) at n (place_of_label name rest) h
 
-pub place_fits : (at : ℕ) (xs : List Sized) (name : Name'.Name) → IfSome (find name (labels_from at xs)) (λ p. p ≤ at + total xs)
+pub place_fits : (at : ℕ) (xs : List Sized) (name : Name'.Name) → IfSome (place_of_label name (labels_from at xs)) (λ p. p ≤ at + total xs)
 place_fits at [] name = tt
 place_fits at (x ∷ xs) name =
     label_fits x.statement.label at (x.long + total xs) (labels_from (at + x.long) xs) name
-    (later_fits at x.long (total xs) (find name (labels_from (at + x.long) xs)) (place_fits (at + x.long) xs name))
+    (later_fits at x.long (total xs) (place_of_label name (labels_from (at + x.long) xs)) (place_fits (at + x.long) xs name))
 
 -- ---- bytes
 

@@ -13,13 +13,13 @@ pub record Label : Type 0 where
   pub place : ℕ
 
 -- the place of the first label with this name; None if there is none
-abbrev pub find : Name'.Name → List Label → Option ℕ
-find name [] = None
-find name (l ∷ ls) = if bytes_eq l.name.bytes name.bytes then Some l.place else find name ls
+abbrev pub place_of_label : Name'.Name → List Label → Option ℕ
+place_of_label name [] = None
+place_of_label name (l ∷ ls) = if bytes_eq l.name.bytes name.bytes then Some l.place else place_of_label name ls
 
 -- the place of the label of a value; None if it is unknown, and 0 for a number alone
 abbrev pub label_place : List Label → Value → Option ℕ
-label_place labels v = option_map_or (λ name. find name labels) v.label (Some 0)
+label_place labels v = option_map_or (λ name. place_of_label name labels) v.label (Some 0)
 
 -- the place of the label of an operand; None if it is unknown, and 0 if the operand names none
 abbrev pub term_place : List Label → Term → Option ℕ
@@ -30,4 +30,4 @@ term_place labels _ = Some 0
 -- no label of the list has this name; true without a name
 abbrev pub IsFree : Option Name'.Name → List Label → Type 0
 IsFree None labels = Unit {0}
-IsFree (Some name) labels = find name labels ≡ None
+IsFree (Some name) labels = place_of_label name labels ≡ None

@@ -5,11 +5,11 @@
 -- (docs/DECISIONS.md).
 use Rattle.std.specs.Prelude.{◌≡◌, ℕ, ◌+◌, ◌<◌, ◌≤◌, List, [], ◌∷◌, ◌++◌, length, Option, Some, None, Result, Ok, Err}
 use Rattle.dm_lines.specs.declared.token.Name as Name'
-use Rattle.dm_lines.specs.Statements.{Statement, line_of}
+use Rattle.dm_lines.specs.Statements.{Statement, line_statement}
 use Rattle.dm_asm.specs.declared.refusal.AssemblyRefusal.{AssemblyRefusal}
 use Rattle.dm_asm.specs.declared.refusal.AssemblyRefusal.TheVariants as refusal
 use Rattle.dm_asm.specs.Lines.{lines_of}
-use Rattle.dm_asm.specs.Labels.{Label, IsFree, find}
+use Rattle.dm_asm.specs.Labels.{Label, IsFree, place_of_label}
 use Rattle.dm_asm.specs.Codes.{Codes, HasLength, Knows}
 
 -- ---- statements and labels
@@ -21,7 +21,7 @@ pub record Sized : Type 0 where
 
 -- the line stands for the statement of x, whose item has the length of x
 pub record Reads (line : List ℕ) (x : Sized) : Type 0 where
-  pub is : line_of line ≡ Some x.statement
+  pub is : line_statement line ≡ Some x.statement
   pub long : HasLength x.statement.item x.long
 
 -- the lines are the statements xs, one each
@@ -53,7 +53,7 @@ labels_of xs = labels_from 0x100 xs
 -- no two labels have the same name
 abbrev pub AreOnce : List Label → Type 0
 AreOnce [] = Unit {0}
-AreOnce (l ∷ ls) = (find l.name ls ≡ None) × AreOnce ls
+AreOnce (l ∷ ls) = (place_of_label l.name ls ≡ None) × AreOnce ls
 
 -- the lines are the statements xs, and no label is there twice
 pub record Laid (lines : List (List ℕ)) (xs : List Sized) : Type 0 where

@@ -1,7 +1,7 @@
 //! Labels and their places. A place is an offset in the program's segment.
 
 ghost use Rattle.std.specs.Prelude.{◌≡◌, ◌++◌, ◌∷◌, [], None, IfSome, IfOk, true, false, ◌<◌, ◌^◌};
-ghost use Rattle.dm_asm.specs.Labels.{find as find_of, label_place as place_at, term_place as term_at};
+ghost use Rattle.dm_asm.specs.Labels.{place_of_label as find_of, label_place as place_at, term_place as term_at};
 ghost use Rattle.dm_asm.specs.inner.Kept.{AreKept, AreNear};
 ghost use Rattle.dm_asm.specs.Labels.{Label};
 ghost use Rattle.std.specs.Prelude.{ℕ, List};

@@ -109,7 +109,7 @@ aaaaaaaaaaaaaaaaaaaaaaaaaaaaaaaa:| line 1: syntax
 JMP nil/*65279 CLC| too long
 *65279 CLC/@| line 65280: syntax";
 
-/// Definitions: dm_asm Lines lines_of onto ends_line; dm_asm Labels find IsFree label_place term_place
+/// Definitions: dm_asm Lines lines_of onto ends_line; dm_asm Labels place_of_label IsFree label_place term_place
 /// Definitions: dm_asm Codes HasLength HasShape outlined Codes IsCoded AreWordsOf placed_words written_for value_word
 /// Definitions: dm_ins Spelling word_bytes
 /// Definitions: dm_asm Programs Assembles Laid AreRead Reads labels_of AreOnce AreCoded total joined longest_program

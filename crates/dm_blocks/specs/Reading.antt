@@ -1,4 +1,4 @@
--- What the functions that read and search headers return: `header_at`, `entry_at`, `find` and `before_link`.
+-- What the functions that read and search headers return: `header_at`, `spelled_entry`, `find` and `before_link`.
 use Rattle.std.specs.Prelude.{Bool, List, None, Option, Some, [], false, true, ℕ, ◌++◌, ◌+◌, ◌-◌, ◌<◌, ◌∷◌, ◌≡◌, ◌≢◌, ◌≤◌}
 use Rattle.dm_space.specs.Memory.{Memory}
 use Rattle.dm_blocks.specs.declared.header.Header.{Header}

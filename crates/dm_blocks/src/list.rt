@@ -20,7 +20,7 @@ pub const LINK: u16 = 0x9FFF;
 /// Reads the header at a segment from which memory spells a list: a step of a walk over a list that is known to be
 /// whole.
 #[inline(always)]
-pub fn entry_at(space: &Space, segment: u16) -> Entry
+pub fn spelled_entry(space: &Space, segment: u16) -> Entry
     requires { (L : List Header) × IsSpelledFrom space.now.memory segment L }
     ensures there { result.header.segment ≡ segment }
     ensures fits { next result.header ≤ 0xFFFF }
@@ -85,7 +85,7 @@ pub fn find(space: &Space, segment: u16) -> Option<Entry>
 {
     let mut here = FIRST;
     'walk: loop {
-        let entry = entry_at(space, here);
+        let entry = spelled_entry(space, here);
         if here + 1 == segment {
             return Some(entry);
         }
@@ -113,7 +113,7 @@ pub fn before_link(space: &Space) -> Option<Entry>
 {
     let mut here = FIRST;
     'walk: loop {
-        let entry = entry_at(space, here);
+        let entry = spelled_entry(space, here);
         if entry.header.next() == LINK {
             return Some(entry);
         }
@@ -138,7 +138,7 @@ pub(crate) fn catch_up(space: &Space, cursor: Option<u16>, segment: u16) -> Opti
         if here >= segment {
             return Some(here);
         }
-        let entry = entry_at(space, here);
+        let entry = spelled_entry(space, here);
         moved = if entry.last {
             None
         } else {

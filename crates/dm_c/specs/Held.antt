@@ -29,5 +29,5 @@ abbrev pub mark_held : ℕ
 mark_held = 0x6D657A67756C6431
 
 -- the mark is `mark_held` exactly if there is a machine
-abbrev pub IsMarked : Option Hosted → ℕ → Type 0
-IsMarked value mark = is_some value ≡ (mark == mark_held)
+abbrev pub HasItsMark : Option Hosted → ℕ → Type 0
+HasItsMark value mark = is_some value ≡ (mark == mark_held)

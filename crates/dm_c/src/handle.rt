@@ -1,7 +1,7 @@
 //! The handle by which C holds a machine.
 ghost use Rattle.std.specs.Prelude.{◌≡◌, Some, None, is_some, option_map};
 ghost use denote.RawPtr.{null_ptr};
-ghost use Rattle.dm_c.specs.Held.{IsMarked};
+ghost use Rattle.dm_c.specs.Held.{HasItsMark};
 
 use crate::inside::Inside;
 use crate::loose::Loose;
@@ -17,7 +17,7 @@ const HELD: u64 = 0x6D65_7A67_756C_6431;
 pub struct Handle {
     pub(crate) inside: Inside,
     mark: u64,
-    ghost marked: { IsMarked inside.value mark },
+    ghost marked: { HasItsMark inside.value mark },
 }
 
 impl Handle {

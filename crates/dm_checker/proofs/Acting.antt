@@ -17,7 +17,7 @@ use Rattle.dm_ins.specs.Ins.{BeginsWith}
 use Rattle.dm_machine.specs.Run.{Answers}
 use Rattle.dm_findings.specs.declared.calls.Call.{Call}
 use Rattle.dm_findings.specs.declared.finding.Act.TheVariants as act
-use Rattle.dm_findings.specs.Calls.{call_by, call_of}
+use Rattle.dm_findings.specs.Calls.{call_at, call_of}
 use Rattle.dm_checker.specs.declared.acts.Before.{Before}
 use Rattle.dm_checker.specs.Findings.{IsAct, called, instructed}
 use Rattle.dm_checker.specs.inner.Steps.{IsBefore, IsUnlisted, IsNextAct, an_instruction, no_instruction}
@@ -61,7 +61,7 @@ decoded_next b (Some (i, k)) none d s h =
 -- ---- steps in which nothing acts
 
 -- an answer that comes where no call is served
-uncalled : (s : State) (x : Answer) (o : Option EntryPoint) → call_by s.cpu o ≡ None → Acts s o x → Instructs s x
+uncalled : (s : State) (x : Answer) (o : Option EntryPoint) → call_at s.cpu o ≡ None → Acts s o x → Instructs s x
 uncalled s x (Some (entry_point.Service service)) none h = absurd (some_none _ none)
 uncalled s x (Some (entry_point.Driver driver)) none h = absurd (some_none _ none)
 uncalled s x None none h = h

@@ -14,14 +14,14 @@ use Rattle.dm_space.specs.Places.{IsShaped}
 use Rattle.dm_space.specs.EightBytes.{little}
 use Rattle.dm_space.proofs.Places.{peek-place, place-windows}
 use Rattle.dm_touches.specs.declared.elements.FarAddress.{FarAddress}
-use Rattle.dm_touches.specs.Elements.{linear_of, place_of, bytes_of}
-use Rattle.dm_touches.specs.Laws.{Keeps}
+use Rattle.dm_touches.specs.Elements.{linear_of, byte_place, bytes_of}
+use Rattle.dm_touches.specs.Laws.{KeepsOthers}
 use Rattle.dm_checker.specs.declared.watch.Watched.{Watched}
 use Rattle.dm_checker.specs.declared.watch.Broken.{Broken}
 use Rattle.dm_checker.specs.declared.watch.Watch.{Watch}
 use Rattle.dm_checker.specs.Watching.{IsBits, IsWatched, IsBrokenIn, IsWatch, IsSeen}
 use Rattle.dm_touches.specs.declared.elements.Elements.{Elements}
-use Rattle.dm_checker.specs.Clear.{is_free_of, is_at, is_high, is_memory, is_write_clear, IsClear}
+use Rattle.dm_checker.specs.Clear.{is_free_of, is_at, is_high, keeps_writes, is_write_clear, IsClear}
 use Rattle.dm_checker.proofs.Unfound.{and_left, and_right, not_false, are_all, elements_all}
 
 -- ---- places
@@ -79,7 +79,7 @@ goes_by m xs a false false false false true h x t = absurd (false≢true t)
 goes_by m xs a false false false false false true x t = to_ram x
 goes_by m xs a false false false false false false x t = absurd (false≢true t)
 
-goes : (m : Memory) (xs : List Watched) (a : ℕ) → is_memory m xs a ≡ true → Goes m xs a
+goes : (m : Memory) (xs : List Watched) (a : ℕ) → keeps_writes m xs a ≡ true → Goes m xs a
 unfolding place
 goes m xs a t = goes_by m xs a (nat_lt a 0xC0000) (nat_lt a 0xD0000) (nat_lt a 0xE0000) (nat_lt a 0xF0000) (nat_lt a 0x100000) (nat_lt a 0x10FFF0) refl t
 
@@ -118,19 +118,19 @@ left_tail xs y ys l = record {
 }
 
 -- none of the bytes that are written is at the place of a byte of the header
-all_apart : (m : Memory) (xs : List Watched) (y : Watched) (ys : List Watched) (k : ℕ) → IsLeft xs (y ∷ ys) → k < 5 → (fs : List FarAddress) → are_all (is_write_clear m xs) m.a20 fs ≡ true → All (λ (f : FarAddress). place_of m f ≢ place m (16 * y.header.segment + k)) fs
-all_apart m xs y ys k l less [] e = All-nil (λ (g : FarAddress). place_of m g ≢ place m (16 * y.header.segment + k))
+all_apart : (m : Memory) (xs : List Watched) (y : Watched) (ys : List Watched) (k : ℕ) → IsLeft xs (y ∷ ys) → k < 5 → (fs : List FarAddress) → are_all (is_write_clear m xs) m.a20 fs ≡ true → All (λ (f : FarAddress). byte_place m f ≢ place m (16 * y.header.segment + k)) fs
+all_apart m xs y ys k l less [] e = All-nil (λ (g : FarAddress). byte_place m g ≢ place m (16 * y.header.segment + k))
 all_apart m xs y ys k l less (f ∷ fs) e =
     let a = linear_of m.a20 f in
     let here : is_write_clear m xs a ≡ true = and_left (is_write_clear m xs a) _ e in
-    let free : list_any (is_at a) xs ≡ false = not_false _ (and_right (is_memory m xs a) _ here) in
+    let free : list_any (is_at a) xs ≡ false = not_false _ (and_right (keeps_writes m xs a) _ here) in
     let at : is_at a y ≡ false = or_left (is_at a y) (list_any (is_at a) ys) (l.other a free) in
     let other : (y.header.segment == a / 16) ≡ false = or_right (is_free_of a y) (y.header.segment == a / 16) at in
-    All-cons (λ (g : FarAddress). place_of m g ≢ place m (16 * y.header.segment + k)) f fs
-    (apart m xs y a k (λ none. or_left (is_high y) (list_any is_high ys) (l.low none)) other less (goes m xs a (and_left (is_memory m xs a) _ here)))
+    All-cons (λ (g : FarAddress). byte_place m g ≢ place m (16 * y.header.segment + k)) f fs
+    (apart m xs y a k (λ none. or_left (is_high y) (list_any is_high ys) (l.low none)) other less (goes m xs a (and_left (keeps_writes m xs a) _ here)))
     (all_apart m xs y ys k l less fs (and_right (is_write_clear m xs a) _ e))
 
-same_byte : (m n : Memory) (xs : List Watched) (y : Watched) (ys : List Watched) (fs : List FarAddress) → Keeps m n fs → are_all (is_write_clear m xs) m.a20 fs ≡ true → IsLeft xs (y ∷ ys) → (k : ℕ) → k < 5 → peek n (16 * y.header.segment + k) ≡ peek m (16 * y.header.segment + k)
+same_byte : (m n : Memory) (xs : List Watched) (y : Watched) (ys : List Watched) (fs : List FarAddress) → KeepsOthers m n fs → are_all (is_write_clear m xs) m.a20 fs ≡ true → IsLeft xs (y ∷ ys) → (k : ℕ) → k < 5 → peek n (16 * y.header.segment + k) ≡ peek m (16 * y.header.segment + k)
 same_byte m n xs y ys fs keeps e l k less =
     let a = 16 * y.header.segment + k in
     peek-place n a ∙ ap (byte_at n) (place-windows m n a keeps.shape.windows) ∙ keeps.kept (place m a) (all_apart m xs y ys k l less fs e) ∙ sym (peek-place m a)
@@ -144,7 +144,7 @@ bits_kept m n h bits same x = record {
   bytes = λ k less. (let F : ℕ → Type 0 = λ v. v < 256 in subst F (sym (same k less)) (x.bytes k less));
 }
 
-headers_kept : (m n : Memory) (xs ys : List Watched) (fs : List FarAddress) → Keeps m n fs → are_all (is_write_clear m xs) m.a20 fs ≡ true → IsLeft xs ys → All (IsWatched m) ys → All (IsWatched n) ys
+headers_kept : (m n : Memory) (xs ys : List Watched) (fs : List FarAddress) → KeepsOthers m n fs → are_all (is_write_clear m xs) m.a20 fs ≡ true → IsLeft xs ys → All (IsWatched m) ys → All (IsWatched n) ys
 headers_kept m n xs [] fs keeps e l w = All-nil (IsWatched n)
 headers_kept m n xs (y ∷ ys) fs keeps e l w =
     All-cons (IsWatched n) y ys
@@ -172,7 +172,7 @@ broken_none : (m : Memory) (o : Option Broken) → o ≡ None → IsBrokenIn m o
 broken_none m None e = tt
 broken_none m (Some b) e = absurd (cc)
 
-pub seen_clear : (upper : Bool) (m n : Memory) (w : Watch) (rs ws : Elements) → IsWatch upper m w → ((k : ℕ) → IfSome (slice_index_or m.windows k None) (IsPage m)) → Keeps m n (bytes_of ws) → IsClear m w rs ws → IsSeen upper n w
+pub seen_clear : (upper : Bool) (m n : Memory) (w : Watch) (rs ws : Elements) → IsWatch upper m w → ((k : ℕ) → IfSome (slice_index_or m.windows k None) (IsPage m)) → KeepsOthers m n (bytes_of ws) → IsClear m w rs ws → IsSeen upper n w
 seen_clear upper m n w rs ws x pages keeps c =
     let all : IsLeft w.headers.items w.headers.items = record { low = λ e. e; other = λ a e. e } in
     record {

@@ -12,7 +12,7 @@ use Rattle.dm_blocks.specs.declared.header.Header.{Header}
 use Rattle.dm_touches.specs.Found.{is_in_free}
 use Rattle.dm_touches.specs.quiet.Marks.{level_at, lies_below, Marked}
 use Rattle.dm_checker.specs.declared.watch.Watched.{Watched}
-use Rattle.dm_checker.specs.Clear.{is_free_of, is_at, is_high, is_memory}
+use Rattle.dm_checker.specs.Clear.{is_free_of, is_at, is_high, keeps_writes}
 use Rattle.dm_checker.proofs.Unfound.{and_left, and_right, not_false}
 use Rattle.dm_checker.specs.Marking.{Keeps, HasMap, HasHeader, HasFree, IsMarked}
 
@@ -126,7 +126,7 @@ memory_by m ws ms a false false false false false false x e p q r s t u =
     let low : 0x10FFF0 ≤ a = grind (arith, nat_tests) in
     absurd (not_below ms 1 a e (x.top (a / 16) (omega (arith, low))))
 
-is_memory_at : (m : Memory) (ws : List Watched) (ms : List ℕ) (a : ℕ) → HasMap m.windows (list_any is_high ws) ms → lies_below ms 1 a ≡ true → is_memory m ws a ≡ true
+is_memory_at : (m : Memory) (ws : List Watched) (ms : List ℕ) (a : ℕ) → HasMap m.windows (list_any is_high ws) ms → lies_below ms 1 a ≡ true → keeps_writes m ws a ≡ true
 is_memory_at m ws ms a x e = memory_by m ws ms a _ _ _ _ _ _ x e refl refl refl refl refl refl
 
 -- ---- all marks

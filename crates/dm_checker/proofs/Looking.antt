@@ -15,12 +15,12 @@ use Rattle.dm_checker.specs.declared.watch.Watched.{Watched}
 use Rattle.dm_checker.specs.declared.watch.Watch.{Watch}
 use Rattle.dm_services.specs.declared.functions.Function.{Function}
 use Rattle.dm_services.specs.Functions.{function_of}
-use Rattle.dm_origins.specs.outcomes.Calls.{allocates, frees, resizes, arranges_lists, is_arena, ends, keeps, is_ending, is_starting, arranges, call_findings}
+use Rattle.dm_origins.specs.outcomes.Calls.{allocates, frees, resizes, arranges_lists, is_arena_function, ends_for_good, keeps, is_ending, is_starting, arranges, call_findings}
 use Rattle.dm_checker.specs.Freed.{freed_twice}
 use Rattle.dm_checker.specs.Headers.{overwritten, mapped_away}
 use Rattle.dm_checker.specs.Shown.{Shown}
 use Rattle.dm_checker.specs.Arranged.{other_freed, stack_freed, not_resized, if_whole, arranged_by, arranged}
-use Rattle.dm_checker.specs.Findings.{turned, all_overwritten, findings, FindsTouched, Finds}
+use Rattle.dm_checker.specs.Findings.{turn_found, all_overwritten, findings, FindsTouched, Finds}
 use Rattle.dm_checker.specs.Watching.{header_of, broken_at, shown_of, IsWatched, IsWatch, IsSeen}
 use Rattle.dm_checker.specs.inner.Steps.{IsBefore, Looks}
 use Rattle.dm_checker.proofs.Leaked.{five_more}
@@ -44,7 +44,7 @@ abbrev found_of : Cpu → Cpu → Option Call → Memory → Memory → Watch �
 found_of c d call S T old new =
     all_overwritten (arranges c call) S T (map header_of old.headers.items)
     ++ flat_map (mapped_away S T) (map header_of old.headers.items)
-    ++ turned (broken_at old.broken) (broken_at new.broken)
+    ++ turn_found (broken_at old.broken) (broken_at new.broken)
     ++ freed_twice c d call (map header_of old.headers.items)
     ++ call_findings c d call
 
@@ -72,7 +72,7 @@ with_touched s t old new a b before after e f touched x = record {
   is = ap₂ (λ (l m : List Finding). touched ++ (l ++ m)) e f ∙ sym (append_assoc touched (findings s t (shown_of old) (shown_of new)) (arranged s t (shown_of old) (shown_of new)));
 }
 
-pub looks_by : (s t : State) (b : Before) (d : Cpu) (T : Memory) (old new : Watch) (ws vs : List Watched) (out u v w x y z : List Finding) → IsBefore s b → IsWatch s.upper s.memory old → IsWatch t.upper t.memory new → d ≡ t.cpu → T ≡ t.memory → ws ≡ old.headers.items → u ≡ out ++ all_overwritten (arranges b.cpu b.call) s.memory T (map header_of old.headers.items) → v ≡ u ++ flat_map (mapped_away s.memory T) (map header_of old.headers.items) → w ≡ v ++ turned (broken_at old.broken) (broken_at new.broken) → vs ≡ old.headers.items → x ≡ w ++ freed_twice b.cpu d b.call (map header_of ws) → y ≡ x ++ call_findings b.cpu d b.call → z ≡ y ++ arranged_by b.a20 b.present b.cpu d b.call (map header_of vs) (shown_of new) → Looks s t old out z
+pub looks_by : (s t : State) (b : Before) (d : Cpu) (T : Memory) (old new : Watch) (ws vs : List Watched) (out u v w x y z : List Finding) → IsBefore s b → IsWatch s.upper s.memory old → IsWatch t.upper t.memory new → d ≡ t.cpu → T ≡ t.memory → ws ≡ old.headers.items → u ≡ out ++ all_overwritten (arranges b.cpu b.call) s.memory T (map header_of old.headers.items) → v ≡ u ++ flat_map (mapped_away s.memory T) (map header_of old.headers.items) → w ≡ v ++ turn_found (broken_at old.broken) (broken_at new.broken) → vs ≡ old.headers.items → x ≡ w ++ freed_twice b.cpu d b.call (map header_of ws) → y ≡ x ++ call_findings b.cpu d b.call → z ≡ y ++ arranged_by b.a20 b.present b.cpu d b.call (map header_of vs) (shown_of new) → Looks s t old out z
 looks_by s t b d T old new ws vs out u v w x y z h before after e f same p q r others o n m =
     let freed = o ∙ ap (λ (l : List Watched). w ++ freed_twice b.cpu d b.call (map header_of l)) same in
     let five : y ≡ out ++ findings s t (shown_of old) (shown_of new) = five_more out _ _ _ _ _ u v w x y p q r freed n ∙ ap (λ (l : List Finding). out ++ l) (same_found s t b d T old new h e f) in
@@ -93,9 +93,9 @@ or_right : (a b : Bool) → (a || b) ≡ false → b ≡ false
 or_right true b e = (let z : true ≡ false = e in cc)
 or_right false b e = e
 
-not_freeing : (c : Cpu) (f : Function) → (is_arena f || is_ending f || is_starting c f) ≡ false → frees f ≡ false
+not_freeing : (c : Cpu) (f : Function) → (is_arena_function f || is_ending f || is_starting c f) ≡ false → frees f ≡ false
 not_freeing c f e =
-    let arena : is_arena f ≡ false = or_left (is_arena f) (is_ending f) (or_left _ (is_starting c f) e) in
+    let arena : is_arena_function f ≡ false = or_left (is_arena_function f) (is_ending f) (or_left _ (is_starting c f) e) in
     or_right (allocates f) (frees f) (or_left _ (resizes f) (or_left _ (arranges_lists f) arena))
 
 freed_none : (c d : Cpu) (call : Option Call) (hs : List Header) → arranges c call ≡ false → freed_twice c d call hs ≡ []
@@ -109,13 +109,13 @@ freed_none c d (Some (ExtendedMemory number)) hs e = refl
 freed_none c d (Some (Interrupt number)) hs e = refl
 
 -- functions that do not free, resize or keep
-not_arranging : (c : Cpu) (f : Function) → (is_arena f || is_ending f || is_starting c f) ≡ false → (frees f ≡ false) × (resizes f ≡ false) × (keeps f ≡ false)
+not_arranging : (c : Cpu) (f : Function) → (is_arena_function f || is_ending f || is_starting c f) ≡ false → (frees f ≡ false) × (resizes f ≡ false) × (keeps f ≡ false)
 not_arranging c f e =
-    let both = or_left (is_arena f || is_ending f) (is_starting c f) e in
-    let arena : is_arena f ≡ false = or_left (is_arena f) (is_ending f) both in
-    let ending : is_ending f ≡ false = or_right (is_arena f) (is_ending f) both in
+    let both = or_left (is_arena_function f || is_ending f) (is_starting c f) e in
+    let arena : is_arena_function f ≡ false = or_left (is_arena_function f) (is_ending f) both in
+    let ending : is_ending f ≡ false = or_right (is_arena_function f) (is_ending f) both in
     let lists : (allocates f || frees f || resizes f) ≡ false = or_left _ (arranges_lists f) arena in
-    (not_freeing c f e, or_right (allocates f || frees f) (resizes f) lists, or_right (ends f) (keeps f) ending)
+    (not_freeing c f e, or_right (allocates f || frees f) (resizes f) lists, or_right (ends_for_good f) (keeps f) ending)
 
 if_whole_none : (o : Option ℕ) (fs : List Finding) → fs ≡ [] → if_whole o fs ≡ []
 if_whole_none None fs e = e

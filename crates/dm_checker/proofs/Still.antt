@@ -7,11 +7,11 @@ use Rattle.dm_findings.specs.Calls.{call_of}
 use Rattle.dm_checker.specs.declared.watch.Watch.{Watch}
 use Rattle.dm_origins.specs.outcomes.Calls.{arranges, call_findings}
 use Rattle.dm_checker.specs.Freed.{freed_twice}
-use Rattle.dm_checker.specs.Findings.{turned, findings}
+use Rattle.dm_checker.specs.Findings.{turn_found, findings}
 use Rattle.dm_checker.specs.Watching.{header_of, broken_at, shown_of, IsWatch, IsSeen}
 use Rattle.dm_checker.proofs.Seen.{seen_overwritten, seen_mapped_away}
 
-pub seen_turned : (o : Option ℕ) → turned o o ≡ []
+pub seen_turned : (o : Option ℕ) → turn_found o o ≡ []
 seen_turned None = refl
 seen_turned (Some at) = refl
 

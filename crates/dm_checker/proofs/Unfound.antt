@@ -18,7 +18,7 @@ use Rattle.dm_touches.specs.declared.elements.Element.TheVariants as element
 use Rattle.dm_touches.specs.declared.elements.Elements.{Elements}
 use Rattle.dm_findings.specs.declared.finding.Finding.TheVariants.{RomWritten, NothingWritten}
 use Rattle.dm_touches.specs.quiet.Marks.{passes_if, pass}
-use Rattle.dm_checker.specs.Clear.{is_free_of, is_at, is_high, is_memory, is_write_clear}
+use Rattle.dm_checker.specs.Clear.{is_free_of, is_at, is_high, keeps_writes, is_write_clear}
 
 -- ---- tests
 
@@ -134,7 +134,7 @@ other_by a false false false true g h w p q r s t u e = (grind (arith, nat_tests
 other_by a false false false false true h w p q r s t u e = absurd (false≢true e)
 other_by a false false false false false h w p q r s t u e = (grind (arith, nat_tests), grind (arith, nat_tests))
 
-memory_tests : (m : Memory) (xs : List Watched) (a : ℕ) → is_memory m xs a ≡ true → IsOther a
+memory_tests : (m : Memory) (xs : List Watched) (a : ℕ) → keeps_writes m xs a ≡ true → IsOther a
 memory_tests m xs a e = other_by a _ _ _ _ _ _ _ refl refl refl refl refl refl e
 
 -- a byte of a window that shows no page is no memory
@@ -163,22 +163,22 @@ out_by m xs k a false false true f g h small none p q r s t u e = grind (arith, 
 out_by m xs k a false false false true g h small none p q r s t u e = in_window m xs k a _ small none refl e
 out_by m xs k a false false false false g h small none p q r s t u e = grind (arith, nat_tests)
 
-window_test : (m : Memory) (xs : List Watched) (k a : ℕ) → k < 4 → slice_index_or m.windows k None ≡ None → is_memory m xs a ≡ true → IsOut k a
+window_test : (m : Memory) (xs : List Watched) (k a : ℕ) → k < 4 → slice_index_or m.windows k None ≡ None → keeps_writes m xs a ≡ true → IsOut k a
 window_test m xs k a small none e = out_by m xs k a _ _ _ _ _ _ small none refl refl refl refl refl refl e
 
-window_by : (m : Memory) (xs : List Watched) (ws : List FarAddress) (k : ℕ) (o : Option ℕ) → k < 4 → are_all (is_memory m xs) m.a20 ws ≡ true → slice_index_or m.windows k None ≡ o → window_lost m ws k ≡ []
+window_by : (m : Memory) (xs : List Watched) (ws : List FarAddress) (k : ℕ) (o : Option ℕ) → k < 4 → are_all (keeps_writes m xs) m.a20 ws ≡ true → slice_index_or m.windows k None ≡ o → window_lost m ws k ≡ []
 window_by m xs ws k (Some page) small e is = rw is refl
 window_by m xs ws k None small e is =
-    let gone : first_that m.a20 (is_between (0xE0000 + 0x4000 * k) (0xE0000 + 0x4000 * k + 0x4000)) ws ≡ None = none_that (is_between (0xE0000 + 0x4000 * k) (0xE0000 + 0x4000 * k + 0x4000)) m.a20 ws (all_weaker (is_memory m xs) _ (λ a t. window_test m xs k a small is t) m.a20 ws e) in
+    let gone : first_that m.a20 (is_between (0xE0000 + 0x4000 * k) (0xE0000 + 0x4000 * k + 0x4000)) ws ≡ None = none_that (is_between (0xE0000 + 0x4000 * k) (0xE0000 + 0x4000 * k + 0x4000)) m.a20 ws (all_weaker (keeps_writes m xs) _ (λ a t. window_test m xs k a small is t) m.a20 ws e) in
     rw (is, gone) refl
 
-window_clear : (m : Memory) (xs : List Watched) (ws : List FarAddress) (k : ℕ) → k < 4 → are_all (is_memory m xs) m.a20 ws ≡ true → window_lost m ws k ≡ []
+window_clear : (m : Memory) (xs : List Watched) (ws : List FarAddress) (k : ℕ) → k < 4 → are_all (keeps_writes m xs) m.a20 ws ≡ true → window_lost m ws k ≡ []
 window_clear m xs ws k small e = window_by m xs ws k _ small e refl
 
-pub places_clear : (m : Memory) (xs : List Watched) (ws : List FarAddress) → are_all (is_memory m xs) m.a20 ws ≡ true → of_places m ws ≡ []
+pub places_clear : (m : Memory) (xs : List Watched) (ws : List FarAddress) → are_all (keeps_writes m xs) m.a20 ws ≡ true → of_places m ws ≡ []
 places_clear m xs ws e =
-    let rom : rom_written m.a20 ws ≡ [] = none_of (λ (f : FarAddress). RomWritten f.segment f.offset) _ (none_that (is_between 0xF0000 0x100000) m.a20 ws (all_weaker (is_memory m xs) _ (λ a t. (memory_tests m xs a t).0) m.a20 ws e)) in
-    let nothing : nothing_written m.a20 ws ≡ [] = none_of (λ (f : FarAddress). NothingWritten f.segment f.offset) _ (none_that (is_between 0xC0000 0xD0000) m.a20 ws (all_weaker (is_memory m xs) _ (λ a t. (memory_tests m xs a t).1) m.a20 ws e)) in
+    let rom : rom_written m.a20 ws ≡ [] = none_of (λ (f : FarAddress). RomWritten f.segment f.offset) _ (none_that (is_between 0xF0000 0x100000) m.a20 ws (all_weaker (keeps_writes m xs) _ (λ a t. (memory_tests m xs a t).0) m.a20 ws e)) in
+    let nothing : nothing_written m.a20 ws ≡ [] = none_of (λ (f : FarAddress). NothingWritten f.segment f.offset) _ (none_that (is_between 0xC0000 0xD0000) m.a20 ws (all_weaker (keeps_writes m xs) _ (λ a t. (memory_tests m xs a t).1) m.a20 ws e)) in
     let w0 = window_clear m xs ws 0 (omega arith) e in
     let w1 = window_clear m xs ws 1 (omega arith) e in
     let w2 = window_clear m xs ws 2 (omega arith) e in
@@ -187,8 +187,8 @@ places_clear m xs ws e =
 
 -- ---- what a write that is clear says
 
-pub memory_of : (m : Memory) (xs : List Watched) (a20 : Bool) (ws : List FarAddress) → are_all (is_write_clear m xs) a20 ws ≡ true → are_all (is_memory m xs) a20 ws ≡ true
-memory_of m xs a20 ws e = all_weaker (is_write_clear m xs) (is_memory m xs) (λ a t. and_left (is_memory m xs a) _ t) a20 ws e
+pub memory_of : (m : Memory) (xs : List Watched) (a20 : Bool) (ws : List FarAddress) → are_all (is_write_clear m xs) a20 ws ≡ true → are_all (keeps_writes m xs) a20 ws ≡ true
+memory_of m xs a20 ws e = all_weaker (is_write_clear m xs) (keeps_writes m xs) (λ a t. and_left (keeps_writes m xs a) _ t) a20 ws e
 
 pub apart_of : (m : Memory) (xs : List Watched) (a20 : Bool) (ws : List FarAddress) → are_all (is_write_clear m xs) a20 ws ≡ true → are_all (λ a. not (list_any (is_at a) xs)) a20 ws ≡ true
-apart_of m xs a20 ws e = all_weaker (is_write_clear m xs) _ (λ a t. and_right (is_memory m xs a) _ t) a20 ws e
+apart_of m xs a20 ws e = all_weaker (is_write_clear m xs) _ (λ a t. and_right (keeps_writes m xs a) _ t) a20 ws e

@@ -18,7 +18,7 @@ use Rattle.dm_machine.specs.Step.{MakesStep, ActsUnlessEnded, Acts}
 use Rattle.dm_findings.specs.declared.calls.Call.{Call}
 use Rattle.dm_findings.specs.declared.calls.Call.TheVariants.{Dos, Interrupt}
 use Rattle.dm_findings.specs.declared.finding.Finding.TheVariants.{Refused}
-use Rattle.dm_findings.specs.Calls.{is_bare_return, call_by, call_of}
+use Rattle.dm_findings.specs.Calls.{is_bare_return, call_at, call_of}
 use Rattle.dm_origins.specs.outcomes.Calls.{may_be_refused, refused_by_dos, call_findings}
 use Rattle.dm_checker.specs.Laws.{UnservedCallsAreFound}
 use Rattle.dm_checker.proofs.Reading.{still_running}
@@ -36,7 +36,7 @@ not_bare : (c : Cpu) (n : ℕ) (b : Bool) → (if b then Some (Interrupt (c.ip /
 not_bare c n true e = cc
 not_bare c n false e = cc
 
-called : (c : Cpu) (n : ℕ) (o : Option EntryPoint) → call_by c o ≡ Some (Dos n) → Called c n o
+called : (c : Cpu) (n : ℕ) (o : Option EntryPoint) → call_at c o ≡ Some (Dos n) → Called c n o
 called c n (Some (entry_point.Service service.DivideError)) e = absurd (cc)
 called c n (Some (entry_point.Service service.Terminate)) e = absurd (cc)
 called c n (Some (entry_point.Service service.Dos)) e = record { entry = refl; number = cc }

@@ -66,12 +66,12 @@ if_whole None fs = fs
 if_whole (Some at) fs = []
 
 -- what is found by the list of blocks after the call, if that list is valid
-abbrev pub after_call : Bool → ℕ → Cpu → Cpu → ℕ → Shown → List Finding
-after_call a20 present c d number new = if_whole new.broken (stack_freed a20 c d number new.headers ++ not_resized present c number new.headers)
+abbrev pub found_after_call : Bool → ℕ → Cpu → Cpu → ℕ → Shown → List Finding
+found_after_call a20 present c d number new = if_whole new.broken (stack_freed a20 c d number new.headers ++ not_resized present c number new.headers)
 
 -- what is found of a call, by the arena before it (old) and after it (new): of a function of INT 21h alone
 abbrev pub arranged_by : Bool → ℕ → Cpu → Cpu → Option Call → List Header → Shown → List Finding
-arranged_by a20 present c d (Some (Dos number)) old new = other_freed present c d number old ++ after_call a20 present c d number new
+arranged_by a20 present c d (Some (Dos number)) old new = other_freed present c d number old ++ found_after_call a20 present c d number new
 arranged_by a20 present c d _ old new = []
 
 -- what is found of the step from s to t, if it performs a call: a block of another process that it freed, a stack that is

@@ -43,9 +43,9 @@ pub data IsUnderWay (s : State) (n : ℕ) (t : State) (c : UnderWay) : Type 0 wh
 
 -- the run goes on from `old` to `new` in state t (None), after a step at least; or it stops for a reason, and `new` has
 -- the report of the whole run of at most n steps from s
-abbrev pub GoesOn : State → ℕ → Option Stop → State → UnderWay → UnderWay → Type 0
-GoesOn s n None t old new = IsUnderWay s n t new × (new.left < old.left) × (new.free ≡ old.free)
-GoesOn s n (Some stop) t old new = IsReport s n old.free stop t new.report
+abbrev pub RunGoesOn : State → ℕ → Option Stop → State → UnderWay → UnderWay → Type 0
+RunGoesOn s n None t old new = IsUnderWay s n t new × (new.left < old.left) × (new.free ≡ old.free)
+RunGoesOn s n (Some stop) t old new = IsReport s n old.free stop t new.report
 
 -- where the run stops for a reason, c has the processes of the whole run
 abbrev pub HasProcesses : State → ℕ → Option Stop → State → UnderWay → Type 0

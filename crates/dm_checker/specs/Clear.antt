@@ -29,8 +29,8 @@ is_high x = nat_lt 0xDFFF x.header.segment
 
 -- whether a write of the linear address goes to RAM below the frame or above the ROM, or to a page that a window shows
 -- while no header is in the frame
-abbrev pub is_memory : Memory → List Watched → ℕ → Bool
-is_memory m ws a =
+abbrev pub keeps_writes : Memory → List Watched → ℕ → Bool
+keeps_writes m ws a =
     if nat_lt a 0xC0000 then true else
     if nat_lt a 0xD0000 then false else
     if nat_lt a 0xE0000 then true else
@@ -42,7 +42,7 @@ is_read_clear ws a = not (list_any (is_free_of a) ws)
 
 -- whether nothing is found of a write to the linear address, and it is in no header
 abbrev pub is_write_clear : Memory → List Watched → ℕ → Bool
-is_write_clear m ws a = is_memory m ws a && not (list_any (is_at a) ws)
+is_write_clear m ws a = keeps_writes m ws a && not (list_any (is_at a) ws)
 
 -- nothing is found of these reads and writes, and no header is written to; no list of headers breaks
 pub record IsClear (m : Memory) (w : Watch) (rs ws : Elements) : Type 0 where

@@ -27,10 +27,10 @@ use Rattle.dm_checker.specs.Arranged.{arranged}
 
 -- the finding that the arena was whole and is destroyed, or was destroyed and is whole, by where its list breaks before
 -- and after a step (None: nowhere); none if it was and is whole, or was and is destroyed
-abbrev pub turned : Option ℕ → Option ℕ → List Finding
-turned None (Some at) = Destroyed at ∷ []
-turned (Some at) None = Whole ∷ []
-turned _ _ = []
+abbrev pub turn_found : Option ℕ → Option ℕ → List Finding
+turn_found None (Some at) = Destroyed at ∷ []
+turn_found (Some at) None = Whole ∷ []
+turn_found _ _ = []
 
 -- the findings of headers that were overwritten, in the order of the list; none if the step's call is one that may
 -- write headers
@@ -51,7 +51,7 @@ abbrev pub findings : State → State → Shown → Shown → List Finding
 findings s t old new =
     all_overwritten (arranges s.cpu (call_of s.cpu)) s.memory t.memory old.headers
     ++ flat_map (mapped_away s.memory t.memory) old.headers
-    ++ turned old.broken new.broken
+    ++ turn_found old.broken new.broken
     ++ freed_twice s.cpu t.cpu (call_of s.cpu) old.headers
     ++ call_findings s.cpu t.cpu (call_of s.cpu)
 

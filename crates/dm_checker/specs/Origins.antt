@@ -5,7 +5,7 @@ use Rattle.dm_findings.specs.declared.calls.Call.TheVariants.{ExpandedMemory, Ex
 use Rattle.dm_findings.specs.declared.finding.Origin.{Origin}
 use Rattle.dm_findings.specs.Calls.{call_of}
 use Rattle.dm_findings.specs.Sites.{site_of}
-use Rattle.dm_origins.specs.Origins.{Known, known_first, with_handles, with_blocks, with_freed}
+use Rattle.dm_origins.specs.Origins.{Known, known_first, with_handles, with_extended_memory, with_freed}
 use Rattle.dm_services.specs.state.State.{State}
 use Rattle.dm_machine.specs.Step.{MakesStep}
 use Rattle.dm_checker.specs.Shown.{Shown, IsShown}
@@ -28,7 +28,7 @@ if_both_whole None (Some at) k l = k
 -- after the step
 abbrev pub known_by : State → State → Shown → Shown → Option Call → Known → Known
 known_by s t old new (Some (ExpandedMemory number)) k = with_handles k t.ems (Some (origin_at s t))
-known_by s t old new (Some (ExtendedMemory number)) k = with_blocks k t.xms t.memory.a20 (Some (origin_at s t))
+known_by s t old new (Some (ExtendedMemory number)) k = with_extended_memory k t.xms t.memory.a20 (Some (origin_at s t))
 known_by s t old new call k =
     if arranges s.cpu call then with_course s t call (if_both_whole old.broken new.broken k (with_freed k old.headers new.headers (origin_at s t))) else k
 

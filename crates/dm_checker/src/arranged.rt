@@ -4,7 +4,7 @@
 ghost use Rattle.std.specs.Prelude.{◌≡◌, ◌++◌, map, OnOk};
 ghost use Rattle.std.specs.List.{flat_map};
 ghost use Rattle.dm_space.specs.Memory.{linear};
-ghost use Rattle.dm_checker.specs.Arranged.{other_block, other_freed, stack_in, stack_freed, has_size, not_resized, after_call, arranged_by};
+ghost use Rattle.dm_checker.specs.Arranged.{other_block, other_freed, stack_in, stack_freed, has_size, not_resized, found_after_call, arranged_by};
 ghost use Rattle.dm_checker.specs.Watching.{header_of, shown_of};
 
 use crate::acts::Before;
@@ -148,7 +148,7 @@ fn put_after_call(
     number: u8,
     new: &Watch,
 ) -> Result<(), AllocError>
-    ensures { OnOk result (out.new.items ≡ out.old.items ++ after_call before.now.a20 before.now.present before.now.cpu after.now number (shown_of new.now)) }
+    ensures { OnOk result (out.new.items ≡ out.old.items ++ found_after_call before.now.a20 before.now.present before.now.cpu after.now number (shown_of new.now)) }
 {
     if new.broken.is_some() {
         return Ok(());

@@ -5,7 +5,7 @@ ghost use Rattle.dm_services.specs.state.State.{State, HasProgram};
 ghost use Rattle.dm_machine.specs.Run.{IsRun};
 ghost use Rattle.dm_findings.specs.Report.{report_of};
 ghost use Rattle.dm_checker.specs.Checks.{IsReport, RunsPart};
-ghost use Rattle.dm_checker.specs.Checking.{GoesOn, GoesToFirst, HasProcesses, IsLonger, IsUnderWay};
+ghost use Rattle.dm_checker.specs.Checking.{RunGoesOn, GoesToFirst, HasProcesses, IsLonger, IsUnderWay};
 
 use crate::steps::{look_at_step, pass};
 use crate::watch::{Watch, read_arena};
@@ -97,7 +97,7 @@ impl CheckedRun {
     ) -> Result<Option<Stop>, AllocError>
         requires program { HasProgram machine.old }
         requires way { (s : State) × (n : ℕ) × IsUnderWay s n machine.old self.old }
-        ensures ok { IfOk result (λ stop. (s : State) (n : ℕ) → IsUnderWay s n machine.old self.old → GoesOn s n stop machine.new self.old self.new) }
+        ensures ok { IfOk result (λ stop. (s : State) (n : ℕ) → IsUnderWay s n machine.old self.old → RunGoesOn s n stop machine.new self.old self.new) }
         ensures lines { IfOk result (λ stop. IsLonger self.old.report self.new.report) }
         ensures processes { IfOk result (λ stop. (s : State) (n : ℕ) → IsUnderWay s n machine.old self.old → HasProcesses s n stop machine.new self.new) }
         ensures whole { IfOk result (λ stop. pausing ≡ false → stop ≢ None) }
@@ -150,7 +150,7 @@ impl CheckedRun {
     ) -> Result<Option<Stop>, AllocError>
         requires program { HasProgram machine.old }
         requires way { (s : State) × (n : ℕ) × IsUnderWay s n machine.old self.old }
-        ensures ok { IfOk result (λ stop. (s : State) (n : ℕ) → IsUnderWay s n machine.old self.old → GoesOn s n stop machine.new self.old self.new) }
+        ensures ok { IfOk result (λ stop. (s : State) (n : ℕ) → IsUnderWay s n machine.old self.old → RunGoesOn s n stop machine.new self.old self.new) }
         ensures lines { IfOk result (λ stop. IsLonger self.old.report self.new.report) }
         ensures processes { IfOk result (λ stop. (s : State) (n : ℕ) → IsUnderWay s n machine.old self.old → HasProcesses s n stop machine.new self.new) }
         ensures first { IfOk result (λ stop. (s : State) (n : ℕ) → IsUnderWay s n machine.old self.old → GoesToFirst s n self.old machine.new self.new stop) }

@@ -9,7 +9,7 @@ ghost use Rattle.dm_findings.specs.declared.finding.Finding.{Finding};
 ghost use Rattle.dm_findings.specs.declared.finding.Found.{Found};
 ghost use Rattle.dm_services.specs.state.State.{HasProgram, State};
 ghost use Rattle.dm_machine.specs.Run.{Answers};
-ghost use Rattle.dm_checker.specs.Findings.{turned, IsFound, FindsTouched};
+ghost use Rattle.dm_checker.specs.Findings.{turn_found, IsFound, FindsTouched};
 ghost use Rattle.dm_checker.specs.Origins.{IsKnownAfter};
 ghost use Rattle.dm_checker.specs.Checks.{FindsAtEnd};
 ghost use Rattle.dm_checker.specs.Watching.{IsWatch, broken_at, shown_of};
@@ -36,7 +36,7 @@ fn put_turned(
     before: &Option<Broken>,
     after: &Option<Broken>,
 ) -> Result<(), AllocError>
-    ensures { OnOk result (out.new.items ≡ out.old.items ++ turned (broken_at before.now) (broken_at after.now)) }
+    ensures { OnOk result (out.new.items ≡ out.old.items ++ turn_found (broken_at before.now) (broken_at after.now)) }
 {
     match (before, after) {
         (None, Some(broken)) => put(out, Finding::Destroyed(broken.segment)),

@@ -11,7 +11,7 @@ use Rattle.dm_cli.specs.declared.fault.Fault.TheVariants.{OutOfMemory}
 use Rattle.dm_cli.specs.Faults.{IsReadFault, IsWriteFault}
 use Rattle.dm_cli.specs.Reads.{TellsOfNoFile}
 use Rattle.dm_cli.specs.Starting.{IsStartedBy, typed_in}
-use Rattle.dm_cli.specs.Serving.{DebugsByGdb, IsServed, Serves, ended, over, exhausted, answers, unread, no_memory, unwritten, served, unbuffered}
+use Rattle.dm_cli.specs.Serving.{DebugsByGdb, IsServed, ServesStream, ended, over, exhausted, answers, unread, no_memory, unwritten, served, unbuffered}
 use Rattle.dm_cli.specs.inner.Serving.{GivesByte, IsTakenBy, IsUntaken, ServesWith, lacking, partly, with_buffer, no_buffer_for}
 use Rattle.dm_cli.proofs.Conversations.{left_of, left_is}
 use Rattle.dm_cli.proofs.Unread.{line_tells, answer_tells}
@@ -31,8 +31,8 @@ pub record Heard (most : ℕ) (c : Connected) (known before : Option (List ℕ))
   pub told : List ℕ
   pub read : Consumes known rest consumed
   pub written : Appends before after told
-  pub goes_on : (m : ℕ) (ys further : List ℕ) (end : Option Fault) (whole : Bool) → Serves most m d ys further end whole
-      → Serves most (count + m) c (consumed ++ ys) (told ++ further) end whole
+  pub goes_on : (m : ℕ) (ys further : List ℕ) (end : Option Fault) (whole : Bool) → ServesStream most m d ys further end whole
+      → ServesStream most (count + m) c (consumed ++ ys) (told ++ further) end whole
 
 pub begun : (most : ℕ) (c : Connected) (known before : Option (List ℕ)) → Heard most c known before 0 c known before
 begun most c known before = record {
@@ -40,7 +40,7 @@ begun most c known before = record {
   told = [];
   read = Consumes-nil known;
   written = Appends-nil before;
-  goes_on = λ m ys further end whole h. let e : m ≡ 0 + m = omega arith in subst (λ n. Serves most n c ys further end whole) e h;
+  goes_on = λ m ys further end whole h. let e : m ≡ 0 + m = omega arith in subst (λ n. ServesStream most n c ys further end whole) e h;
 }
 
 module _ {most : ℕ} {c : Connected} {known before : Option (List ℕ)} {count : ℕ} {d : Connected} {rest after : Option (List ℕ)} where
@@ -53,15 +53,15 @@ module _ {most : ℕ} {c : Connected} {known before : Option (List ℕ)} {count 
     read = Consumes-trans _ _ _ heard.consumed (byte ∷ []) heard.read reads;
     written = Appends-trans _ _ _ heard.told is.sent heard.written is.written;
     goes_on = λ m ys further end whole h.
-        let all : Serves most (count + suc m) c (heard.consumed ++ byte ∷ ys) (heard.told ++ (is.sent ++ further)) end whole =
+        let all : ServesStream most (count + suc m) c (heard.consumed ++ byte ∷ ys) (heard.told ++ (is.sent ++ further)) end whole =
         heard.goes_on (suc m) (byte ∷ ys) (is.sent ++ further) end whole (answers m d e byte ys is.sent further end whole goes is.takes h) in
         let number : count + suc m ≡ count + 1 + m = omega arith in
-        rw (append_assoc, append_assoc) (subst (λ n. Serves most n c (heard.consumed ++ byte ∷ ys) (heard.told ++ (is.sent ++ further)) end whole) number all);
+        rw (append_assoc, append_assoc) (subst (λ n. ServesStream most n c (heard.consumed ++ byte ∷ ys) (heard.told ++ (is.sent ++ further)) end whole) number all);
   }
 
   -- what becomes of the rest, if it is all that is left
   concludes : (n : ℕ) → count ≤ n → Heard most c known before count d rest after → (ys further : List ℕ) (end : Option Fault) (whole : Bool) (final : Option (List ℕ)) (opened failures : ℕ)
-      → IfSome rest (λ xs. ys ≡ xs) → Serves most (n - count) d ys further end whole → Appends after final further → (whole ≡ false → HasFailed opened failures)
+      → IfSome rest (λ xs. ys ≡ xs) → ServesStream most (n - count) d ys further end whole → Appends after final further → (whole ≡ false → HasFailed opened failures)
       → (whole ≡ true → failures ≡ opened) → IsServed most n known c before final opened failures end
   concludes n fits heard ys further end is_whole final opened failures is h appends failed none_failed = record {
     whole = is_whole;
@@ -70,7 +70,7 @@ module _ {most : ℕ} {c : Connected} {known before : Option (List ℕ)} {count 
     bytes = heard.consumed ++ ys;
     told = heard.told ++ further;
     read = all known rest heard.read is;
-    serves = subst (λ k. Serves most k c (heard.consumed ++ ys) (heard.told ++ further) end is_whole) (let e : count + (n - count) ≡ n = omega (arith, fits) in e) (heard.goes_on (n - count) ys further end is_whole h);
+    serves = subst (λ k. ServesStream most k c (heard.consumed ++ ys) (heard.told ++ further) end is_whole) (let e : count + (n - count) ≡ n = omega (arith, fits) in e) (heard.goes_on (n - count) ys further end is_whole h);
     written = Appends-trans _ _ _ heard.told further heard.written appends;
   }
     where
@@ -97,7 +97,7 @@ module _ {most : ℕ} {c : Connected} {known before : Option (List ℕ)} {count 
     -- no more bytes are taken
     pub at_most : failures ≡ opened → n ≤ count → IsServed most n known c before after opened failures None
     at_most same all = concludes n fits heard (left_of rest) [] None true after opened failures (left_is rest)
-        (subst (λ k. Serves most k d (left_of rest) [] None true) (let e : 0 ≡ n - count = omega (arith, all) in e) (exhausted d (left_of rest))) (Appends-nil after) never (λ e. same)
+        (subst (λ k. ServesStream most k d (left_of rest) [] None true) (let e : 0 ≡ n - count = omega (arith, all) in e) (exhausted d (left_of rest))) (Appends-nil after) never (λ e. same)
 
     -- the stream cannot be read
     pub at_fault : failures ≡ opened → d.over ≡ false → (fault : Fault) → IsReadFault fault ⊎ (fault ≡ OutOfMemory) → IsServed most n known c before after opened failures (Some fault)
@@ -115,7 +115,7 @@ module _ {most : ℕ} {c : Connected} {known before : Option (List ℕ)} {count 
     at_byte goes more byte rest' after' fault reads (partly sent e f takes some part failed is) =
         let next : suc (n - suc count) ≡ n - count = omega (arith, more) in
         concludes n fits heard (byte ∷ left_of rest') (take part.0 sent) (Some f) false after' opened failures (whole rest rest' reads)
-        (subst (λ k. Serves most k d (byte ∷ left_of rest') (take part.0 sent) (Some f) false) next (unwritten (n - suc count) d e byte (left_of rest') sent part.0 f goes takes some part.1 is)) part.2
+        (subst (λ k. ServesStream most k d (byte ∷ left_of rest') (take part.0 sent) (Some f) false) next (unwritten (n - suc count) d e byte (left_of rest') sent part.0 f goes takes some part.1 is)) part.2
         (λ e. failed) cut
       where
         whole : (a b : Option (List ℕ)) → Consumes a b (byte ∷ []) → IfSome a (λ xs. byte ∷ left_of b ≡ xs)
@@ -142,7 +142,7 @@ serves_with files typed o m a b opened failures _ started (with_buffer end h) = 
 serves_with files typed o m a b opened failures _ started (no_buffer_for kept same) = unbuffered kept same
 
 -- the fault that ends a conversation tells of no file
-pub serves_tells : (most n : ℕ) (c : Connected) (bytes told : List ℕ) (end : Option Fault) (whole : Bool) → Serves most n c bytes told end whole → TellsOfNoFile end
+pub serves_tells : (most n : ℕ) (c : Connected) (bytes told : List ℕ) (end : Option Fault) (whole : Bool) → ServesStream most n c bytes told end whole → TellsOfNoFile end
 serves_tells _ _ _ _ _ _ _ (ended n c goes) = tt
 serves_tells _ _ _ _ _ _ _ (over n c bytes is) = tt
 serves_tells _ _ _ _ _ _ _ (exhausted c bytes) = tt

@@ -5,7 +5,7 @@ use Rattle.std.proofs.lemmas.Option.{none-some}
 use Rattle.std.specs.List.{slice_get}
 use Rattle.dm_proc.specs.declared.programs.AddError.{AddError}
 use Rattle.dm_proc.specs.declared.programs.AddError.TheVariants as add
-use Rattle.dm_proc.specs.Programs.{IsName, has_name}
+use Rattle.dm_proc.specs.Programs.{IsName, has_program}
 use Rattle.dm_cli.specs.declared.fault.Fault.{Fault}
 use Rattle.dm_cli.specs.inner.Faults.{add_fault}
 use Rattle.dm_cli.specs.Starting.{IsFileFault}
@@ -21,8 +21,8 @@ fault_of_name e k s p b r (inr h) = subst (IsFaultOf k s p) (sym h.0) (long_name
 
 -- a refusal of the store
 pub fault_of_store : (r : AddError) (known : Option (List ℕ)) (store : List (List ℕ × List ℕ)) (path bytes name : List ℕ) → IsRead known bytes
-    → name ≡ last_part path → IsName name → (r ≡ add.Twice → has_name store name ≡ true) → IsFaultOf known store path (add_fault r)
-fault_of_store add.Twice k s p b n r e i h = twice b r (subst IsName e i) (subst (λ m. has_name s m ≡ true) e (h refl))
+    → name ≡ last_part path → IsName name → (r ≡ add.Twice → has_program store name ≡ true) → IsFaultOf known store path (add_fault r)
+fault_of_store add.Twice k s p b n r e i h = twice b r (subst IsName e i) (subst (λ m. has_program s m ≡ true) e (h refl))
 fault_of_store add.Memory k s p b n r e i h = no_memory
 
 -- the first of some paths

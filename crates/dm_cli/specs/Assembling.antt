@@ -35,13 +35,13 @@ pub data IsAsmFault (known : Option (List ℕ)) (path : List ℕ) : Fault → Ty
 
 -- `dm asm`: the bytes of the text are written to a file; or that failed, and the count of failed saves is one higher;
 -- or a fault came before. `before` and `after` are the files written, which change in the first case alone
-pub data Assembles (files : List ℕ → Option (List ℕ)) (o : AsmOptions) (before after : Option (List (List ℕ × List ℕ))) (failed_before failed_after : ℕ) : Option Fault → Type 0 where
+pub data AssemblesFile (files : List ℕ → Option (List ℕ)) (o : AsmOptions) (before after : Option (List (List ℕ × List ℕ))) (failed_before failed_after : ℕ) : Option Fault → Type 0 where
   saved : (bytes : List ℕ) → IsAssembled (files o.input.now) bytes → Saves before after o.output.now bytes → failed_after ≡ failed_before
-      → Assembles files o before after failed_before failed_after None
+      → AssemblesFile files o before after failed_before failed_after None
   unsaved : (bytes : List ℕ) (fault : Fault) → IsAssembled (files o.input.now) bytes → IsUnwritten o.output.now fault ⊎ (fault ≡ OutOfMemory)
-      → HasFailed failed_before failed_after → after ≡ before → Assembles files o before after failed_before failed_after (Some fault)
+      → HasFailed failed_before failed_after → after ≡ before → AssemblesFile files o before after failed_before failed_after (Some fault)
   not_assembled : (fault : Fault) → IsAsmFault (files o.input.now) o.input.now fault → after ≡ before → failed_after ≡ failed_before
-      → Assembles files o before after failed_before failed_after (Some fault)
+      → AssemblesFile files o before after failed_before failed_after (Some fault)
 
 -- a fault of `dm disasm` before it writes: the file can't be read, it has more than 65,278 bytes, or an allocation
 -- failed

@@ -9,7 +9,7 @@ use Rattle.dm_machine.specs.Run.{IsRun}
 use Rattle.dm_findings.specs.declared.finding.Found.{Found}
 use Rattle.dm_findings.specs.Report.{Reported, report_of}
 use Rattle.dm_json.specs.declared.forms.Form.{Form}
-use Rattle.dm_json.specs.Forms.{form_of, lines_in, report_in, processes_in, end_in}
+use Rattle.dm_json.specs.Forms.{report_form, lines_in, report_in, processes_in, end_in}
 use Rattle.dm_findings.specs.declared.processes.process.Process.{Process}
 use Rattle.dm_checker.specs.Checks.{FindsIn, IsReport, reported}
 use Rattle.dm_checker.specs.Processes.{AreProcesses}
@@ -55,12 +55,12 @@ all_in form report ps stop t = report_in form report ++ processes_in form ps ++ 
 -- write of it failed, and a part of the report may have been printed
 pub data Checks (files : List ℕ → Option (List ℕ)) (typed : Option (List ℕ)) (o : CheckOptions) (before after : Option (List ℕ)) (failed_before failed_after : ℕ) (error_before error_after : Stream) : Result ℕ Fault → Type 0 where
   checked : (m t : State) (stop : Stop) (report : Reported) (ps : List Process) (failed : Bool) (status : ℕ) → IsStartedBy files typed o.machine m → IsRun m o.machine.steps stop t → IsReport m o.machine.steps (not o.no_free) stop t report → AreProcesses m o.machine.steps stop t ps
-      → Appends before after t.console.output → failed_after ≡ failed_before → HasPrinted failed (all_in (form_of o.json) report ps stop t) error_before error_after → status ≡ told_status failed (checked_status report stop)
+      → Appends before after t.console.output → failed_after ≡ failed_before → HasPrinted failed (all_in (report_form o.json) report ps stop t) error_before error_after → status ≡ told_status failed (checked_status report stop)
       → Checks files typed o before after failed_before failed_after error_before error_after (Ok status)
   partly_written : (m t : State) (stop : Stop) (report : Reported) (ps : List Process) (middle : Stream) (failed : Bool) (status : ℕ) → IsStartedBy files typed o.machine m → IsRun m o.machine.steps stop t → IsReport m o.machine.steps (not o.no_free) stop t report → AreProcesses m o.machine.steps stop t ps
-      → AppendsPart before after t.console.output → HasFailed failed_before failed_after → HasPrinted failed (all_in (form_of o.json) report ps stop t) error_before middle
+      → AppendsPart before after t.console.output → HasFailed failed_before failed_after → HasPrinted failed (all_in (report_form o.json) report ps stop t) error_before middle
       → Prints unwritten_line middle error_after → status ≡ told_status failed (unwritten_status report) → Checks files typed o before after failed_before failed_after error_before error_after (Ok status)
-  no_memory : (m : State) → IsStartedBy files typed o.machine m → IsLost m o.machine.steps (not o.no_free) (form_of o.json) error_before error_after → Keeps before after → failed_after ≡ failed_before
+  no_memory : (m : State) → IsStartedBy files typed o.machine m → IsLost m o.machine.steps (not o.no_free) (report_form o.json) error_before error_after → Keeps before after → failed_after ≡ failed_before
       → Checks files typed o before after failed_before failed_after error_before error_after (Err OutOfMemory)
   not_started : (fault : Fault) → IsStartFault files typed (Some (codes "standard input")) o.machine fault → Keeps before after → failed_after ≡ failed_before → error_after ≡ error_before
       → Checks files typed o before after failed_before failed_after error_before error_after (Err fault)

@@ -17,7 +17,7 @@ use Rattle.dm_services.specs.state.State.{State}
 use Rattle.dm_machine.specs.Run.{IsRun}
 use Rattle.dm_cli.specs.declared.fault.Fault.{Fault}
 use Rattle.dm_cli.specs.declared.fault.Fault.TheVariants.{OutOfMemory}
-use Rattle.dm_cli.specs.Assembling.{Assembles, Disassembles}
+use Rattle.dm_cli.specs.Assembling.{AssemblesFile, Disassembles}
 use Rattle.dm_cli.specs.Checking.{Checks, check_status}
 use Rattle.dm_cli.specs.Debugging.{Debugs}
 use Rattle.dm_cli.specs.Faults.{IsWriteFault, fault_line}
@@ -98,7 +98,7 @@ pub data Does (g : Given) (words : List Text) (l : Left) : Type 0 where
       → Reports g.messages l.messages end → SavesNothing g l → ReadsFiles g.unread l.unread end → l.status ≡ status_after end → Does g words l
   debugs_by_gdb : (o : DebugOptions) (end : Option Fault) → IsParsed words (command.Gdb o) → DebugsByGdb g.files g.typed o g.output l.output g.failures l.failures end
       → Reports g.messages l.messages end → SavesNothing g l → ReadsFiles g.unread l.unread end → l.status ≡ status_after end → Does g words l
-  assembles : (o : AsmOptions) (end : Option Fault) → IsParsed words (command.Asm o) → Assembles g.files o g.saved l.saved g.failed_saves l.failed_saves end
+  assembles : (o : AsmOptions) (end : Option Fault) → IsParsed words (command.Asm o) → AssemblesFile g.files o g.saved l.saved g.failed_saves l.failed_saves end
       → Reports g.messages l.messages end → IsSilent g l → ReadsFiles g.unread l.unread end → l.status ≡ status_after end → Does g words l
   disassembles : (path : Bor (List ℕ)) (end : Option Fault) → IsParsed words (command.Disasm path) → Disassembles g.files path.now g.output l.output g.failures l.failures end
       → Reports g.messages l.messages end → SavesNothing g l → ReadsFiles g.unread l.unread end → l.status ≡ status_after end → Does g words l

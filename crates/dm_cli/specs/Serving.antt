@@ -15,16 +15,16 @@ use Rattle.dm_cli.specs.declared.fault.Fault.TheVariants.{OutOfMemory}
 -- is sent for a byte is written and flushed before the next byte is read; a way to go on makes at most `most` steps. The
 -- arguments after the conversation and the bytes are: what is written; the fault that ended it early, if any; and whether
 -- all that was sent was written whole and flushed.
-pub data Serves (most : ℕ) : ℕ → Connected → List ℕ → List ℕ → Option Fault → Bool → Type 0 where
-  ended : (n : ℕ) (c : Connected) → c.over ≡ false → Serves most n c [] [] None true
-  over : (n : ℕ) (c : Connected) (bytes : List ℕ) → c.over ≡ true → Serves most n c bytes [] None true
-  exhausted : (c : Connected) (bytes : List ℕ) → Serves most 0 c bytes [] None true
+pub data ServesStream (most : ℕ) : ℕ → Connected → List ℕ → List ℕ → Option Fault → Bool → Type 0 where
+  ended : (n : ℕ) (c : Connected) → c.over ≡ false → ServesStream most n c [] [] None true
+  over : (n : ℕ) (c : Connected) (bytes : List ℕ) → c.over ≡ true → ServesStream most n c bytes [] None true
+  exhausted : (c : Connected) (bytes : List ℕ) → ServesStream most 0 c bytes [] None true
   answers : (n : ℕ) (c d : Connected) (byte : ℕ) (bytes sent more : List ℕ) (end : Option Fault) (whole : Bool) → c.over ≡ false → Takes most c byte sent d
-      → Serves most n d bytes more end whole → Serves most (suc n) c (byte ∷ bytes) (sent ++ more) end whole
-  unread : (n : ℕ) (c : Connected) (bytes : List ℕ) (fault : Fault) → c.over ≡ false → IsReadFault fault → Serves most n c bytes [] (Some fault) true
-  no_memory : (n : ℕ) (c : Connected) (bytes : List ℕ) → c.over ≡ false → Serves most n c bytes [] (Some OutOfMemory) true
+      → ServesStream most n d bytes more end whole → ServesStream most (suc n) c (byte ∷ bytes) (sent ++ more) end whole
+  unread : (n : ℕ) (c : Connected) (bytes : List ℕ) (fault : Fault) → c.over ≡ false → IsReadFault fault → ServesStream most n c bytes [] (Some fault) true
+  no_memory : (n : ℕ) (c : Connected) (bytes : List ℕ) → c.over ≡ false → ServesStream most n c bytes [] (Some OutOfMemory) true
   unwritten : (n : ℕ) (c d : Connected) (byte : ℕ) (bytes sent : List ℕ) (k : ℕ) (fault : Fault) → c.over ≡ false → Takes most c byte sent d → sent ≢ [] → k ≤ length sent
-      → IsWriteFault fault → Serves most (suc n) c (byte ∷ bytes) (take k sent) (Some fault) false
+      → IsWriteFault fault → ServesStream most (suc n) c (byte ∷ bytes) (take k sent) (Some fault) false
 
 -- the conversation takes the bytes of a reader, at most n of them; `end` is the fault that ended it early, if any. `known`
 -- is what the reader has, where that is known; `before` and `after` are what the writer has taken; `opened` and `failures`
@@ -35,7 +35,7 @@ pub record IsServed (most n : ℕ) (known : Option (List ℕ)) (c : Connected) (
   pub told : List ℕ
   pub whole : Bool
   pub read : IfSome known (λ xs. bytes ≡ xs)
-  pub serves : Serves most n c bytes told end whole
+  pub serves : ServesStream most n c bytes told end whole
   pub written : Appends before after told
   pub failed : whole ≡ false → HasFailed opened failures
   pub none_failed : whole ≡ true → failures ≡ opened

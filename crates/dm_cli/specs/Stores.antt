@@ -5,7 +5,7 @@ use Rattle.dm_cli.specs.declared.fault.Fault.TheVariants.{InputTooLong, NameTooL
 use Rattle.dm_cli.specs.Faults.{IsUnread}
 use Rattle.dm_cli.specs.Names.{IsFileName, last_part}
 use Rattle.dm_machine.specs.Start.{IsNew, IsLoaded}
-use Rattle.dm_proc.specs.Programs.{IsName, has_name}
+use Rattle.dm_proc.specs.Programs.{IsName, has_program}
 use Rattle.dm_pool.specs.declared.sizes.Sizes.{Sizes}
 use Rattle.dm_pool.specs.Stored.{IsTooLarge}
 use Rattle.dm_services.specs.state.State.{State}
@@ -21,7 +21,7 @@ pub record AddsFile (known : Option (List ℕ)) (store : List (List ℕ × List 
   pub bytes : List ℕ
   pub read : IsRead known bytes
   pub name : IsName (last_part path)
-  pub once : has_name store (last_part path) ≡ false
+  pub once : has_program store (last_part path) ≡ false
   pub added : t ≡ store ++ (last_part path, bytes) ∷ []
 
 -- this is the store of the files at these paths, in their order; `known` is what files hold, where that is known
@@ -40,7 +40,7 @@ pub data IsFaultOf (known : Option (List ℕ)) (store : List (List ℕ × List �
   nameless : (fault : Fault) → ¬ IsFileName (last_part path) → IsUnread path fault → IsFaultOf known store path fault
   not_read : (fault : Fault) → IsFileName (last_part path) → IsInputFault known path fault → IsFaultOf known store path fault
   long_name : (bytes : List ℕ) → IsFileName (last_part path) → IsRead known bytes → 64 < length (last_part path) → IsFaultOf known store path NameTooLong
-  twice : (bytes : List ℕ) → IsRead known bytes → IsName (last_part path) → has_name store (last_part path) ≡ true → IsFaultOf known store path NameTwice
+  twice : (bytes : List ℕ) → IsRead known bytes → IsName (last_part path) → has_program store (last_part path) ≡ true → IsFaultOf known store path NameTwice
   no_memory : IsFaultOf known store path OutOfMemory
 
 -- m is a new machine of these sizes, which are not too large, with upper memory in its arena if `upper`, no variables,

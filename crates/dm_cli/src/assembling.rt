@@ -1,6 +1,6 @@
 //! `dm asm` and `dm disasm`: from a file's text to bytes, and from a file's bytes to text.
 ghost use Rattle.std.specs.Prelude.{◌≡◌, IfErr, IfOk};
-ghost use Rattle.dm_cli.specs.Assembling.{Assembles, Disassembles, IsAsmFault, IsAssembled, IsDisasmFault, IsDisassembled};
+ghost use Rattle.dm_cli.specs.Assembling.{AssemblesFile, Disassembles, IsAsmFault, IsAssembled, IsDisasmFault, IsDisassembled};
 ghost use Rattle.dm_cli.specs.Reads.{IsKept, ReadsFiles, fault_if};
 ghost use Rattle.dm_cli.specs.inner.Statuses.{end_of};
 
@@ -61,7 +61,7 @@ pub(crate) fn asm<'a, F: Storage>(
     storage: &mut F,
     options: &AsmOptions<'a>,
 ) -> Result<(), Fault<'a>>
-    ensures does { Assembles (F.contents storage.old) options.now (F.saved storage.old) (F.saved storage.new) (F.failures storage.old) (F.failures storage.new) (end_of result) }
+    ensures does { AssemblesFile (F.contents storage.old) options.now (F.saved storage.old) (F.saved storage.new) (F.failures storage.old) (F.failures storage.new) (end_of result) }
     ensures reads { ReadsFiles (F.unread storage.old) (F.unread storage.new) (end_of result) }
 {
     let bytes = assembled(alloc, storage, options.input)?;

@@ -1,4 +1,6 @@
 mod Bytes
+mod Ends
+mod Loaded
 mod Results
 pub mod Unseen
 mod Segments

@@ -2,9 +2,10 @@
 //! "Implicit Use of General Registers"), and CS for the emulation's inner loop. Each function that sets a register
 //! leaves the others and the flags.
 ghost use Rattle.std.specs.Prelude.{◌≡◌};
+ghost use Rattle.std.specs.Bool.{OnFalse};
 
 use crate::registers::Registers;
-use dm_ins::WordRegister;
+use dm_ins::{SegmentRegister, WordRegister};
 
 impl Registers {
     /// The value of AX.
@@ -121,5 +122,19 @@ impl Registers {
         ensures { result ≡ self.now.cs }
     {
         self.segments[1]
+    }
+
+    /// Sets CS, and returns whether it has changed. The other registers and the flags stay.
+    #[inline(always)]
+    #[tactic(auto, unfolding(crate::specs::Cpu::with_segment))]
+    pub fn changes_cs(&mut self, segment: u16) -> bool
+        ensures set { self.new ≡ record self.old { cs = segment } }
+        ensures stays { OnFalse result (self.new.cs ≡ self.old.cs) }
+    {
+        if segment == self.cs() {
+            return false;
+        }
+        self.set_segment(SegmentRegister::Cs, segment);
+        true
     }
 }

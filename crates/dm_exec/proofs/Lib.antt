@@ -3,4 +3,5 @@ pub mod Unseen
 pub mod Map
 mod ByWidth
 mod Upwards
+mod Upper
 mod Elements

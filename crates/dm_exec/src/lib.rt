@@ -14,6 +14,7 @@ mod strings;
 
 pub use control::change_flag;
 pub use dm_cpu::{Cpu, Flags, far_return, interrupt_return};
+pub use each::is_at_hand;
 pub use effect::{Next, exec, execute};
 pub use far::{load_far_low, transfer_low};
 pub use jumps::{

@@ -35,12 +35,12 @@ abbrev pub bare_call : Cpu → Option Call
 bare_call c = if is_bare_return c.cs c.ip then Some (call.Interrupt (c.ip / 4)) else None
 
 -- the call at an entry point, or where there is none
-abbrev pub call_by : Cpu → Option EntryPoint → Option Call
-call_by c (Some (entry_point.Service s)) = Some (of_service c s)
-call_by c (Some (entry_point.Driver d)) = Some (of_driver c d)
-call_by c None = bare_call c
+abbrev pub call_at : Cpu → Option EntryPoint → Option Call
+call_at c (Some (entry_point.Service s)) = Some (of_service c s)
+call_at c (Some (entry_point.Driver d)) = Some (of_driver c d)
+call_at c None = bare_call c
 
 -- the call that a step with these registers performs: that of the service or driver whose entry point is CS:IP, or of an
 -- interrupt that nothing serves and whose return is at CS:IP; None where another instruction comes next
 unfoldable pub call_of : Cpu → Option Call
-call_of c = call_by c (entry_point_at c.cs c.ip)
+call_of c = call_at c (entry_point_at c.cs c.ip)

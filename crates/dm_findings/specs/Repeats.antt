@@ -106,17 +106,17 @@ callee_of (ExtendedMemory number) = 5
 callee_of (Interrupt number) = 6
 
 -- the number of the function that is called, or of an interrupt that is not served; 0 for a call that has none
-abbrev pub number_of : Call → ℕ
-number_of (Dos number) = number
-number_of (ExpandedMemory number) = number
-number_of (ExtendedMemory number) = number
-number_of (Interrupt number) = number
-number_of _ = 0
+abbrev pub function_number : Call → ℕ
+function_number (Dos number) = number
+function_number (ExpandedMemory number) = number
+function_number (ExtendedMemory number) = number
+function_number (Interrupt number) = number
+function_number _ = 0
 
 -- whether the same was performed, if it was at the same place: a call of the same function, or an instruction of the
 -- same length
 abbrev pub is_same_act : Act → Act → Bool
-is_same_act (act.Call c) (act.Call d) = (callee_of c == callee_of d) && (number_of c == number_of d)
+is_same_act (act.Call c) (act.Call d) = (callee_of c == callee_of d) && (function_number c == function_number d)
 is_same_act (act.Instruction i next) (act.Instruction j other) = next == other
 is_same_act (act.Call c) (act.Instruction j other) = false
 is_same_act (act.Instruction i next) (act.Call d) = false

@@ -1,7 +1,7 @@
 //! When a finding repeats an earlier one.
 
 ghost use Rattle.std.specs.Prelude.{◌≡◌};
-ghost use Rattle.dm_findings.specs.Repeats.{kind_of, left_kind, held_kind, kept_subject, subject_of, is_same_site, callee_of, number_of, is_same_act, is_repeated};
+ghost use Rattle.dm_findings.specs.Repeats.{kind_of, left_kind, held_kind, kept_subject, subject_of, is_same_site, callee_of, function_number, is_same_act, is_repeated};
 
 use crate::calls::Call;
 use crate::finding::{Act, Finding, Found, Kept};
@@ -129,7 +129,7 @@ fn callee_of(call: Call) -> u8
 
 /// The number of the function that is called, or of an interrupt that is not served; 0 for a call that has none.
 fn number_of(call: Call) -> u8
-    ensures { result ≡ number_of call }
+    ensures { result ≡ function_number call }
 {
     match call {
         Call::Dos(number) => number,

@@ -14,7 +14,7 @@ use Rattle.dm_requests.specs.declared.commands.command.Command.{Command}
 use Rattle.dm_debug.specs.Debugged.{Debugged}
 use Rattle.dm_history.specs.Pasts.{Past, new_past}
 use Rattle.dm_debug.specs.Sessions.{Displays, Does, DoesPart, shows, goes, traces, sets, clears, enters, nothing, ran, traced}
-use Rattle.dm_gdb.specs.Monitor.{is_shown, step_of, stepped_reply}
+use Rattle.dm_gdb.specs.Monitor.{is_shown, step_asked, stepped_reply}
 use Rattle.dm_machine.specs.Run.{IsRun}
 use Rattle.dm_gdb.specs.Servers.{Served, Replies, goes_to, is_plain, is_exit, gone, at_state, restarted, arrival_reply, step_reply}
 
@@ -93,7 +93,7 @@ cut_only _ s t h (ran n why u r) = absurd cc
 cut_only _ s t h (traced n u r) = absurd cc
 
 -- steps up to one that is wanted, where what is known is of the session as it was read
-pub goes_to_as : (a s : Served) (x : Past) (most : ℕ) (line : List ℕ) (n here : ℕ) (why : Stop) (told : Reply) → a ≡ s → step_of line ≡ Some n → here ≡ a.history.machine.steps → here ≤ n
+pub goes_to_as : (a s : Served) (x : Past) (most : ℕ) (line : List ℕ) (n here : ℕ) (why : Stop) (told : Reply) → a ≡ s → step_asked line ≡ Some n → here ≡ a.history.machine.steps → here ≤ n
     → IsRun a.history.machine (n - here) why x.machine → x ≡ record a.history { machine = x.machine } → told ≡ stepped_reply why
     → Replies s most (request.Command line) told (record a { history = x })
 goes_to_as a s x most line n here why told e is at le went f g =

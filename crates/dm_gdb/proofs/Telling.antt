@@ -6,7 +6,7 @@ use Rattle.std.specs.Prelude.{nat_lt, if◌then◌else◌, max}
 use Rattle.dm_requests.specs.declared.packets.received.Received.{Received}
 use Rattle.dm_requests.specs.declared.packets.received.Received.TheVariants as heard
 use Rattle.dm_requests.specs.packets.Frames.{frame_of}
-use Rattle.dm_requests.specs.packets.Reading.{Reading, after, received}
+use Rattle.dm_requests.specs.packets.Reading.{Reading, after_byte, received}
 use Rattle.dm_requests.specs.Requests.{request_of}
 use Rattle.dm_requests.specs.declared.request.Request.{Request}
 use Rattle.dm_gdb.specs.declared.replies.Reply.{Reply}
@@ -91,7 +91,7 @@ heard_stop a s most what e is =
     heard_as s (record a { stopping = true }) most what heard.Interrupt [] is (subst (λ (x : Connected). Hears most x heard.Interrupt [] (record a { stopping = true })) e interrupted)
 
 -- a byte with which something is complete
-pub taken : (a s d : Connected) (m : Reading) (most byte : ℕ) (what : Received) (sent out more : List ℕ) → a ≡ s → received a.reading byte ≡ Some what → m ≡ after a.reading byte
+pub taken : (a s d : Connected) (m : Reading) (most byte : ℕ) (what : Received) (sent out more : List ℕ) → a ≡ s → received a.reading byte ≡ Some what → m ≡ after_byte a.reading byte
     → more ≡ out ++ (receipt (record a { reading = m }) what ++ sent) → Hears most (record a { reading = m }) what sent d → (x : List ℕ) × (more ≡ out ++ x) × Takes most s byte x d
 taken a s d m most byte what sent out more e f g sent_is h = (
   receipt a what ++ sent,
@@ -101,7 +101,7 @@ taken a s d m most byte what sent out more e f g sent_is h = (
 )
 
 -- a byte with which nothing is complete
-pub kept : (a s : Connected) (m : Reading) (most byte : ℕ) → a ≡ s → received a.reading byte ≡ None → m ≡ after a.reading byte → Takes most s byte [] (record a { reading = m })
+pub kept : (a s : Connected) (m : Reading) (most byte : ℕ) → a ≡ s → received a.reading byte ≡ None → m ≡ after_byte a.reading byte → Takes most s byte [] (record a { reading = m })
 kept a s m most byte e f g =
     subst (λ (y : Connected). Takes most y byte [] (record a { reading = m })) e (subst (λ (r : Reading). Takes most a byte [] (record a { reading = r })) (sym g) (incomplete f))
 

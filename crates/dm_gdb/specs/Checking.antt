@@ -38,14 +38,14 @@ abbrev pub stopped_line : Stop → List ℕ
 stopped_line why = codes "the program has stopped: " ++ reason_text why ++ 10 ∷ []
 
 -- the line about the end of the steps: none where they led to a finding, and the program goes on
-abbrev pub end_line : Option Stop → List ℕ
-end_line None = []
-end_line (Some stop.Steps) = codes "100000000 steps were made" ++ 10 ∷ []
-end_line (Some why) = stopped_line why
+abbrev pub checked_end_line : Option Stop → List ℕ
+checked_end_line None = []
+checked_end_line (Some stop.Steps) = codes "100000000 steps were made" ++ 10 ∷ []
+checked_end_line (Some why) = stopped_line why
 
 -- what is printed, by the report of the steps
 unfoldable pub checked_text : Reported → Option Stop → List ℕ
-checked_text r why = findings_text r.listed r.unlisted ++ end_line why
+checked_text r why = findings_text r.listed r.unlisted ++ checked_end_line why
 
 -- ---- what the command does
 

@@ -6,7 +6,7 @@ use Rattle.dm_requests.specs.declared.packets.received.Received.{Received}
 use Rattle.dm_requests.specs.declared.packets.received.Received.TheVariants as heard
 use Rattle.dm_requests.specs.packets.Frames.{frame_of}
 use Rattle.dm_requests.specs.packets.Links.{LinkState, acknowledgement}
-use Rattle.dm_requests.specs.packets.Reading.{Reading, after, between, received}
+use Rattle.dm_requests.specs.packets.Reading.{Reading, after_byte, between, received}
 use Rattle.dm_requests.specs.declared.request.Request.{Request}
 use Rattle.dm_requests.specs.declared.request.Request.TheVariants as request
 use Rattle.dm_requests.specs.Requests.{request_of}
@@ -107,6 +107,6 @@ reading_at c r = record c { reading = r }
 -- one more byte of the stream leads from the conversation c to the next, and these bytes are sent for it; a way to go on
 -- makes at most `most` steps
 pub data Takes (most : ℕ) (c : Connected) (byte : ℕ) : List ℕ → Connected → Type 0 where
-  incomplete : received c.reading byte ≡ None → Takes most c byte [] (reading_at c (after c.reading byte))
+  incomplete : received c.reading byte ≡ None → Takes most c byte [] (reading_at c (after_byte c.reading byte))
   complete : (what : Received) (sent : List ℕ) (d : Connected) → received c.reading byte ≡ Some what
-      → Hears most (reading_at c (after c.reading byte)) what sent d → Takes most c byte (receipt c what ++ sent) d
+      → Hears most (reading_at c (after_byte c.reading byte)) what sent d → Takes most c byte (receipt c what ++ sent) d

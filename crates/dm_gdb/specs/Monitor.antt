@@ -28,8 +28,8 @@ is_shown_line None = false
 is_shown_line (Some c) = is_shown c
 
 -- the number of `step N`, in hexadecimal; None for any other line
-abbrev pub step_of : List ℕ → Option ℕ
-step_of line = after_prefix (codes "step ") line >>= number_of
+abbrev pub step_asked : List ℕ → Option ℕ
+step_asked line = after_prefix (codes "step ") line >>= number_of
 
 -- the reply that prints a text
 abbrev pub text_reply : List ℕ → Reply

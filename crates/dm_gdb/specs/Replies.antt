@@ -27,8 +27,8 @@ abbrev pub hex_text : ℕ → ℕ → List ℕ
 hex_text letter number = letter ∷ encode_lower (number ∷ [])
 
 -- a name, and the linear address of a segment in eight digits
-abbrev pub place_text : List ℕ → ℕ → List ℕ
-place_text name base = name ++ encode_lower (to_be_bytes w32 base)
+abbrev pub segment_text : List ℕ → ℕ → List ℕ
+segment_text name base = name ++ encode_lower (to_be_bytes w32 base)
 
 -- the beginning of the reply for a hit of a watchpoint, by its access
 abbrev pub watch_name : Access → List ℕ
@@ -38,15 +38,15 @@ watch_name _ = codes "T05watch:"
 
 -- the reply for a hit of a watchpoint: the linear address where its range begins, in eight digits
 unfoldable pub watch_text : Point → List ℕ
-watch_text point = place_text (watch_name point.access) point.address ++ codes ";"
+watch_text point = segment_text (watch_name point.access) point.address ++ codes ";"
 
 -- the places of data and of empty data
-unfoldable pub data_text : ℕ → List ℕ
-data_text base = place_text (codes ";Data=") base ++ place_text (codes ";Bss=") base
+unfoldable pub data_segment_text : ℕ → List ℕ
+data_segment_text base = segment_text (codes ";Data=") base ++ segment_text (codes ";Bss=") base
 
 -- the places of code, data and empty data: all are the linear address of the program's first segment
 unfoldable pub offsets_text : ℕ → List ℕ
-offsets_text base = place_text (codes "Text=") base ++ data_text base
+offsets_text base = segment_text (codes "Text=") base ++ data_segment_text base
 
 -- the text of a reply, without the frame of its packet
 abbrev pub reply_text : Reply → List ℕ

@@ -24,7 +24,7 @@ use Rattle.dm_target.specs.Registers.{has_register, register_bytes, all_register
 use Rattle.dm_target.specs.Settings.{registers_with}
 use Rattle.dm_gdb.specs.Description.{features_reply}
 use Rattle.dm_gdb.specs.Checking.{ChecksFrom, is_check}
-use Rattle.dm_gdb.specs.Monitor.{is_shown, is_shown_line, step_of, text_reply, stepped_reply}
+use Rattle.dm_gdb.specs.Monitor.{is_shown, is_shown_line, step_asked, text_reply, stepped_reply}
 use Rattle.dm_target.specs.declared.going.Pause.{Pause}
 use Rattle.dm_target.specs.declared.going.Pause.TheVariants as pause
 use Rattle.dm_target.specs.Going.{is_among, place_of, Continues}
@@ -46,12 +46,12 @@ pub record Served : Type 0 where
 
 -- the linear address of the program's first segment, by the registers with which it starts: that of the program segment
 -- prefix, where DS points, for a COM program; ten paragraphs more for an MZ program, whose image lies behind the prefix
-abbrev pub base_of : Cpu → ℕ
-base_of c = if c.cs == c.ds then c.ds * 16 else (c.ds + 0x10) * 16
+abbrev pub first_segment_address : Cpu → ℕ
+first_segment_address c = if c.cs == c.ds then c.ds * 16 else (c.ds + 0x10) * 16
 
 -- the session over a machine on which a program was loaded, without breakpoints
 abbrev pub new_server : State → Served
-new_server m = record { history = new_past m; points = none_set; shown = 0; base = base_of m.cpu; ended = false }
+new_server m = record { history = new_past m; points = none_set; shown = 0; base = first_segment_address m.cpu; ended = false }
 
 -- the reply to a request that asks for nothing of the machine, or for nothing that this server has
 abbrev pub plain_reply : Request → Reply
@@ -95,16 +95,16 @@ abbrev pub written_reply : Memory → ℕ → List ℕ → Reply
 written_reply m address bytes = if reads_as m address bytes then reply.Done else reply.Refused 0x0E
 
 -- the memory after a write of bytes from an address up
-abbrev pub written : Memory → ℕ → List ℕ → Memory
-written m address bytes = with_bytes m (segment_below address) (address - segment_below address * 16) bytes
+abbrev pub memory_written : Memory → ℕ → List ℕ → Memory
+memory_written m address bytes = with_bytes m (segment_below address) (address - segment_below address * 16) bytes
 
 -- the session with t as the state of its machine
 abbrev pub at_state : Served → State → Served
 at_state s t = record s { history = record s.history { machine = t } }
 
 -- the session after a write
-abbrev pub with_written : Served → ℕ → List ℕ → Served
-with_written s address bytes = record s { history = with_change s.history (change.Written (segment_below address) (address - segment_below address * 16) bytes) }
+abbrev pub after_write : Served → ℕ → List ℕ → Served
+after_write s address bytes = record s { history = with_change s.history (change.Written (segment_below address) (address - segment_below address * 16) bytes) }
 
 -- the session after a request to set a breakpoint or watchpoint
 abbrev pub with_inserted : Served → Point → Served
@@ -184,7 +184,7 @@ pub data Replies (s : Served) (most : ℕ) : Request → Reply → Served → Ty
   register : (n : ℕ) → Replies s most (request.Register n) (register_reply s.history.machine n) s
   memory : (address count : ℕ) → Replies s most (request.Memory address count) (memory_reply s.history.machine.memory address count) s
   writes : (address : ℕ) (bytes : List ℕ) → address ≤ 0x10FFEF → address + length bytes ≤ 0x10FFF0
-      → Replies s most (request.SetMemory address bytes) (written_reply (written s.history.machine.memory address bytes) address bytes) (with_written s address bytes)
+      → Replies s most (request.SetMemory address bytes) (written_reply (memory_written s.history.machine.memory address bytes) address bytes) (after_write s address bytes)
   out_of_reach : (address : ℕ) (bytes : List ℕ) → (0x10FFEF < address) ⊎ (0x10FFF0 < address + length bytes) → Replies s most (request.SetMemory address bytes) (reply.Refused 0x0E) s
   inserts : (point : Point) → Replies s most (request.Insert point) reply.Done (with_inserted s point)
   removes : (point : Point) → Replies s most (request.Remove point) reply.Done (with_removed s point)
@@ -193,13 +193,13 @@ pub data Replies (s : Served) (most : ℕ) : Request → Reply → Served → Ty
   places : Replies s most request.Offsets (reply.Offsets s.base) s
   threads : Replies s most request.FirstThreads (threads_reply s.ended) s
   ends : Replies s most request.EndProgram reply.Done (record s { ended = true })
-  shows : (line : List ℕ) (command : Command) (text : List ℕ) → step_of line ≡ None → is_check line ≡ false → command_of line ≡ Some command → is_shown command ≡ true → Displays (new_session s.history.machine) command text
+  shows : (line : List ℕ) (command : Command) (text : List ℕ) → step_asked line ≡ None → is_check line ≡ false → command_of line ≡ Some command → is_shown command ≡ true → Displays (new_session s.history.machine) command text
       → Replies s most (request.Command line) (text_reply text) s
-  helps : (line : List ℕ) → step_of line ≡ None → is_check line ≡ false → is_shown_line (command_of line) ≡ false → Replies s most (request.Command line) reply.Help s
-  goes_to : (line : List ℕ) (n : ℕ) (why : Stop) (t : State) → step_of line ≡ Some n → s.history.machine.steps ≤ n → IsRun s.history.machine (n - s.history.machine.steps) why t
+  helps : (line : List ℕ) → step_asked line ≡ None → is_check line ≡ false → is_shown_line (command_of line) ≡ false → Replies s most (request.Command line) reply.Help s
+  goes_to : (line : List ℕ) (n : ℕ) (why : Stop) (t : State) → step_asked line ≡ Some n → s.history.machine.steps ≤ n → IsRun s.history.machine (n - s.history.machine.steps) why t
       → Replies s most (request.Command line) (stepped_reply why) (at_state s t)
-  goes_back : (line : List ℕ) (n : ℕ) (q : Past) → step_of line ≡ Some n → n < s.history.machine.steps → GoesBack s.history n q → Replies s most (request.Command line) reply.Done (with_past s q)
-  has_passed : (line : List ℕ) (n : ℕ) → step_of line ≡ Some n → n < s.history.origin.steps → Replies s most (request.Command line) reply.Passed s
+  goes_back : (line : List ℕ) (n : ℕ) (q : Past) → step_asked line ≡ Some n → n < s.history.machine.steps → GoesBack s.history n q → Replies s most (request.Command line) reply.Done (with_past s q)
+  has_passed : (line : List ℕ) (n : ℕ) → step_asked line ≡ Some n → n < s.history.origin.steps → Replies s most (request.Command line) reply.Passed s
   checks : (line : List ℕ) (told : Reply) (t : State) → is_check line ≡ true → ChecksFrom s.history.machine told t → Replies s most (request.Command line) told (at_state s t)
   steps_back : (what : Undone) (q : Past) → Undoes s.points.watches s.history what q → Replies s most request.StepBack (undone_reply s.points.breaks what q.machine) (with_past s q)
   continues_back : (what : Undone) (q : Past) → Returns s.points.breaks s.points.watches s.history what q → Replies s most request.ContinueBack (undone_reply s.points.breaks what q.machine) (with_past s q)

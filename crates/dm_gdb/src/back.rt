@@ -1,7 +1,7 @@
 //! Going back: a step, to the last hit, to any earlier step, and to the start.
 
 ghost use Rattle.std.specs.Prelude.{◌≡◌, ◌<◌, ℕ, Some, IfOk, OnErr};
-ghost use Rattle.dm_gdb.specs.Monitor.{step_of};
+ghost use Rattle.dm_gdb.specs.Monitor.{step_asked};
 ghost use Rattle.dm_gdb.specs.Servers.{Replies, undone_reply};
 ghost use Rattle.dm_requests.specs.declared.request.Request.TheVariants as request;
 
@@ -56,7 +56,7 @@ impl Server {
     /// `monitor step N`, where the step lies before the present one: goes back to it, and returns the reply. An `Err` is a
     /// failed allocation, and nothing has changed.
     pub(crate) fn go_back(&mut self, line: &[u8], number: u32) -> Result<Reply, AllocError>
-        requires line { step_of line.now ≡ Some number }
+        requires line { step_asked line.now ≡ Some number }
         requires before { number < self.old.history.machine.steps }
         ensures ok { IfOk result (λ r. (most : ℕ) → Replies self.old most (request.Command line.now) r self.new) }
         ensures err { OnErr result (self.new ≡ self.old) }

@@ -1,7 +1,7 @@
 //! `monitor check`: steps up to the first in which the checker finds something.
 
 ghost use Rattle.std.specs.Prelude.{◌≡◌, ◌++◌, ◌↔◌, ℕ, true, IsTrue, IfOk, OnErr, OnOk};
-ghost use Rattle.dm_gdb.specs.Checking.{checked_text, end_line, findings_text, is_check, stopped_line};
+ghost use Rattle.dm_gdb.specs.Checking.{checked_text, checked_end_line, findings_text, is_check, stopped_line};
 ghost use Rattle.dm_gdb.specs.Servers.{Replies};
 ghost use Rattle.dm_gdb.specs.inner.Checking.{LeadsAhead};
 ghost use Rattle.dm_requests.specs.declared.request.Request.TheVariants as request;
@@ -57,7 +57,7 @@ fn put_stopped(out: &mut Vec<u8>, why: Stop) -> Result<(), AllocError>
 /// Appends the line about the end of the steps; none where they led to a finding, and the program goes on. An `Err` is a
 /// failed allocation.
 fn put_end(out: &mut Vec<u8>, why: Option<Stop>) -> Result<(), AllocError>
-    ensures { OnOk result (out.new.items ≡ out.old.items ++ end_line why) }
+    ensures { OnOk result (out.new.items ≡ out.old.items ++ checked_end_line why) }
 {
     match why {
         None => Ok(()),

@@ -3,7 +3,7 @@
 ghost use Rattle.std.specs.Prelude.{◌≡◌, ℕ, Some, true, IfOk, OnErr};
 ghost use Rattle.dm_requests.specs.commands.Commands.{command_of};
 ghost use Rattle.dm_debug.specs.Sessions.{new_session};
-ghost use Rattle.dm_gdb.specs.Monitor.{is_shown, is_shown_line, step_of, stepped_reply, text_reply};
+ghost use Rattle.dm_gdb.specs.Monitor.{is_shown, is_shown_line, step_asked, stepped_reply, text_reply};
 ghost use Rattle.dm_gdb.specs.Servers.{Replies};
 ghost use Rattle.dm_gdb.specs.inner.Monitor.{ShowsLine};
 ghost use Rattle.dm_requests.specs.declared.request.Request.TheVariants as request;
@@ -46,7 +46,7 @@ fn is_shown_line(line: &[u8]) -> bool
 
 /// The number of `step N`, in hexadecimal; None for any other line.
 fn step_of(line: &[u8]) -> Option<u32>
-    ensures { result ≡ step_of line.now }
+    ensures { result ≡ step_asked line.now }
 {
     read_number(line.strip_prefix(b"step ")?)
 }
@@ -97,7 +97,7 @@ impl Server {
     /// Makes steps up to the one with this number, or goes back to it, and returns the reply. An `Err` is a failed allocation,
     /// and nothing has changed.
     fn go_to(&mut self, line: &[u8], number: u32) -> Result<Reply, AllocError>
-        requires { step_of line.now ≡ Some number }
+        requires { step_asked line.now ≡ Some number }
         ensures ok { IfOk result (λ r. (most : ℕ) → Replies self.old most (request.Command line.now) r self.new) }
         ensures err { OnErr result (self.new ≡ self.old) }
     {

@@ -1,7 +1,7 @@
 //! Replies, and their texts.
 
 ghost use Rattle.std.specs.Prelude.{◌≡◌, ◌++◌, ◌∷◌, OnOk};
-ghost use Rattle.dm_gdb.specs.Replies.{data_text, hex_text, offsets_text, place_text, reply_text, stop_reply, watch_name, watch_text};
+ghost use Rattle.dm_gdb.specs.Replies.{data_segment_text, hex_text, offsets_text, segment_text, reply_text, stop_reply, watch_name, watch_text};
 
 use crate::digits::put_hex;
 use dm_machine::Stop;
@@ -91,7 +91,7 @@ fn put_number(alloc: Global, out: &mut Vec<u8>, letter: u8, number: u8) -> Resul
 
 /// Appends a name, and the linear address of a segment in eight digits. An `Err` is a failed allocation.
 fn put_place(alloc: Global, out: &mut Vec<u8>, name: &[u8], base: u32) -> Result<(), AllocError>
-    ensures { OnOk result (out.new.items ≡ out.old.items ++ place_text name.now base) }
+    ensures { OnOk result (out.new.items ≡ out.old.items ++ segment_text name.now base) }
 {
     out.extend_from_slice(name)?;
     put_hex(alloc, out, &base.to_be_bytes())
@@ -118,9 +118,9 @@ fn put_watch(alloc: Global, out: &mut Vec<u8>, point: &Point) -> Result<(), Allo
 }
 
 /// Appends the places of data and of empty data. An `Err` is a failed allocation.
-#[tactic(auto, unfolding(crate::specs::Replies::data_text))]
+#[tactic(auto, unfolding(crate::specs::Replies::data_segment_text))]
 fn put_data_places(alloc: Global, out: &mut Vec<u8>, base: u32) -> Result<(), AllocError>
-    ensures { OnOk result (out.new.items ≡ out.old.items ++ data_text base) }
+    ensures { OnOk result (out.new.items ≡ out.old.items ++ data_segment_text base) }
 {
     put_place(alloc, out, b";Data=", base)?;
     put_place(alloc, out, b";Bss=", base)

@@ -4,7 +4,7 @@ ghost use Rattle.std.specs.Prelude.{◌≡◌, ◌≤◌, ◌+◌, ℕ, OnOk, On
 ghost use Rattle.dm_services.specs.state.State.{HasProgram};
 ghost use Rattle.dm_target.specs.Going.{Continues};
 ghost use Rattle.dm_gdb.specs.declared.replies.Reply.TheVariants as reply;
-ghost use Rattle.dm_gdb.specs.Servers.{PutsConsole, Replies, arrival_reply, at_state, base_of, is_exit, new_server, plain_reply, setting_reply, step_reply, threads_reply, with_inserted, with_registers, with_removed, with_written, written, written_reply};
+ghost use Rattle.dm_gdb.specs.Servers.{PutsConsole, Replies, arrival_reply, at_state, first_segment_address, is_exit, new_server, plain_reply, setting_reply, step_reply, threads_reply, with_inserted, with_registers, with_removed, after_write, memory_written, written_reply};
 
 use crate::answers::{memory_reply, register_reply};
 use crate::description::features_reply;
@@ -118,7 +118,7 @@ fn is_exit(reply: &Reply) -> bool
 
 /// The linear address of a program's first segment, by the registers with which it starts.
 fn base_of(cpu: &Cpu) -> u32
-    ensures { result ≡ base_of cpu.now }
+    ensures { result ≡ first_segment_address cpu.now }
 {
     if cpu.cs == cpu.ds {
         cpu.ds as u32 * 16
@@ -161,8 +161,8 @@ impl Server {
     fn write(&mut self, address: u32, bytes: &[u8]) -> Result<Reply, AllocError>
         requires there { address ≤ 0x10FFEF }
         requires ends { address + length bytes.now ≤ 0x10FFF0 }
-        ensures after { OnOk result (self.new ≡ with_written self.old address bytes.now) }
-        ensures reply { IfOk result (λ r. r ≡ written_reply (written self.old.history.machine.memory address bytes.now) address bytes.now) }
+        ensures after { OnOk result (self.new ≡ after_write self.old address bytes.now) }
+        ensures reply { IfOk result (λ r. r ≡ written_reply (memory_written self.old.history.machine.memory address bytes.now) address bytes.now) }
         ensures err { OnErr result (self.new ≡ self.old) }
     {
         let segment = segment_below(address);

@@ -9,7 +9,7 @@ use Rattle.dm_services.specs.state.State.{State}
 use Rattle.dm_history.specs.declared.change.Edit.{Edit}
 use Rattle.dm_history.specs.declared.copies.Kept.{Kept}
 use Rattle.dm_history.specs.Edits.{edits_to}
-use Rattle.dm_history.specs.Becomes.{Becomes}
+use Rattle.dm_history.specs.Becomes.{BecomesBy}
 use Rattle.dm_history.specs.Pasts.{Past, new_past, Was}
 use Rattle.dm_history.specs.Branches.{Reaches, IsBranch}
 use Rattle.dm_history.specs.inner.Copies.{IsHistory}
@@ -68,31 +68,31 @@ latest-quiet p q es ds end from count h f g e l within =
 
 -- ---- the states of a branch
 
-branch-was : (p : Past) (from end : ℕ) (m s : State) → Was p from m → from ≤ s.steps → s.steps < end → edits_to from p.edits ≡ edits_to (end - 1) p.edits → Becomes m [] s → Was p s.steps s
+branch-was : (p : Past) (from end : ℕ) (m s : State) → Was p from m → from ≤ s.steps → s.steps < end → edits_to from p.edits ≡ edits_to (end - 1) p.edits → BecomesBy m [] s → Was p s.steps s
 branch-was p from end m s w l r e b =
     let same = between from s.steps (end - 1) p.edits l (omega (arith, r)) e in
     record {
-      becomes = subst (λ (es : List Edit). Becomes p.origin es s) (append-nil (edits_to from p.edits) ∙ sym same) (becomes-join p.origin m s (edits_to from p.edits) [] w.becomes b);
+      becomes = subst (λ (es : List Edit). BecomesBy p.origin es s) (append-nil (edits_to from p.edits) ∙ sym same) (becomes-join p.origin m s (edits_to from p.edits) [] w.becomes b);
       steps = refl;
     }
 
-was-branch : (p : Past) (from end k : ℕ) (m s : State) → p.origin.steps ≤ from → end ≤ 2 ^ 64 - 1 → Was p from m → from ≤ k → k < end → edits_to from p.edits ≡ edits_to (end - 1) p.edits → Was p k s → Becomes m [] s
+was-branch : (p : Past) (from end k : ℕ) (m s : State) → p.origin.steps ≤ from → end ≤ 2 ^ 64 - 1 → Was p from m → from ≤ k → k < end → edits_to from p.edits ≡ edits_to (end - 1) p.edits → Was p k s → BecomesBy m [] s
 was-branch p from end k m s o top w l r e v =
     let es = edits_to from p.edits in
     let same = between from k (end - 1) p.edits l (omega (arith, r)) e in
-    let whole : Becomes p.origin es s = subst (λ (xs : List Edit). Becomes p.origin xs s) same v.becomes in
+    let whole : BecomesBy p.origin es s = subst (λ (xs : List Edit). BecomesBy p.origin xs s) same v.becomes in
     let count = v.steps in
     let front = take_all (length es) es (omega arith) in
     let rest = drop_all (length es) es (omega arith) in
     let x = split p.origin s es (length es) from whole (omega arith) (omega (arith, l, r, top)) o (omega (arith, count, l))
     (All-same (λ z. z.step ≤ from) (take (length es) es) es front (cut from p.edits).within)
     (All-same (λ z. from ≤ z.step) (drop (length es) es) [] rest (All-nil (λ z. from ≤ z.step))) in
-    let there : Becomes p.origin es x.at = subst (λ (xs : List Edit). Becomes p.origin xs x.at) front x.before in
+    let there : BecomesBy p.origin es x.at = subst (λ (xs : List Edit). BecomesBy p.origin xs x.at) front x.before in
     let now = w.steps in
     let one : x.at ≡ m = one_state p.origin x.at m es there w.becomes (x.steps ∙ sym w.steps) (omega (arith, now, l, r, top)) in
-    subst (λ (u : State). Becomes u [] s) one (subst (λ (xs : List Edit). Becomes x.at xs s) rest x.after)
+    subst (λ (u : State). BecomesBy u [] s) one (subst (λ (xs : List Edit). BecomesBy x.at xs s) rest x.after)
 
-branch-reaches : (p : Past) (from end : ℕ) (m : State) → p.origin.steps ≤ from → from < end → end ≤ p.machine.steps → p.machine.steps ≤ 2 ^ 64 - 1 → Becomes p.origin p.edits p.machine → Was p from m →
+branch-reaches : (p : Past) (from end : ℕ) (m : State) → p.origin.steps ≤ from → from < end → end ≤ p.machine.steps → p.machine.steps ≤ 2 ^ 64 - 1 → BecomesBy p.origin p.edits p.machine → Was p from m →
     edits_to from p.edits ≡ edits_to (end - 1) p.edits → Reaches m end
 branch-reaches p from end m o l r top b w e =
     let k = length (edits_to from p.edits) in
@@ -100,10 +100,10 @@ branch-reaches p from end m o l r top b w e =
     let x = split p.origin p.machine p.edits k from b c.some (omega (arith, l, r, top)) o (omega (arith, l, r))
     (All-same (λ z. z.step ≤ from) (take k p.edits) (edits_to from p.edits) c.front c.within)
     (later-edits p.origin p.machine from p.edits (omega (arith, o, l, r, top)) b) in
-    let there : Becomes p.origin (edits_to from p.edits) x.at = subst (λ (xs : List Edit). Becomes p.origin xs x.at) c.front x.before in
+    let there : BecomesBy p.origin (edits_to from p.edits) x.at = subst (λ (xs : List Edit). BecomesBy p.origin xs x.at) c.front x.before in
     let now = w.steps in
     let one : x.at ≡ m = one_state p.origin x.at m (edits_to from p.edits) there w.becomes (x.steps ∙ sym w.steps) (omega (arith, now, l, r, top)) in
-    let rest : Becomes m (drop k p.edits) p.machine = subst (λ (u : State). Becomes u (drop k p.edits) p.machine) one x.after in
+    let rest : BecomesBy m (drop k p.edits) p.machine = subst (λ (u : State). BecomesBy u (drop k p.edits) p.machine) one x.after in
     let after : AreAfter (end - 1) (drop k p.edits) = subst (λ (es : List Edit). AreAfter (end - 1) (drop (length es) p.edits)) (sym e) (cut (end - 1) p.edits).after in
     let y = midway m p.machine (drop k p.edits) (end - 1) rest (omega (arith, l, r, top)) (omega (arith, now, l)) (omega (arith, l, r)) after in
     let steps = y.steps in
@@ -113,7 +113,7 @@ pub branch-of : (p q b : Past) (cs : List Kept) (wish end from : ℕ) (m : State
     edits_to from q.edits ≡ edits_to (end - 1) q.edits → Was q from m → b ≡ new_past m → IsBranch q wish end b
 branch-of p q b cs wish end from m e h top o since before within same w f =
     let now = w.steps in
-    let comes : Becomes q.origin q.edits q.machine = subst (λ (r : Past). Becomes r.origin r.edits r.machine) e h.becomes in
+    let comes : BecomesBy q.origin q.edits q.machine = subst (λ (r : Past). BecomesBy r.origin r.edits r.machine) e h.becomes in
     subst (λ (r : Past). IsBranch q wish end r) (sym f) (record {
       begins = refl;
       since = omega (arith, now, since);

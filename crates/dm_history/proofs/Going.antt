@@ -10,7 +10,7 @@ use Rattle.dm_services.specs.state.State.{State}
 use Rattle.dm_history.specs.declared.change.Edit.{Edit}
 use Rattle.dm_history.specs.declared.copies.Kept.{Kept}
 use Rattle.dm_history.specs.Edits.{edits_to}
-use Rattle.dm_history.specs.Becomes.{Becomes, start}
+use Rattle.dm_history.specs.Becomes.{BecomesBy, start}
 use Rattle.dm_history.specs.Pasts.{Past, Was}
 use Rattle.dm_history.specs.inner.Copies.{IsOnTheWay, IsHistory, is_no_later}
 use Rattle.dm_history.specs.inner.Replays.{LeadsBeyond, IsReplayed, IsBase}
@@ -43,7 +43,7 @@ no-later step count c e =
     let x = both (nat_le c.machine.steps step) (nat_le c.edits count) e in
     record { before = leb-true c.machine.steps step x.0; some = leb-true c.edits count x.1 }
 
-base-copy : (p : Past) (step : ℕ) (c : Kept) → step < 2 ^ 64 - 1 → Becomes p.origin p.edits p.machine → IsOnTheWay p c → NoLater step (length (edits_to step p.edits)) c → IsBase p step c.machine c.edits
+base-copy : (p : Past) (step : ℕ) (c : Kept) → step < 2 ^ 64 - 1 → BecomesBy p.origin p.edits p.machine → IsOnTheWay p c → NoLater step (length (edits_to step p.edits)) c → IsBase p step c.machine c.edits
 base-copy p step c l b w n =
     let now = n.before in
     let start_at = rises p.origin c.machine (take c.edits p.edits) w.becomes (omega (arith, now, l)) in
@@ -54,7 +54,7 @@ base-copy p step c l b w n =
       some = n.some;
       before = n.before;
       leads = w.becomes;
-      on = subst (λ (s : State). Becomes s (drop c.edits p.edits) p.machine) same x.after;
+      on = subst (λ (s : State). BecomesBy s (drop c.edits p.edits) p.machine) same x.after;
       loaded = w.loaded;
     }
 
@@ -96,7 +96,7 @@ base-known p step s made l b =
       others = drop count p.edits;
       after = c.after;
       present = p.machine;
-      becomes = subst (λ (xs : List Edit). Becomes s xs p.machine) (sym (behind made count p.edits b.some)) b.on;
+      becomes = subst (λ (xs : List Edit). BecomesBy s xs p.machine) (sym (behind made count p.edits b.some)) b.on;
       later = l;
     }
 
@@ -107,7 +107,7 @@ base-was p step s t made b r =
     let c = cut step p.edits in
     let parts : take made p.edits ++ take (count - made) (drop made p.edits) ≡ edits_to step p.edits = before made count p.edits b.some ∙ c.front in
     record {
-      becomes = subst (λ (xs : List Edit). Becomes p.origin xs t) parts (becomes-join p.origin s t (take made p.edits) (take (count - made) (drop made p.edits)) b.leads r.becomes);
+      becomes = subst (λ (xs : List Edit). BecomesBy p.origin xs t) parts (becomes-join p.origin s t (take made p.edits) (take (count - made) (drop made p.edits)) b.leads r.becomes);
       steps = r.steps;
     }
 

@@ -10,7 +10,7 @@ use Rattle.dm_history.specs.declared.change.Change.{Change}
 use Rattle.dm_history.specs.declared.change.Edit.{Edit}
 use Rattle.dm_history.specs.declared.copies.Kept.{Kept}
 use Rattle.dm_history.specs.Edits.{changed, edits_to}
-use Rattle.dm_history.specs.Becomes.{Becomes, start, edited}
+use Rattle.dm_history.specs.Becomes.{BecomesBy, start, edited}
 use Rattle.dm_history.specs.Pasts.{Past, new_past, at_state, with_change, Was, GoesBack}
 use Rattle.dm_history.specs.inner.Copies.{IsOnTheWay, IsHistory, is_no_later, LosesOne, all, one, MayGain, none, more}
 use Rattle.dm_history.proofs.Leading.{changed-steps}
@@ -49,7 +49,7 @@ way-edited p e c w =
     let before = w.before in
     record {
       made = omega (arith, made, length-append p.edits add);
-      becomes = subst (λ (xs : List Edit). Becomes p.origin xs c.machine) (sym (take-append-le c.edits p.edits add w.made)) w.becomes;
+      becomes = subst (λ (xs : List Edit). BecomesBy p.origin xs c.machine) (sym (take-append-le c.edits p.edits add w.made)) w.becomes;
       next = All-same (λ z. c.machine.steps ≤ z.step) (drop c.edits (p.edits ++ add)) (drop c.edits p.edits ++ add) (drop-append-le c.edits p.edits add w.made)
           (All-push (λ z. c.machine.steps ≤ z.step) (drop c.edits p.edits) (edit_of p.machine e) w.next w.before);
       before = omega (arith, count, before);
@@ -72,7 +72,7 @@ with-copies p cs ds h a = record { becomes = h.becomes; origin = h.origin; loade
 way-now : (p : Past) (cs : List Kept) → IsHistory p cs → IsOnTheWay p (record { machine = p.machine; edits = length p.edits })
 way-now p cs h = record {
   made = omega arith;
-  becomes = subst (λ (xs : List Edit). Becomes p.origin xs p.machine) (sym (take_all (length p.edits) p.edits (omega arith))) h.becomes;
+  becomes = subst (λ (xs : List Edit). BecomesBy p.origin xs p.machine) (sym (take_all (length p.edits) p.edits (omega arith))) h.becomes;
   next = All-same (λ z. p.machine.steps ≤ z.step) (drop (length p.edits) p.edits) [] (drop_all (length p.edits) p.edits (omega arith)) (All-nil (λ z. p.machine.steps ≤ z.step));
   before = omega arith;
   loaded = h.loaded;
@@ -119,7 +119,7 @@ way-taken p step count t c e some w n =
     = ap (λ j. drop c.edits (take j p.edits)) (let whole : count ≡ c.edits + (count - c.edits) = omega (arith, few) in whole) ∙ drop-take c.edits (count - c.edits) p.edits in
     record {
       made = omega (arith, few, length_is);
-      becomes = subst (λ xs. Becomes p.origin xs c.machine) (sym (take-take c.edits count p.edits few)) w.becomes;
+      becomes = subst (λ xs. BecomesBy p.origin xs c.machine) (sym (take-take c.edits count p.edits few)) w.becomes;
       next = All-same (λ z. c.machine.steps ≤ z.step) (drop c.edits (take count p.edits)) (take (count - c.edits) (drop c.edits p.edits)) rest
           (All-take (λ z. c.machine.steps ≤ z.step) (count - c.edits) (drop c.edits p.edits) w.next);
       before = omega (arith, now, e);
@@ -143,7 +143,7 @@ history-taken p cs step count kept t h w loaded n m =
     let c = cut step p.edits in
     let some = c.some in
     record {
-      becomes = subst (λ xs. Becomes p.origin xs t) (sym (ap (λ j. take j p.edits) n ∙ c.front)) w.becomes;
+      becomes = subst (λ xs. BecomesBy p.origin xs t) (sym (ap (λ j. take j p.edits) n ∙ c.front)) w.becomes;
       origin = h.origin;
       loaded = loaded;
       ways = ways-taken p cs step count kept t h w.steps (omega (arith, n, some)) m;
@@ -198,14 +198,14 @@ gained-history : (p : Past) (cs ds : List Kept) (copy : Kept) → IsHistory p cs
 gained-history p cs ds copy h w (none e) = subst (IsHistory p) (sym e) h
 gained-history p cs ds copy h w (more e) = subst (IsHistory p) (sym e) (with-copies p cs (cs ++ copy ∷ []) h (All-push (IsOnTheWay p) cs copy h.ways w))
 
-way-then : (p : Past) (step : ℕ) (m : State) → p.origin.steps ≤ 2 ^ 64 - 1 → step ≤ p.machine.steps → Becomes p.origin p.edits p.machine → Was p step m → HasProgram m →
+way-then : (p : Past) (step : ℕ) (m : State) → p.origin.steps ≤ 2 ^ 64 - 1 → step ≤ p.machine.steps → BecomesBy p.origin p.edits p.machine → Was p step m → HasProgram m →
     IsOnTheWay p (record { machine = m; edits = length (edits_to step p.edits) })
 way-then p step m l b h w loaded =
     let c = cut step p.edits in
     let now = w.steps in
     record {
       made = c.some;
-      becomes = subst (λ xs. Becomes p.origin xs m) (sym c.front) w.becomes;
+      becomes = subst (λ xs. BecomesBy p.origin xs m) (sym c.front) w.becomes;
       next = All-weaker (λ z. step ≤ z.step) (λ z. m.steps ≤ z.step) (λ z k. omega (arith, k, now)) (drop (length (edits_to step p.edits)) p.edits) (later-edits p.origin p.machine step p.edits l h);
       before = omega (arith, b, now);
       loaded = loaded;

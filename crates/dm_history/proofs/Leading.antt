@@ -7,7 +7,7 @@ use Rattle.dm_machine.proofs.OneRun.{steps-one}
 use Rattle.dm_history.specs.declared.change.Change.{Change}
 use Rattle.dm_history.specs.declared.change.Change.TheVariants.{Registers, Written}
 use Rattle.dm_history.specs.Edits.{changed}
-use Rattle.dm_history.specs.Becomes.{Leads, on, end}
+use Rattle.dm_history.specs.Becomes.{HasStepTo, on, end}
 use Rattle.dm_history.proofs.Counts.{counted, IsEarly, Counts, goes, ends, over, stays, steps-count, ended-stays}
 
 pub none≢some : {A : Type 0} (x : A) → None ≡ Some x → ⊥
@@ -40,7 +40,7 @@ ended s t code n (over d e f) = absurd (none≢some d (sym n ∙ e))
 ended s t code n (stays stop p f) =
     absurd (subst IsEarly (sym (same-some (Exited code) stop (ap (λ (x : Answer). x.stop) f))) p)
 
-pub leads-steps : (s t : State) → Leads s t → t.steps ≡ counted s.steps
+pub leads-steps : (s t : State) → HasStepTo s t → t.steps ≡ counted s.steps
 leads-steps s t (on h) = (goes-on s t (steps-count s _ h)).steps
 leads-steps s t (end code e h) = (ended s t code e (steps-count s _ h)).steps
 
@@ -48,18 +48,18 @@ alive-by : (s t : State) (o : Option ℕ) → s.exited ≡ o → MakesStep s (re
 alive-by s t None e h = e
 alive-by s t (Some code) e h = absurd (none≢some (Exited code) (ap (λ (x : Answer). x.stop) (ended-stays s code _ e h)))
 
-pub leads-alive : (s t : State) → Leads s t → s.exited ≡ None
+pub leads-alive : (s t : State) → HasStepTo s t → s.exited ≡ None
 leads-alive s t (on h) = alive-by s t s.exited refl h
 leads-alive s t (end code e h) = e
 
-pub leads-one : (s t u : State) → Leads s t → Leads s u → t ≡ u
+pub leads-one : (s t u : State) → HasStepTo s t → HasStepTo s u → t ≡ u
 leads-one s t u (on h) (on g) = ap (λ (x : Answer). x.state) (steps-one s _ _ h g)
 leads-one s t u (on h) (end code e g) = absurd (none≢some (Exited code) (ap (λ (x : Answer). x.stop) (steps-one s _ _ h g)))
 leads-one s t u (end code e h) (on g) = absurd (none≢some (Exited code) (ap (λ (x : Answer). x.stop) (steps-one s _ _ g h)))
 leads-one s t u (end code e h) (end d f g) = ap (λ (x : Answer). x.state) (steps-one s _ _ h g)
 
 -- a step that does not end the program
-pub leads-on : (s t : State) → Leads s t → t.exited ≡ None → MakesStep s (record { stop = None; state = t })
+pub leads-on : (s t : State) → HasStepTo s t → t.exited ≡ None → MakesStep s (record { stop = None; state = t })
 leads-on s t (on h) n = h
 leads-on s t (end code e h) n = let x = ended s t code e (steps-count s _ h) in absurd (none≢some x.code (sym n ∙ x.exited))
 

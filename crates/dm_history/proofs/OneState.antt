@@ -6,7 +6,7 @@ use Rattle.dm_services.specs.state.State.{State}
 use Rattle.dm_history.specs.declared.change.Change.{Change}
 use Rattle.dm_history.specs.declared.change.Edit.{Edit}
 use Rattle.dm_history.specs.Edits.{changed}
-use Rattle.dm_history.specs.Becomes.{Becomes, start, edited, stepped, Leads}
+use Rattle.dm_history.specs.Becomes.{BecomesBy, start, edited, stepped, HasStepTo}
 use Rattle.dm_history.specs.Laws.{ThereIsOneState}
 use Rattle.dm_history.proofs.Leading.{leads-steps, leads-one, changed-steps}
 
@@ -48,10 +48,10 @@ All-last P (y ∷ ys) x h = All-last P ys x (All-tail P y (ys ++ x ∷ []) h)
 -- ---- counts below 2^64 - 1
 
 -- a step that leads to such a count adds one
-pub counted-one : (t u : State) → Leads t u → u.steps < 2 ^ 64 - 1 → u.steps ≡ t.steps + 1
+pub counted-one : (t u : State) → HasStepTo t u → u.steps < 2 ^ 64 - 1 → u.steps ≡ t.steps + 1
 counted-one t u h l = let e = leads-steps t u h in omega (arith, e)
 
-pub rises : (s t : State) (es : List Edit) → Becomes s es t → t.steps < 2 ^ 64 - 1 → s.steps ≤ t.steps
+pub rises : (s t : State) (es : List Edit) → BecomesBy s es t → t.steps < 2 ^ 64 - 1 → s.steps ≤ t.steps
 rises s _ _ start l = omega arith
 rises s _ _ (edited es t c b) l =
     let e = changed-steps c t in
@@ -63,7 +63,7 @@ rises s _ _ (stepped es t u b h) l =
     omega (arith, e, before)
 
 -- the edits were made up to now
-pub edits-before : (s t : State) (es : List Edit) → Becomes s es t → t.steps < 2 ^ 64 - 1 → All (λ e. e.step ≤ t.steps) es
+pub edits-before : (s t : State) (es : List Edit) → BecomesBy s es t → t.steps < 2 ^ 64 - 1 → All (λ e. e.step ≤ t.steps) es
 edits-before s _ _ start l = All-nil (λ e. e.step ≤ s.steps)
 edits-before s _ _ (edited es t c b) l =
     let e = changed-steps c t in
@@ -76,7 +76,7 @@ edits-before s _ _ (stepped es t u b h) l =
     All-weaker (λ e. e.step ≤ t.steps) (λ e. e.step ≤ u.steps) (λ x h. omega (arith, e, h)) es before
 
 -- no edit was made after the last step
-not-now : (s t u v : State) (es fs : List Edit) (c : Change) → Becomes s fs t → Leads t u → es ++ edit_of v c ∷ [] ≡ fs → v.steps ≡ u.steps → u.steps < 2 ^ 64 - 1 → ⊥
+not-now : (s t u v : State) (es fs : List Edit) (c : Change) → BecomesBy s fs t → HasStepTo t u → es ++ edit_of v c ∷ [] ≡ fs → v.steps ≡ u.steps → u.steps < 2 ^ 64 - 1 → ⊥
 not-now s t u v es fs c b h e f l =
     let next = counted-one t u h l in
     let before : All (λ x. x.step ≤ t.steps) (es ++ edit_of v c ∷ []) = All-same (λ x. x.step ≤ t.steps) (es ++ edit_of v c ∷ []) fs e (edits-before s t fs b (omega (arith, next))) in
@@ -84,13 +84,13 @@ not-now s t u v es fs c b h e f l =
     omega (arith, next, last, f)
 
 -- no step was made after a start with as many
-not-then : (s t u : State) (es : List Edit) → Becomes s es t → Leads t u → s.steps ≡ u.steps → u.steps < 2 ^ 64 - 1 → ⊥
+not-then : (s t u : State) (es : List Edit) → BecomesBy s es t → HasStepTo t u → s.steps ≡ u.steps → u.steps < 2 ^ 64 - 1 → ⊥
 not-then s t u es b h f l =
     let next = counted-one t u h l in
     let before = rises s t es b (omega (arith, next)) in
     omega (arith, next, before, f)
 
-one-state : (s t u : State) (es fs : List Edit) → Becomes s es t → Becomes s fs u → es ≡ fs → t.steps ≡ u.steps → u.steps < 2 ^ 64 - 1 → t ≡ u
+one-state : (s t u : State) (es fs : List Edit) → BecomesBy s es t → BecomesBy s fs u → es ≡ fs → t.steps ≡ u.steps → u.steps < 2 ^ 64 - 1 → t ≡ u
 one-state s _ _ _ _ start start e f l = refl
 one-state s _ _ _ _ start (edited fs u d y) e f l = absurd (no-snoc fs (edit_of u d) (sym e))
 one-state s _ _ _ fs start (stepped fs' u v y h) e f l = absurd (not-then s u v fs' y h f l)
@@ -110,7 +110,7 @@ one-state s _ _ _ _ (stepped es t w x g) (stepped fs u v y h) e f l =
     let a = counted-one t w g (omega (arith, f)) in
     let b = counted-one u v h l in
     let same : t ≡ u = one-state s t u es fs x y e (omega (arith, a, b, f)) (omega (arith, b)) in
-    leads-one u w v (subst (λ z. Leads z w) same g) h
+    leads-one u w v (subst (λ z. HasStepTo z w) same g) h
 
 pub one_state : ThereIsOneState
 one_state s t u es b d f l = one-state s t u es es b d refl f l

@@ -10,17 +10,17 @@ use Rattle.dm_history.specs.declared.change.Change.{Change}
 use Rattle.dm_history.specs.declared.change.Change.TheVariants.{Registers, Written}
 use Rattle.dm_history.specs.declared.change.Edit.{Edit}
 use Rattle.dm_history.specs.Edits.{changed}
-use Rattle.dm_history.specs.Becomes.{Becomes, start, edited, stepped}
+use Rattle.dm_history.specs.Becomes.{BecomesBy, start, edited, stepped}
 use Rattle.dm_history.specs.inner.Replays.{RunsTo, LeadsBeyond, IsReplayed}
 use Rattle.dm_history.proofs.Leading.{changed-steps, changed-exited}
 use Rattle.dm_history.proofs.OneState.{edit_of, rises}
 use Rattle.dm_history.proofs.Runs.{run-becomes}
 use Rattle.dm_history.proofs.Walks.{alive-before, Gone, all-goes, front, midway}
 
-pub becomes-join : (a b c : State) (es fs : List Edit) → Becomes a es b → Becomes b fs c → Becomes a (es ++ fs) c
-becomes-join a b _ es _ x start = subst (λ xs. Becomes a xs b) (sym (append-nil es)) x
+pub becomes-join : (a b c : State) (es fs : List Edit) → BecomesBy a es b → BecomesBy b fs c → BecomesBy a (es ++ fs) c
+becomes-join a b _ es _ x start = subst (λ xs. BecomesBy a xs b) (sym (append-nil es)) x
 becomes-join a b _ es _ x (edited fs t c y) =
-    subst (λ xs. Becomes a xs (changed c t)) (append_assoc es fs (edit_of t c ∷ [])) (edited (es ++ fs) t c (becomes-join a b t es fs x y))
+    subst (λ xs. BecomesBy a xs (changed c t)) (append_assoc es fs (edit_of t c ∷ [])) (edited (es ++ fs) t c (becomes-join a b t es fs x y))
 becomes-join a b _ es _ x (stepped fs t u y h) = stepped (es ++ fs) t u (becomes-join a b t es fs x y) h
 
 steps-no-memory : AllSteps ≢ NoMemory
@@ -65,7 +65,7 @@ to-edit s t e es step k l r =
         others = k.others;
         after = k.after;
         present = k.present;
-        becomes = subst (λ (u : State). Becomes (changed e.change u) (es ++ k.others) k.present) (sym there) f.on;
+        becomes = subst (λ (u : State). BecomesBy (changed e.change u) (es ++ k.others) k.present) (sym there) f.on;
         later = k.later;
       };
     }
@@ -79,7 +79,7 @@ to-step s t step k l b r =
     let gone = all-goes s m.at [] m.becomes refl m.alive (omega (arith, same, l)) in
     ap (λ (u : State). u.steps) (run-there s t m.at step gone same r) ∙ same
 
-pub runs-to : (o s t : State) (es : List Edit) (step : ℕ) → Becomes o es s → RunsTo s step t → Becomes o es t
+pub runs-to : (o s t : State) (es : List Edit) (step : ℕ) → BecomesBy o es s → RunsTo s step t → BecomesBy o es t
 runs-to o s t es step b r = run-becomes o s t es (step - s.steps) r.stop b r.run
 
 -- ---- one edit after another
@@ -98,10 +98,10 @@ known-item s es i step e l is k = subst (λ xs. LeadsBeyond s xs step) (at-item 
 pub record Next (o : State) (es : List Edit) (i step : ℕ) (t : State) : Type 0 where
   pub loaded : HasProgram t
   pub before : t.steps ≤ step
-  pub becomes : Becomes o (take (i + 1) es) t
+  pub becomes : BecomesBy o (take (i + 1) es) t
   pub known : LeadsBeyond t (drop (i + 1) es) step
 
-next-edit : (o s t : State) (es : List Edit) (i step : ℕ) (e : Edit) → i < length es → e ≡ get_or es i e → step < 2 ^ 64 - 1 → Becomes o (take i es) s → LeadsBeyond s (drop i es) step → RunsTo s e.step t → HasProgram t →
+next-edit : (o s t : State) (es : List Edit) (i step : ℕ) (e : Edit) → i < length es → e ≡ get_or es i e → step < 2 ^ 64 - 1 → BecomesBy o (take i es) s → LeadsBeyond s (drop i es) step → RunsTo s e.step t → HasProgram t →
     Next o es i step (changed e.change t)
 next-edit o s t es i step e l is m b k r h =
     let known = known-item s es i step e l is k in
@@ -114,17 +114,17 @@ next-edit o s t es i step e l is m b k r h =
     record {
       loaded = changed-loaded e.change t h;
       before = omega (arith, now, count, within);
-      becomes = subst (λ xs. Becomes o xs (changed e.change t)) whole (edited (take i es) t e.change (runs-to o s t (take i es) e.step b r));
+      becomes = subst (λ xs. BecomesBy o xs (changed e.change t)) whole (edited (take i es) t e.change (runs-to o s t (take i es) e.step b r));
       known = x.beyond;
     }
 
-pub next-state : (o s t u : State) (es : List Edit) (i step : ℕ) (e : Edit) → u ≡ changed e.change t → i < length es → e ≡ get_or es i e → step < 2 ^ 64 - 1 → Becomes o (take i es) s → LeadsBeyond s (drop i es) step →
+pub next-state : (o s t u : State) (es : List Edit) (i step : ℕ) (e : Edit) → u ≡ changed e.change t → i < length es → e ≡ get_or es i e → step < 2 ^ 64 - 1 → BecomesBy o (take i es) s → LeadsBeyond s (drop i es) step →
     RunsTo s e.step t → HasProgram t → Next o es i step u
 next-state o s t u es i step e q l is m b k r h = subst (Next o es i step) (sym q) (next-edit o s t es i step e l is m b k r h)
 
-pub replayed : (o s t : State) (es : List Edit) (i step : ℕ) → length es ≤ i → step < 2 ^ 64 - 1 → s.steps ≤ step → Becomes o (take i es) s → LeadsBeyond s (drop i es) step → RunsTo s step t → IsReplayed o es step t
+pub replayed : (o s t : State) (es : List Edit) (i step : ℕ) → length es ≤ i → step < 2 ^ 64 - 1 → s.steps ≤ step → BecomesBy o (take i es) s → LeadsBeyond s (drop i es) step → RunsTo s step t → IsReplayed o es step t
 replayed o s t es i step l m a b k r = record {
-  becomes = runs-to o s t es step (subst (λ xs. Becomes o xs s) (take_all i es l) b) r;
+  becomes = runs-to o s t es step (subst (λ xs. BecomesBy o xs s) (take_all i es l) b) r;
   steps = to-step s t step (subst (λ xs. LeadsBeyond s xs step) (drop_all i es l) k) m a r;
 }
 

@@ -7,19 +7,19 @@ use Rattle.dm_machine.specs.Step.{MakesStep}
 use Rattle.dm_machine.specs.Run.{Answers, Goes, here, further, IsRun, over, whole, cut}
 use Rattle.dm_history.specs.declared.change.Edit.{Edit}
 use Rattle.dm_history.specs.Pasts.{Past}
-use Rattle.dm_history.specs.Becomes.{Becomes, stepped, Leads, on, end}
+use Rattle.dm_history.specs.Becomes.{BecomesBy, stepped, HasStepTo, on, end}
 use Rattle.dm_history.proofs.Counts.{counted, IsEarly, Counts, goes, ends, stays, steps-count, ended-stays, ended-step}
 use Rattle.dm_history.proofs.Counts as counts
 use Rattle.dm_history.proofs.Leading.{none≢some, same-some, leads-steps}
 
-pub goes-becomes : (o s t : State) (es : List Edit) (n : ℕ) → Becomes o es s → Goes s n t → Becomes o es t
+pub goes-becomes : (o s t : State) (es : List Edit) (n : ℕ) → BecomesBy o es s → Goes s n t → BecomesBy o es t
 goes-becomes o s _ es _ b here = b
 goes-becomes o s _ es _ b (further n t u g h) = stepped es t u (goes-becomes o s t es n b g) (on h)
 
 -- a step that stops leaves the state, or ends the program
 data Stopped (s t : State) : Type 0 where
   same : t ≡ s → Stopped s t
-  ended : Leads s t → Stopped s t
+  ended : HasStepTo s t → Stopped s t
 
 stopped-by : (s t : State) (stop : Stop) → s.exited ≡ None → MakesStep s (record { stop = Some stop; state = t }) → Counts s (record { stop = Some stop; state = t }) → Stopped s t
 stopped-by s t stop n h (goes e f g) = absurd (none≢some stop (sym e))
@@ -36,19 +36,19 @@ stopped : (s t : State) (stop : Stop) → Answers s (Some stop) t → Stopped s 
 stopped s t NoMemory h = same h.1
 stopped s t stop h = stopped-at s t stop s.exited refl h
 
-stopped-becomes : (o s t : State) (es : List Edit) → Becomes o es s → Stopped s t → Becomes o es t
-stopped-becomes o s t es b (same e) = subst (Becomes o es) (sym e) b
+stopped-becomes : (o s t : State) (es : List Edit) → BecomesBy o es s → Stopped s t → BecomesBy o es t
+stopped-becomes o s t es b (same e) = subst (BecomesBy o es) (sym e) b
 stopped-becomes o s t es b (ended h) = stepped es s t b h
 
-pub run-becomes : (o s t : State) (es : List Edit) (n : ℕ) (stop : Stop) → Becomes o es s → IsRun s n stop t → Becomes o es t
-run-becomes o s t es n stop b (over code e f g) = subst (Becomes o es) (sym g) b
+pub run-becomes : (o s t : State) (es : List Edit) (n : ℕ) (stop : Stop) → BecomesBy o es s → IsRun s n stop t → BecomesBy o es t
+run-becomes o s t es n stop b (over code e f g) = subst (BecomesBy o es) (sym g) b
 run-becomes o s t es n stop b (whole e f g) = goes-becomes o s t es n b g
 run-becomes o s t es n stop b (cut e w) =
     stopped-becomes o w.before t es (goes-becomes o s w.before es w.made b w.goes) (stopped w.before t stop w.answers)
 
 -- ---- no run makes fewer steps
 
-pub leads-rise : (s t : State) → s.steps ≤ 2 ^ 64 - 1 → Leads s t → (s.steps ≤ t.steps) × (t.steps ≤ 2 ^ 64 - 1)
+pub leads-rise : (s t : State) → s.steps ≤ 2 ^ 64 - 1 → HasStepTo s t → (s.steps ≤ t.steps) × (t.steps ≤ 2 ^ 64 - 1)
 leads-rise s t l h = let e = leads-steps s t h in (omega (arith, e), omega (arith, e))
 
 pub goes-rise : (s t : State) (n : ℕ) → s.steps ≤ 2 ^ 64 - 1 → Goes s n t → (s.steps ≤ t.steps) × (t.steps ≤ 2 ^ 64 - 1)

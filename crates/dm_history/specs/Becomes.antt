@@ -8,12 +8,12 @@ use Rattle.dm_history.specs.declared.change.Edit.{Edit}
 use Rattle.dm_history.specs.Edits.{changed}
 
 -- a step from s leads to t: the machine goes on, or the program ends with it
-pub data Leads (s t : State) : Type 0 where
-  on : MakesStep s (record { stop = None; state = t }) → Leads s t
-  end : (code : ℕ) → s.exited ≡ None → MakesStep s (record { stop = Some (Exited code); state = t }) → Leads s t
+pub data HasStepTo (s t : State) : Type 0 where
+  on : MakesStep s (record { stop = None; state = t }) → HasStepTo s t
+  end : (code : ℕ) → s.exited ≡ None → MakesStep s (record { stop = Some (Exited code); state = t }) → HasStepTo s t
 
 -- s becomes this state by steps and by these edits, each made when so many steps had been made
-pub data Becomes (s : State) : List Edit → State → Type 0 where
-  start : Becomes s [] s
-  edited : (es : List Edit) (t : State) (c : Change) → Becomes s es t → Becomes s (es ++ record { step = t.steps; change = c } ∷ []) (changed c t)
-  stepped : (es : List Edit) (t u : State) → Becomes s es t → Leads t u → Becomes s es u
+pub data BecomesBy (s : State) : List Edit → State → Type 0 where
+  start : BecomesBy s [] s
+  edited : (es : List Edit) (t : State) (c : Change) → BecomesBy s es t → BecomesBy s (es ++ record { step = t.steps; change = c } ∷ []) (changed c t)
+  stepped : (es : List Edit) (t u : State) → BecomesBy s es t → HasStepTo t u → BecomesBy s es u

@@ -1,13 +1,13 @@
 -- A branch of a history: another history that begins at an earlier state, and goes through the same states.
 use Rattle.std.specs.Prelude.{◌≡◌, ℕ, ◌+◌, ◌≤◌, ◌<◌, [], None}
 use Rattle.dm_services.specs.state.State.{State}
-use Rattle.dm_history.specs.Becomes.{Becomes}
+use Rattle.dm_history.specs.Becomes.{BecomesBy}
 use Rattle.dm_history.specs.Pasts.{Past, new_past, Was}
 
 -- steps alone lead from s to a state one step before this count of steps, in which the program has not ended
 pub record Reaches (s : State) (end : ℕ) : Type 0 where
   pub last : State
-  pub becomes : Becomes s [] last
+  pub becomes : BecomesBy s [] last
   pub steps : last.steps + 1 ≡ end
   pub alive : last.exited ≡ None
 
@@ -18,5 +18,5 @@ pub record IsBranch (p : Past) (wish end : ℕ) (b : Past) : Type 0 where
   pub since : wish ≤ b.machine.steps
   pub before : b.machine.steps < end
   pub reaches : Reaches b.machine end
-  pub was : (s : State) → Becomes b.machine [] s → s.steps < end → Was p s.steps s
-  pub becomes : (k : ℕ) (s : State) → b.machine.steps ≤ k → k < end → Was p k s → Becomes b.machine [] s
+  pub was : (s : State) → BecomesBy b.machine [] s → s.steps < end → Was p s.steps s
+  pub becomes : (k : ℕ) (s : State) → b.machine.steps ≤ k → k < end → Was p k s → BecomesBy b.machine [] s

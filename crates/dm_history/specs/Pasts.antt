@@ -4,7 +4,7 @@ use Rattle.dm_services.specs.state.State.{State}
 use Rattle.dm_history.specs.declared.change.Change.{Change}
 use Rattle.dm_history.specs.declared.change.Edit.{Edit}
 use Rattle.dm_history.specs.Edits.{changed, edits_to}
-use Rattle.dm_history.specs.Becomes.{Becomes}
+use Rattle.dm_history.specs.Becomes.{BecomesBy}
 
 -- a history: the state where it begins, the edits made since in their order, and the machine's state now
 pub record Past : Type 0 where
@@ -26,7 +26,7 @@ with_change p c = record p { edits = p.edits ++ record { step = p.machine.steps;
 
 -- the history p was in this state after so many steps, with the edits made up to then
 pub record Was (p : Past) (step : ℕ) (s : State) : Type 0 where
-  pub becomes : Becomes p.origin (edits_to step p.edits) s
+  pub becomes : BecomesBy p.origin (edits_to step p.edits) s
   pub steps : s.steps ≡ step
 
 -- q is the history p as it was after so many steps: later edits are dropped

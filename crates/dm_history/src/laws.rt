@@ -1,5 +1,5 @@
 //! The law of histories, the contract of a function that does nothing, and what holds of each history.
-ghost use Rattle.dm_history.specs.Becomes.{Becomes};
+ghost use Rattle.dm_history.specs.Becomes.{BecomesBy};
 ghost use Rattle.dm_history.specs.Laws.{ThereIsOneState};
 
 use crate::history::History;
@@ -13,7 +13,7 @@ pub fn an_origin_becomes_one_state()
 
 /// The machine of a history has come from its origin by steps and by the edits. Does nothing when called.
 pub fn histories_come_from_their_origin(history: &History)
-    ensures { Becomes history.now.origin history.now.edits history.now.machine }
+    ensures { BecomesBy history.now.origin history.now.edits history.now.machine }
 {
     let _due = history.due;
 }

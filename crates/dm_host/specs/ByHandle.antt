@@ -12,9 +12,9 @@ use Rattle.dm_host.specs.Hosts.{Hosted, Shows, IsNotLoaded}
 
 -- the buffer `new` is filled with the bytes from the offset on, if there are as many (true); otherwise it is `old`
 -- (false)
-abbrev pub Fills : List ℕ → ℕ → List ℕ → List ℕ → Bool → Type 0
-Fills bytes offset old new true = (offset + length old ≤ length bytes) × (new ≡ take (length old) (drop offset bytes))
-Fills bytes offset old new false = (length bytes < offset + length old) × (new ≡ old)
+abbrev pub FillsBuffer : List ℕ → ℕ → List ℕ → List ℕ → Bool → Type 0
+FillsBuffer bytes offset old new true = (offset + length old ≤ length bytes) × (new ≡ take (length old) (drop offset bytes))
+FillsBuffer bytes offset old new false = (length bytes < offset + length old) × (new ≡ old)
 
 -- the handle of expanded memory is in use
 abbrev pub HasHandle : State → ℕ → Type 0
@@ -28,7 +28,7 @@ block_of s handle page = slice_get (blocks_of s.ems handle) page
 pub record ReadsPage (s : State) (handle page offset : ℕ) (old new : List ℕ) : Type 0 where
   pub block : ℕ
   pub there : block_of s handle page ≡ Some block
-  pub fills : Fills (page_bytes s.memory block) offset old new true
+  pub fills : FillsBuffer (page_bytes s.memory block) offset old new true
 
 -- the page has fewer than n bytes from the offset on
 pub record IsPastPage (s : State) (handle page offset n : ℕ) : Type 0 where
@@ -48,7 +48,7 @@ pub data IsPageUnread (h : Hosted) (handle page offset n : ℕ) (why : Refusal) 
 pub record ReadsBlock (s : State) (handle offset : ℕ) (old new : List ℕ) : Type 0 where
   pub entry : Handle
   pub there : slot s.xms handle ≡ Some entry
-  pub fills : Fills (page_bytes s.memory entry.block) offset old new true
+  pub fills : FillsBuffer (page_bytes s.memory entry.block) offset old new true
 
 -- the block of the handle has fewer than n bytes from the offset on
 pub record IsPastBlock (s : State) (handle offset n : ℕ) : Type 0 where

@@ -2,7 +2,7 @@
 use Rattle.std.specs.Prelude.{◌≡◌, ℕ, ◌<◌, ◌≤◌, Bool, false, true, List, [], ◌∷◌, ◌++◌, Some, None, length}
 use Rattle.dm_pool.specs.declared.sizes.Sizes.{Sizes}
 use Rattle.dm_pool.specs.Stored.{IsTooLarge}
-use Rattle.dm_proc.specs.Programs.{IsName, has_name, program_of}
+use Rattle.dm_proc.specs.Programs.{IsName, has_program, program_of}
 use Rattle.dm_load.specs.Image.{IsGood}
 use Rattle.dm_host.specs.declared.refusal.Refusal.{Refusal}
 use Rattle.dm_host.specs.declared.refusal.Refusal.TheVariants.{TooLarge, VariablesTooLong, Memory, BadName, NameTwice, NotFound, BadFormat}
@@ -31,8 +31,8 @@ IsNewFault sizes variables _ = ⊥
 -- allocation
 abbrev pub IsAddFault : Prepared → List ℕ → Refusal → Type 0
 IsAddFault s name BadName = IsName name → ⊥
-IsAddFault s name NameTwice = IsName name × (has_name s.programs name ≡ true)
-IsAddFault s name Memory = IsName name × (has_name s.programs name ≡ false)
+IsAddFault s name NameTwice = IsName name × (has_program s.programs name ≡ true)
+IsAddFault s name Memory = IsName name × (has_program s.programs name ≡ false)
 IsAddFault s name _ = ⊥
 
 -- the setup has a program of this name, and its file is a good COM or MZ program

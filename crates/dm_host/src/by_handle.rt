@@ -2,7 +2,7 @@
 //! shows it or not.
 ghost use Rattle.std.specs.Prelude.{◌≡◌, IfErr, OnOk, OnErr, length};
 ghost use Rattle.dm_host.specs.Hosts.{Shows};
-ghost use Rattle.dm_host.specs.ByHandle.{Fills, ReadsPage, IsPageUnread, ReadsBlock, IsBlockUnread};
+ghost use Rattle.dm_host.specs.ByHandle.{FillsBuffer, ReadsPage, IsPageUnread, ReadsBlock, IsBlockUnread};
 
 use crate::host::Host;
 use crate::refusal::Refusal;
@@ -11,7 +11,7 @@ use dm_machine::tables_and_memory_are_consistent;
 /// Fills the buffer with the bytes from an offset on and returns true, if there are as many; otherwise returns false, and
 /// the buffer stays.
 fn fill(bytes: &[u8], offset: usize, buffer: &mut [u8]) -> bool
-    ensures { Fills bytes.now offset buffer.old buffer.new result }
+    ensures { FillsBuffer bytes.now offset buffer.old buffer.new result }
 {
     if offset > bytes.len() || buffer.len() > bytes.len() - offset {
         return false;

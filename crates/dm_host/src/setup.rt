@@ -1,7 +1,7 @@
 //! What a host's machine is made from.
 ghost use Rattle.std.specs.Prelude.{◌≡◌, ◌++◌, ◌∷◌, [], ◌↔◌, ◌<◌, ◌≤◌, OnOk, OnErr, IsErrOf, IfOk, IfErr, IsTrue, length, None};
 ghost use Rattle.dm_pool.specs.Stored.{IsTooLarge};
-ghost use Rattle.dm_proc.specs.Programs.{IsName, has_name, program_of};
+ghost use Rattle.dm_proc.specs.Programs.{IsName, program_of};
 ghost use Rattle.dm_load.specs.Image.{IsGood};
 ghost use Rattle.dm_host.specs.Setups.{IsNewFault, IsAddFault, added};
 ghost use Rattle.dm_host.specs.inner.Setups.{IsTested};

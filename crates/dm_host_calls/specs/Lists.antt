@@ -9,7 +9,7 @@ use Rattle.dm_views.specs.declared.inventory.extended.ExtendedBlock.{ExtendedBlo
 use Rattle.dm_views.specs.declared.inventory.extended.UpperBlock.{UpperBlock}
 use Rattle.dm_views.specs.declared.inventory.findings.FoundRecord.{FoundRecord}
 use Rattle.dm_views.specs.inventory.Arena.{IsListedArena}
-use Rattle.dm_views.specs.inventory.Pages.{number_of, handle_rows, window_rows}
+use Rattle.dm_views.specs.inventory.Pages.{truth_number, handle_rows, window_rows}
 use Rattle.dm_views.specs.inventory.Extended.{extended_rows, upper_rows}
 use Rattle.dm_views.specs.inventory.Findings.{record_of}
 use Rattle.dm_host.specs.declared.refusal.Refusal.{Refusal}
@@ -19,7 +19,7 @@ use Rattle.dm_host.specs.ByHandle.{ReadsPage, IsPageUnread, ReadsBlock, IsBlockU
 use Rattle.dm_host.specs.Findings.{TellsFinding, IsUntold}
 use Rattle.dm_host_calls.specs.declared.lists.ListEnd.{ListEnd}
 use Rattle.dm_host_calls.specs.Statuses.{status_of}
-use Rattle.dm_host_calls.specs.Calls.{IsDoneOrRefused, Gives}
+use Rattle.dm_host_calls.specs.Calls.{IsDoneOrRefused, GivesItems}
 
 -- ---- what a machine holds
 
@@ -31,13 +31,13 @@ end_of (Some segment) = record { destroyed = 1; at = segment }
 -- the records that Lists holds of the machine are copied to the front of the buffer, if they fit, and `wanted` is how many
 -- they are; or the call is refused, and buffer and `wanted` stay
 pub data GivesRecords {A : Type 0} (h : Hosted) (Lists : State → List A → Type 0) (Refused : Refusal → Type 0) (before after : List A) (wanted_before wanted status : ℕ) : Type 0 where
-  listed : (rows : List A) → Shows h (λ s. Lists s rows) → Gives rows before after wanted status → GivesRecords h Lists Refused before after wanted_before wanted status
+  listed : (rows : List A) → Shows h (λ s. Lists s rows) → GivesItems rows before after wanted status → GivesRecords h Lists Refused before after wanted_before wanted status
   refused : (why : Refusal) → Refused why → status ≡ status_of why → after ≡ before → wanted ≡ wanted_before → GivesRecords h Lists Refused before after wanted_before wanted status
 
 -- `dm_c_blocks`: the headers of the arena are copied to the front of the buffer, if they fit, `wanted` is how many they
 -- are, and `end` is how their lists end; if no program is loaded or an allocation failed, nothing changes
 pub data BlocksTo (h : Hosted) (before after : List ArenaBlock) (wanted_before wanted : ℕ) (end_before end : ListEnd) (status : ℕ) (g : Hosted) : Type 0 where
-  listed : (rows : List ArenaBlock) (broken : Option ℕ) → Shows h (λ s. IsListedArena s.upper s.memory rows broken) → Gives rows before after wanted status → end ≡ end_of broken → g ≡ h
+  listed : (rows : List ArenaBlock) (broken : Option ℕ) → Shows h (λ s. IsListedArena s.upper s.memory rows broken) → GivesItems rows before after wanted status → end ≡ end_of broken → g ≡ h
       → BlocksTo h before after wanted_before wanted end_before end status g
   refused : (why : Refusal) → IsUnlisted h why → status ≡ status_of why → after ≡ before → wanted ≡ wanted_before → end ≡ end_before → g ≡ h
       → BlocksTo h before after wanted_before wanted end_before end status g
@@ -63,7 +63,7 @@ UpperBlocksTo h before after wanted_before wanted status g = GivesRecords h (λ 
 -- changes
 abbrev pub HighMemoryTo : Hosted → ℕ → ℕ → ℕ → ℕ → ℕ → Hosted → Type 0
 HighMemoryTo h a20_before a20 used_before used status g =
-    IsDoneOrRefused status (Shows h (λ s. (a20 ≡ number_of s.memory.a20) × (used ≡ number_of s.xms.area))) (λ why. IsNotLoaded h why × (a20 ≡ a20_before) × (used ≡ used_before)) × (g ≡ h)
+    IsDoneOrRefused status (Shows h (λ s. (a20 ≡ truth_number s.memory.a20) × (used ≡ truth_number s.xms.area))) (λ why. IsNotLoaded h why × (a20 ≡ a20_before) × (used ≡ used_before)) × (g ≡ h)
 
 -- ---- bytes by handle
 
@@ -83,7 +83,7 @@ ReadsBlockTo h handle offset before after status g =
 -- buffer, if they fit, and `wanted` is how many they are; if an allocation failed (status 3), nothing changes
 abbrev pub FindingsTo : Hosted → List FoundRecord → List FoundRecord → ℕ → ℕ → ℕ → Hosted → Type 0
 FindingsTo h before after wanted_before wanted status g =
-    (Gives (map record_of h.report.listed) before after wanted status ⊎ ((status ≡ status_of Memory) × (after ≡ before) × (wanted ≡ wanted_before))) × (g ≡ h)
+    (GivesItems (map record_of h.report.listed) before after wanted status ⊎ ((status ≡ status_of Memory) × (after ≡ before) × (wanted ≡ wanted_before))) × (g ≡ h)
 
 -- `dm_c_finding_counts`: how many errors and notes the last checked run had, and how many findings its report neither lists
 -- nor counts as repetitions
@@ -93,5 +93,5 @@ FindingCountsTo h errors notes unlisted status g = (status ≡ 0) × (errors ≡
 -- `dm_c_finding_line`: the line of finding k of that report is copied to the front of the buffer, if it fits, and `wanted` is
 -- how many bytes it has; if the report lists no finding k, or an allocation failed, nothing changes
 pub data FindingLineTo (h : Hosted) (k : ℕ) (before after : List ℕ) (wanted_before wanted status : ℕ) (g : Hosted) : Type 0 where
-  told : (text : List ℕ) → TellsFinding h k text → Gives text before after wanted status → g ≡ h → FindingLineTo h k before after wanted_before wanted status g
+  told : (text : List ℕ) → TellsFinding h k text → GivesItems text before after wanted status → g ≡ h → FindingLineTo h k before after wanted_before wanted status g
   refused : (why : Refusal) → IsUntold h k why → status ≡ status_of why → after ≡ before → wanted ≡ wanted_before → g ≡ h → FindingLineTo h k before after wanted_before wanted status g

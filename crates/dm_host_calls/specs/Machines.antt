@@ -19,7 +19,7 @@ use Rattle.dm_host_calls.specs.declared.values.Stopped.{Stopped}
 use Rattle.dm_host_calls.specs.declared.values.Registers.{Registers}
 use Rattle.dm_host_calls.specs.declared.values.Point.{Point}
 use Rattle.dm_host_calls.specs.Statuses.{status_of, stopped_of, registers_of, cpu_of, point_of}
-use Rattle.dm_host_calls.specs.Calls.{IsDoneOrRefused, Gives}
+use Rattle.dm_host_calls.specs.Calls.{IsDoneOrRefused, GivesItems}
 
 -- `dm_c_add`: a program is added; at a refusal nothing changes
 abbrev pub AddsTo : Hosted → List ℕ → List ℕ → ℕ → Hosted → Type 0
@@ -83,7 +83,7 @@ WritesLinearTo h address bytes status g =
 -- 14), nothing changes
 abbrev pub OutputTo : Hosted → ℕ → List ℕ → List ℕ → ℕ → ℕ → ℕ → Hosted → Type 0
 OutputTo h from before after wanted_before wanted status g =
-    (Shows h (λ s. Gives (drop from s.console.output) before after wanted status)
+    (Shows h (λ s. GivesItems (drop from s.console.output) before after wanted status)
     ⊎ (IsNotLoaded h NotLoaded × (status ≡ status_of NotLoaded) × (after ≡ before) × (wanted ≡ wanted_before))) × (g ≡ h)
 
 -- `dm_c_output_count`: how many bytes were written to the console; if no program is loaded, nothing changes
@@ -122,4 +122,4 @@ ChecksTo h n before after wanted_before wanted status g =
 -- `dm_c_answer`: the answer of the last command or checked run that had one is copied to the front of the buffer, if
 -- it fits, and `wanted` is its length; the host stays
 abbrev pub AnswersTo : Hosted → List ℕ → List ℕ → ℕ → ℕ → Hosted → Type 0
-AnswersTo h before after wanted status g = Gives h.answer before after wanted status × (g ≡ h)
+AnswersTo h before after wanted status g = GivesItems h.answer before after wanted status × (g ≡ h)

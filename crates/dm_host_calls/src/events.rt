@@ -1,7 +1,7 @@
 //! Events that end a run, as C passes them, and how such a run has ended.
 ghost use Rattle.std.specs.Prelude.{◌≡◌, IfOk, map};
 ghost use Rattle.std.specs.List.{list_all};
-ghost use Rattle.dm_host_calls.specs.Events.{is_known, event_of, ended_of, place_in};
+ghost use Rattle.dm_host_calls.specs.Events.{is_known, event_of, ended_of, place_of_event};
 
 use crate::values::{Stopped, stopped_of};
 use dm_debug::stops::{Ending, Event, Range};
@@ -89,7 +89,7 @@ pub fn ended_of(ending: Ending) -> Stopped
 
 /// The place in the list of the event that came; `before` if none did.
 pub fn place_in(ending: Ending, before: usize) -> usize
-    ensures { result ≡ place_in ending before }
+    ensures { result ≡ place_of_event ending before }
 {
     match ending {
         Ending::Stopped(_) => before,

@@ -2,7 +2,7 @@
 //! that of the refusal, or 4 if the buffer is too small for all; then `wanted` alone is set, beside `end` of `blocks`.
 ghost use Rattle.std.specs.Prelude.{◌≡◌};
 ghost use Rattle.dm_host_calls.specs.Lists.{end_of, BlocksTo, PageHandlesTo, WindowsTo, ExtendedBlocksTo, UpperBlocksTo, HighMemoryTo, ReadsPageTo, ReadsBlockTo, FindingsTo, FindingCountsTo, FindingLineTo};
-ghost use Rattle.dm_views.specs.inventory.Pages.{number_of};
+ghost use Rattle.dm_views.specs.inventory.Pages.{truth_number};
 
 use crate::values::{OK, give, status_of};
 use dm_host::Host;
@@ -33,7 +33,7 @@ fn end_of(broken: Option<u16>) -> ListEnd
 
 /// A truth value as a number.
 fn number_of(b: bool) -> u32
-    ensures { result ≡ number_of b }
+    ensures { result ≡ truth_number b }
 {
     if b { 1 } else { 0 }
 }

@@ -1,7 +1,7 @@
 //! The values that pass between C and the library beside numbers and bytes: statuses, stops, registers, breakpoints.
 ghost use Rattle.std.specs.Prelude.{◌≡◌, ◌++◌, ◌∷◌, [], IfOk, map, drop, OnOk};
 ghost use Rattle.dm_host_calls.specs.Statuses.{status_of, stopped_of, registers_of, cpu_of, point_of};
-ghost use Rattle.dm_host_calls.specs.Calls.{Gives};
+ghost use Rattle.dm_host_calls.specs.Calls.{GivesItems};
 
 use dm_alu::Flags;
 use dm_host::{Refusal, copy_all};
@@ -184,7 +184,7 @@ pub fn rest_of(bytes: &[u8], from: usize) -> &[u8]
 /// The end of the calls that give as much as there is: sets `wanted` to the number of items. If they fit, copies them to
 /// the front of the buffer and returns 0; otherwise returns 4, and the buffer stays.
 pub fn give<T: Copy>(items: &[T], buffer: &mut [T], wanted: &mut usize) -> u32
-    ensures { Gives items.now buffer.old buffer.new wanted.new result }
+    ensures { GivesItems items.now buffer.old buffer.new wanted.new result }
 {
     *wanted = items.len();
     if copy_all(items, buffer) {

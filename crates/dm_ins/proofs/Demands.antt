@@ -17,7 +17,7 @@ use Rattle.dm_ins.specs.declared.demand.Data.TheVariants as data_is
 use Rattle.dm_ins.specs.declared.demand.Demand.{Demand}
 use Rattle.dm_ins.specs.declared.table.OperandKind.{OperandKind}
 use Rattle.dm_ins.specs.declared.table.OperandKind.TheVariants as is
-use Rattle.dm_ins.specs.Registers.{word_registers, byte_registers, bases, word_number, byte_number, segment_number}
+use Rattle.dm_ins.specs.Registers.{word_registers, byte_registers, bases, word_number, byte_register_number, segment_number}
 use Rattle.dm_ins.specs.Spelling.{word_bytes, sign_extended, based, register, at_place, SpellsMemory, SpellsFields, Fills}
 use Rattle.dm_ins.specs.inner.Search.{rm_of, is_direct, same_width, numbered, asks_data, asks_register, asks_place, as_signed, demand_of, data_bytes, with_displacement, memory_bytes, fields_bytes}
 
@@ -44,7 +44,7 @@ named_place n (Some a) = place.Memory a
 past_eight : (n : ℕ) → suc (suc (suc (suc (suc (suc (suc (suc n))))))) < 8 → ⊥
 past_eight n h = omega arith
 
-byte_number_at : (n : ℕ) → n < 8 → byte_number (get_or byte_registers n Al) ≡ n
+byte_number_at : (n : ℕ) → n < 8 → byte_register_number (get_or byte_registers n Al) ≡ n
 byte_number_at zero h = refl
 byte_number_at (suc zero) h = refl
 byte_number_at (suc (suc zero)) h = refl
@@ -127,7 +127,7 @@ module _ (m : Fields) (register_fits : m.register < 8) (rm_fits : m.rm < 8) wher
       let high : (8 * (r % 8) + m.register) / 8 ≡ r % 8 = omega arith in
       let low : (8 * (r % 8) + m.register) % 8 ≡ m.register = omega arith in
       record { demand = asks_register m.register; is_demand = rw h.0 (rw (high, low) (rw (eq-eqb (r % 8) (r % 8) refl) refl)); register = refl; place = refl; tail = sym h.1 }
-  operand_asks (is.Byte r) o d h = record { demand = asks_data data_is.Nothing; is_demand = rw h.0 (rw (eq-eqb (byte_number r) (byte_number r) refl) refl); register = refl; place = refl; tail = sym h.1 }
+  operand_asks (is.Byte r) o d h = record { demand = asks_data data_is.Nothing; is_demand = rw h.0 (rw (eq-eqb (byte_register_number r) (byte_register_number r) refl) refl); register = refl; place = refl; tail = sym h.1 }
   operand_asks (is.Word r) o d h = record { demand = asks_data data_is.Nothing; is_demand = rw h.0 (rw (eq-eqb (word_number r) (word_number r) refl) refl); register = refl; place = refl; tail = sym h.1 }
   operand_asks (is.TheSegment r) o d h = record { demand = asks_data data_is.Nothing; is_demand = rw h.0 (rw (eq-eqb (segment_number r) (segment_number r) refl) refl); register = refl; place = refl; tail = sym h.1 }
   operand_asks is.One o d h = record { demand = asks_data data_is.Nothing; is_demand = rw h.0 refl; register = refl; place = refl; tail = sym h.1 }

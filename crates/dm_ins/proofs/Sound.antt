@@ -23,12 +23,12 @@ use Rattle.dm_ins.specs.declared.demand.Data.TheVariants as data_is
 use Rattle.dm_ins.specs.declared.demand.Demand.{Demand}
 use Rattle.dm_ins.specs.declared.table.OperandKind.{OperandKind}
 use Rattle.dm_ins.specs.declared.table.OperandKind.TheVariants as is
-use Rattle.dm_ins.specs.Registers.{word_registers, byte_registers, word_number, byte_number, segment_number}
+use Rattle.dm_ins.specs.Registers.{word_registers, byte_registers, word_number, byte_register_number, segment_number}
 use Rattle.dm_ins.specs.Spelling.{word_bytes, sign_extended, based, direct, SpellsFields, Fills}
 use Rattle.dm_ins.specs.inner.Search.{OperandFits, rm_of, is_direct, same_width, asks_data, asks_register, asks_place, as_signed, demand_of, data_bytes, with_displacement, memory_bytes, fields_bytes}
 use Rattle.dm_ins.proofs.Demands.{asks_for_register, asks_for_place, asked, named_place, base_at}
 
-byte_back : (r : ByteRegister) → get_or byte_registers (byte_number r) Al ≡ r
+byte_back : (r : ByteRegister) → get_or byte_registers (byte_register_number r) Al ≡ r
 byte_back Al = refl
 byte_back Cl = refl
 byte_back Dl = refl
@@ -126,8 +126,8 @@ module _ (m : Fields) (e : Demand) where
       let q = place_memory m.rm m.memory a (ap (λ (x : Demand). x.place) c.1 ∙ p) in
       (rw (q, same_is w v c.0) refl, tail_is _ e c.1)
   operand_fills (is.RegisterOrMemory Byte) (operand.ByteRegister s) f h r p =
-      let c = is_some (asks_place (place.Register (byte_number s))) e h in
-      let q = place_register m.rm m.memory (byte_number s) (ap (λ (x : Demand). x.place) c ∙ p) in
+      let c = is_some (asks_place (place.Register (byte_register_number s))) e h in
+      let q = place_register m.rm m.memory (byte_register_number s) (ap (λ (x : Demand). x.place) c ∙ p) in
       (rw (q.0, q.1, byte_back s) refl, tail_is _ e c)
   operand_fills (is.RegisterOrMemory Word) (operand.WordRegister s) f h r p =
       let c = is_some (asks_place (place.Register (word_number s))) e h in
@@ -136,8 +136,8 @@ module _ (m : Fields) (e : Demand) where
   operand_fills (is.RegisterOrMemory Byte) _ f h r p = absurd cc
   operand_fills (is.RegisterOrMemory Word) _ f h r p = absurd cc
   operand_fills (is.Register Byte) (operand.ByteRegister s) f h r p =
-      let c = is_some (asks_register (byte_number s)) e h in
-      let q : byte_number s ≡ m.register = is_some _ _ (ap (λ (x : Demand). x.register) c ∙ r) in
+      let c = is_some (asks_register (byte_register_number s)) e h in
+      let q : byte_register_number s ≡ m.register = is_some _ _ (ap (λ (x : Demand). x.register) c ∙ r) in
       (rw (← q, byte_back s) refl, tail_is _ e c)
   operand_fills (is.Register Word) (operand.WordRegister s) f h r p =
       let c = is_some (asks_register (word_number s)) e h in
@@ -172,7 +172,7 @@ module _ (m : Fields) (e : Demand) where
       (ap operand.ByteValue u, tail_is _ e c.1)
   operand_fills (is.Escape k) _ f h r p = absurd cc
   operand_fills (is.Byte k) (operand.ByteRegister s) f h r p =
-      let c = chosen_true (eqb (byte_number k) (byte_number s)) (asks_data data_is.Nothing) e h in
+      let c = chosen_true (eqb (byte_register_number k) (byte_register_number s)) (asks_data data_is.Nothing) e h in
       (ap operand.ByteRegister (sym (byte_back s) ∙ ap (λ n. get_or byte_registers n Al) (sym (eqb-true _ _ c.0)) ∙ byte_back k), tail_is _ e c.1)
   operand_fills (is.Byte k) _ f h r p = absurd cc
   operand_fills (is.Word k) (operand.WordRegister s) f h r p =
@@ -258,7 +258,7 @@ named_from r (place.Memory a) = (refl, refl)
 
 -- ---- the shape of a demand
 
-byte_below : (r : ByteRegister) → byte_number r < 8
+byte_below : (r : ByteRegister) → byte_register_number r < 8
 byte_below Al = omega arith
 byte_below Cl = omega arith
 byte_below Dl = omega arith
@@ -301,11 +301,11 @@ module _ (e : Demand) where
   demand_shape is.Nothing operand.Nothing f h = by_data is.Nothing _ (is_some (asks_data data_is.Nothing) e h) refl refl
   demand_shape is.Nothing _ f h = absurd cc
   demand_shape (is.RegisterOrMemory w) (operand.Memory v a) f h = let c = chosen_true (same_width w v) (asks_place (place.Memory a)) e h in by_place (is.RegisterOrMemory w) (place.Memory a) f c.1 refl refl
-  demand_shape (is.RegisterOrMemory Byte) (operand.ByteRegister s) f h = by_place (is.RegisterOrMemory Byte) (place.Register (byte_number s)) (byte_below s) (is_some (asks_place (place.Register (byte_number s))) e h) refl refl
+  demand_shape (is.RegisterOrMemory Byte) (operand.ByteRegister s) f h = by_place (is.RegisterOrMemory Byte) (place.Register (byte_register_number s)) (byte_below s) (is_some (asks_place (place.Register (byte_register_number s))) e h) refl refl
   demand_shape (is.RegisterOrMemory Word) (operand.WordRegister s) f h = by_place (is.RegisterOrMemory Word) (place.Register (word_number s)) (word_below s) (is_some (asks_place (place.Register (word_number s))) e h) refl refl
   demand_shape (is.RegisterOrMemory Byte) _ f h = absurd cc
   demand_shape (is.RegisterOrMemory Word) _ f h = absurd cc
-  demand_shape (is.Register Byte) (operand.ByteRegister s) f h = by_number (is.Register Byte) (byte_number s) (byte_below s) (is_some (asks_register (byte_number s)) e h) refl refl
+  demand_shape (is.Register Byte) (operand.ByteRegister s) f h = by_number (is.Register Byte) (byte_register_number s) (byte_below s) (is_some (asks_register (byte_register_number s)) e h) refl refl
   demand_shape (is.Register Word) (operand.WordRegister s) f h = by_number (is.Register Word) (word_number s) (word_below s) (is_some (asks_register (word_number s)) e h) refl refl
   demand_shape (is.Register Byte) _ f h = absurd cc
   demand_shape (is.Register Word) _ f h = absurd cc
@@ -330,7 +330,7 @@ module _ (e : Demand) where
   demand_shape is.Far _ f h = absurd cc
   demand_shape (is.Escape k) (operand.ByteValue n) f h = let c = chosen_true (eqb (n / 8) (k % 8)) (asks_register (n % 8)) e h in by_number (is.Escape k) (n % 8) (omega arith) c.1 refl refl
   demand_shape (is.Escape k) _ f h = absurd cc
-  demand_shape (is.Byte k) (operand.ByteRegister s) f h = let c = chosen_true (eqb (byte_number k) (byte_number s)) (asks_data data_is.Nothing) e h in by_data (is.Byte k) _ c.1 refl refl
+  demand_shape (is.Byte k) (operand.ByteRegister s) f h = let c = chosen_true (eqb (byte_register_number k) (byte_register_number s)) (asks_data data_is.Nothing) e h in by_data (is.Byte k) _ c.1 refl refl
   demand_shape (is.Byte k) _ f h = absurd cc
   demand_shape (is.Word k) (operand.WordRegister s) f h = let c = chosen_true (eqb (word_number k) (word_number s)) (asks_data data_is.Nothing) e h in by_data (is.Word k) _ c.1 refl refl
   demand_shape (is.Word k) _ f h = absurd cc

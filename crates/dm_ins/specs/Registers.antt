@@ -34,15 +34,15 @@ word_number Si = 6
 word_number Di = 7
 
 -- the number of a byte register in the reg field, and in the r/m field where mod is 3
-abbrev pub byte_number : ByteRegister → ℕ
-byte_number Al = 0
-byte_number Cl = 1
-byte_number Dl = 2
-byte_number Bl = 3
-byte_number Ah = 4
-byte_number Ch = 5
-byte_number Dh = 6
-byte_number Bh = 7
+abbrev pub byte_register_number : ByteRegister → ℕ
+byte_register_number Al = 0
+byte_register_number Cl = 1
+byte_register_number Dl = 2
+byte_register_number Bl = 3
+byte_register_number Ah = 4
+byte_register_number Ch = 5
+byte_register_number Dh = 6
+byte_register_number Bh = 7
 
 -- the number of a segment register in the segment field of two bits
 abbrev pub segment_number : SegmentRegister → ℕ

@@ -3,7 +3,7 @@
 
 ghost use Rattle.std.specs.Prelude.{◌≡◌, ◌<◌, slice_index_or};
 ghost use Rattle.dm_ins.specs.Spelling.{sign_extended};
-ghost use Rattle.dm_ins.specs.Registers.{bases, byte_registers, word_registers, byte_number, segment_number, word_number};
+ghost use Rattle.dm_ins.specs.Registers.{bases, byte_registers, word_registers, byte_register_number, segment_number, word_number};
 
 /// Whether an operand is a byte or a word.
 #[derive(Clone, Copy, Debug, PartialEq, Eq)]
@@ -73,7 +73,7 @@ pub enum ByteRegister {
 impl ByteRegister {
     /// The number of the register in an instruction's bytes, 0 to 7.
     pub fn number(self) -> u8
-        ensures value { result ≡ byte_number self }
+        ensures value { result ≡ byte_register_number self }
         ensures fits { result < 8 }
     {
         self as u8

@@ -18,8 +18,8 @@ use Rattle.dm_reports.specs.Stops.{stopped_line}
 use Rattle.dm_reports.specs.Texts.{found_line}
 
 -- the form of a report: JSON if it is asked for, otherwise a text
-abbrev pub form_of : Bool → Form
-form_of json = if json then Json else Text
+abbrev pub report_form : Bool → Form
+report_form json = if json then Json else Text
 
 -- the line of a finding
 abbrev pub found_in : Form → Found → List ℕ

@@ -35,16 +35,16 @@ use Rattle.dm_reports.specs.Texts.{told_text, kind_text}
 -- ---- members behind the first one of an object
 
 -- the comma, the name of a member in quotes, and the colon
-abbrev pub name_text : List ℕ → List ℕ
-name_text name = codes ",\"" ++ name ++ codes "\":"
+abbrev pub member_text : List ℕ → List ℕ
+member_text name = codes ",\"" ++ name ++ codes "\":"
 
 -- a member whose value is a string, with its escapes
 abbrev pub string_member : List ℕ → List ℕ → List ℕ
-string_member name text = name_text name ++ quoted text
+string_member name text = member_text name ++ quoted text
 
 -- a member whose value is a number
 abbrev pub number_member : List ℕ → ℕ → List ℕ
-number_member name n = name_text name ++ decimal n
+number_member name n = member_text name ++ decimal n
 
 -- a truth value
 abbrev pub bool_text : Bool → List ℕ
@@ -52,7 +52,7 @@ bool_text b = if b then codes "true" else codes "false"
 
 -- a member whose value is a truth value
 abbrev pub bool_member : List ℕ → Bool → List ℕ
-bool_member name b = name_text name ++ bool_text b
+bool_member name b = member_text name ++ bool_text b
 
 -- ---- addresses
 
@@ -130,7 +130,7 @@ kind_word (NotResized asked) = codes "not_resized"
 -- an object with the signature, owner and size of an arena header, as the member of this name
 abbrev pub contents_member : List ℕ → Contents → List ℕ
 contents_member name c =
-    name_text name ++ codes "{\"signature\":" ++ decimal c.signature ++ number_member (codes "owner") c.owner ++ number_member (codes "size") c.size ++ codes "}"
+    member_text name ++ codes "{\"signature\":" ++ decimal c.signature ++ number_member (codes "owner") c.owner ++ number_member (codes "size") c.size ++ codes "}"
 
 -- a handle, a window or a segment, and what more there is of what a program has allocated
 abbrev pub kept_members : Kept → List ℕ
@@ -179,7 +179,7 @@ origin_name _ = codes "freed_by"
 -- an object with the step that did it, and where in its code the program performed it; nothing if it is not known
 abbrev pub origin_member : Finding → Option Origin → List ℕ
 origin_member f None = []
-origin_member f (Some o) = name_text (origin_name f) ++ codes "{\"step\":" ++ decimal o.step ++ site_members o.site ++ codes "}"
+origin_member f (Some o) = member_text (origin_name f) ++ codes "{\"step\":" ++ decimal o.step ++ site_members o.site ++ codes "}"
 
 -- what was found and where: its kind, the step's number, the process, where in its code the program performed it, the call or
 -- instruction, what the finding is about, which step allocated or freed that, and the words of the report
@@ -195,16 +195,16 @@ abbrev pub opening : List ℕ → List ℕ
 opening word = codes "{\"type\":\"" ++ word ++ codes "\""
 
 -- the end of a line
-abbrev pub closing : List ℕ
-closing = codes "}" ++ 10 ∷ []
+abbrev pub object_end : List ℕ
+object_end = codes "}" ++ 10 ∷ []
 
 -- the line of a finding: `error` or `note`, and what was found and where
 unfoldable pub found_object : Found → List ℕ
-found_object f = opening (kind_text (is_error f.finding)) ++ found_members f ++ closing
+found_object f = opening (kind_text (is_error f.finding)) ++ found_members f ++ object_end
 
 -- the line about the repetitions of a finding: how many they are, and the step of the last
 unfoldable pub repeated_object : Listed → List ℕ
-repeated_object l = opening (codes "again") ++ found_members l.found ++ number_member (codes "more") l.more ++ number_member (codes "last") l.last ++ closing
+repeated_object l = opening (codes "again") ++ found_members l.found ++ number_member (codes "more") l.more ++ number_member (codes "last") l.last ++ object_end
 
 -- the line about the repetitions of a finding that the report lists; none if there are none
 abbrev pub again_object : Listed → List ℕ
@@ -212,7 +212,7 @@ again_object l = if l.more == 0 then [] else repeated_object l
 
 -- the line about findings that are left out: how many they are
 abbrev pub left_out_object : ℕ → List ℕ
-left_out_object n = opening (codes "not_listed") ++ number_member (codes "findings") n ++ closing
+left_out_object n = opening (codes "not_listed") ++ number_member (codes "findings") n ++ object_end
 
 -- the line about the findings that the report leaves out; none if there are none
 abbrev pub unlisted_object : ℕ → List ℕ
@@ -223,14 +223,14 @@ unlisted_object n = if n == 0 then [] else left_out_object n
 unfoldable pub summary_objects : Reported → List ℕ
 summary_objects r =
     flat_map again_object r.listed ++ unlisted_object r.unlisted
-    ++ opening (codes "summary") ++ number_member (codes "errors") r.errors ++ number_member (codes "notes") r.notes ++ closing
+    ++ opening (codes "summary") ++ number_member (codes "errors") r.errors ++ number_member (codes "notes") r.notes ++ object_end
 
 -- ---- stops
 
 -- the two bytes at CS:IP, as two numbers
 abbrev pub code_member : Memory → Cpu → List ℕ
 code_member m c =
-    name_text (codes "bytes") ++ codes "[" ++ decimal (peek m (linear m.a20 c.cs c.ip)) ++ codes "," ++ decimal (peek m (linear m.a20 c.cs (up c.ip 1))) ++ codes "]"
+    member_text (codes "bytes") ++ codes "[" ++ decimal (peek m (linear m.a20 c.cs c.ip)) ++ codes "," ++ decimal (peek m (linear m.a20 c.cs (up c.ip 1))) ++ codes "]"
 
 -- the call that the next step would perform; nothing for an instruction
 abbrev pub next_members : Option Call → List ℕ
@@ -246,11 +246,11 @@ what_members _ m c = next_members (call_of c)
 -- the line about a run that stopped before the program ended: why, where in its code the program would have gone on, and
 -- what the next step would perform
 unfoldable pub stopped_object : Stop → Memory → Cpu → List ℕ
-stopped_object why m c = opening (codes "stopped") ++ string_member (codes "reason") (reason_text why) ++ site_members (site_of m c) ++ what_members why m c ++ closing
+stopped_object why m c = opening (codes "stopped") ++ string_member (codes "reason") (reason_text why) ++ site_members (site_of m c) ++ what_members why m c ++ object_end
 
 -- the line about the end of a run, by the memory and the registers then: the program's exit code, or why it stopped
 abbrev pub end_object : Stop → Memory → Cpu → List ℕ
-end_object (stop.Exited code) m c = opening (codes "exited") ++ number_member (codes "code") code ++ closing
+end_object (stop.Exited code) m c = opening (codes "exited") ++ number_member (codes "code") code ++ object_end
 end_object stop.Steps m c = stopped_object stop.Steps m c
 end_object stop.Halted m c = stopped_object stop.Halted m c
 end_object stop.Unlisted m c = stopped_object stop.Unlisted m c

@@ -1,7 +1,7 @@
 //! The report of `dm check` in either form. Each function appends its text to `out`; an `Err` is a failed allocation.
 
 ghost use Rattle.std.specs.Prelude.{◌≡◌, ◌++◌, OnOk};
-ghost use Rattle.dm_json.specs.Forms.{end_in, form_of, found_in, lines_in, processes_in, summary_in};
+ghost use Rattle.dm_json.specs.Forms.{end_in, report_form, found_in, lines_in, processes_in, summary_in};
 
 use crate::objects::{put_end_object, put_found_object, put_summary_objects};
 use crate::processes::put_process_objects;
@@ -24,7 +24,7 @@ pub enum Form {
 
 /// The form of a report: JSON if it is asked for, otherwise a text.
 pub fn form_of(json: bool) -> Form
-    ensures { result ≡ form_of json }
+    ensures { result ≡ report_form json }
 {
     if json { Form::Json } else { Form::Text }
 }

@@ -4,7 +4,7 @@
 ghost use Rattle.std.specs.Prelude.{◌≡◌, ◌<◌, ◌++◌, OnOk, codes};
 ghost use Rattle.std.specs.Char.{digit_char};
 ghost use Rattle.json.specs.Print.{escape, escape_byte, escape_letter, quoted};
-ghost use Rattle.dm_json.specs.Objects.{address_members, bool_member, bool_text, byte_members, call_members, contents_member, name_text, number_member, number_members, site_members, string_member};
+ghost use Rattle.dm_json.specs.Objects.{address_members, bool_member, bool_text, byte_members, call_members, contents_member, member_text, number_member, number_members, site_members, string_member};
 
 use dm_findings::{Call, Contents, Site};
 use dm_reports::{put_call, put_number};
@@ -76,7 +76,7 @@ fn put_quoted(out: &mut Vec<u8>, text: &[u8]) -> Result<(), AllocError>
 
 /// Appends a comma and the name of a member, in quotes and with its colon.
 pub(crate) fn put_name(out: &mut Vec<u8>, name: &[u8]) -> Result<(), AllocError>
-    ensures { OnOk result (out.new.items ≡ out.old.items ++ name_text name.now) }
+    ensures { OnOk result (out.new.items ≡ out.old.items ++ member_text name.now) }
 {
     out.extend_from_slice(b",\"")?;
     out.extend_from_slice(name)?;

@@ -5,7 +5,7 @@ ghost use Rattle.std.specs.Prelude.{◌≡◌, ◌++◌, OnOk, codes};
 ghost use Rattle.std.specs.List.{flat_map};
 ghost use Rattle.dm_text.specs.Texts.{text_of};
 ghost use Rattle.dm_reports.specs.Texts.{told_text};
-ghost use Rattle.dm_json.specs.Objects.{act_members, again_object, bool_member, byte_members, closing, code_member, contents_member, detail_members, end_object, found_members, found_object, kept_members, kept_name, kept_word, kind_word, left_out_object, next_members, number_member, opening, origin_member, origin_name, repeated_object, stopped_object, string_member, summary_objects, unlisted_object, what_members};
+ghost use Rattle.dm_json.specs.Objects.{act_members, again_object, bool_member, byte_members, object_end, code_member, contents_member, detail_members, end_object, found_members, found_object, kept_members, kept_name, kept_word, kind_word, left_out_object, next_members, number_member, opening, origin_member, origin_name, repeated_object, stopped_object, string_member, summary_objects, unlisted_object, what_members};
 
 use crate::members::{
     put_bool_member, put_byte_members, put_call_members, put_contents_member, put_name,
@@ -426,7 +426,7 @@ fn put_stopped_object(
 
 /// Appends the line about the end of the program, with its exit code.
 fn put_exited_object(out: &mut Vec<u8>, code: u8) -> Result<(), AllocError>
-    ensures { OnOk result (out.new.items ≡ out.old.items ++ (opening (codes "exited") ++ number_member (codes "code") code ++ closing)) }
+    ensures { OnOk result (out.new.items ≡ out.old.items ++ (opening (codes "exited") ++ number_member (codes "code") code ++ object_end)) }
 {
     put_opening(out, b"exited")?;
     put_number_member(out, b"code", code as u64)?;

@@ -5,7 +5,7 @@ use Rattle.std.specs.List.{AllByRecursion}
 use Rattle.std.proofs.lemmas.Bool.Decides.{nat_tests}
 use Rattle.dm_ins.specs.Walks.{◌>>=◌}
 use Rattle.dm_text.specs.Names.{name_of}
-use Rattle.dm_text.specs.Pieces.{Piece, name, byte, space, comma, byte_digits, text_bytes, parted}
+use Rattle.dm_text.specs.Pieces.{Piece, name, byte, space, comma, byte_in_text, text_bytes, parted}
 use Rattle.dm_lines.specs.declared.token.Token.{Token}
 use Rattle.dm_lines.specs.declared.token.Token.TheVariants as t
 use Rattle.dm_lines.specs.declared.term.Amount.TheVariants.{Plus}
@@ -13,7 +13,7 @@ use Rattle.dm_lines.specs.Words.{reserved}
 use Rattle.dm_lines.specs.Tokens.{closed, word_token, tokens_of, joined_to}
 use Rattle.dm_lines.specs.Operands.{parts}
 use Rattle.dm_lines.specs.Statements as line
-use Rattle.dm_lines.specs.Statements.{statement_of, line_of}
+use Rattle.dm_lines.specs.Statements.{statement_of, line_statement}
 use Rattle.dm_lines.specs.Laws.{all_tokens, AllFit, data_text, data_statement, DataIsRead}
 use Rattle.dm_lines.proofs.Printed.{pieces_are_read}
 
@@ -27,10 +27,10 @@ more_tokens : List ℕ → List Token
 more_tokens [] = []
 more_tokens (c ∷ cs) = t.Comma ∷ t.Number c ∷ more_tokens cs
 
-more_bytes : (cs : List ℕ) → text_bytes (more_pieces cs) ≡ flat_map (λ c. codes "," ++ byte_digits c) cs
+more_bytes : (cs : List ℕ) → text_bytes (more_pieces cs) ≡ flat_map (λ c. codes "," ++ byte_in_text c) cs
 unfolding more_pieces
 more_bytes [] = refl
-more_bytes (c ∷ cs) = ap (λ (z : List ℕ). 44 ∷ (byte_digits c ++ z)) (more_bytes cs)
+more_bytes (c ∷ cs) = ap (λ (z : List ℕ). 44 ∷ (byte_in_text c ++ z)) (more_bytes cs)
 
 more_parted : (cs : List ℕ) → parted true (more_pieces cs) ≡ true
 unfolding more_pieces
@@ -56,7 +56,7 @@ pieces_of b bs = name (codes "DB") ∷ space ∷ byte b ∷ more_pieces bs
 
 data_bytes : (b : ℕ) (bs : List ℕ) → data_text b bs ≡ text_bytes (pieces_of b bs)
 unfolding pieces_of
-data_bytes b bs = ap (λ (z : List ℕ). 68 ∷ 66 ∷ 32 ∷ (byte_digits b ++ z)) (sym (more_bytes bs))
+data_bytes b bs = ap (λ (z : List ℕ). 68 ∷ 66 ∷ 32 ∷ (byte_in_text b ++ z)) (sym (more_bytes bs))
 
 data_again : (b : ℕ) (bs : List ℕ) → all_tokens (pieces_of b bs) ≡ Some (t.DataBytes ∷ t.Number b ∷ more_tokens bs)
 unfolding pieces_of
@@ -84,7 +84,7 @@ within : (n : ℕ) → n ≤ 255 → nat_lt 255 n ≡ false
 within n h = grind (arith, nat_tests)
 
 pub data_is_read : DataIsRead
-unfolding line_of pieces_of
+unfolding line_statement pieces_of
 data_is_read b bs comment h c l =
     rw (within (length (data_text b bs ++ comment)) l)
     (ap (λ (z : List ℕ). tokens_of (z ++ comment) >>= statement_of) (data_bytes b bs)

@@ -31,7 +31,7 @@ use Rattle.dm_lines.proofs.Rows.{reserved_is}
 use Rattle.dm_lines.specs.Tokens.{uppercase, is_word_byte, digit_of, magnitude_of, number_of, padded_of, or_name, word_token, closed, joined_to, then_list, marked, inside_quotes, lexed, tokens_of}
 use Rattle.dm_lines.specs.Operands.{minus, amount_of, added_of, parsed_value, amount_word, base_at, based, onto, is_close, inside, memory_of, far_pointer, from_number, term_of, begin, is_comma, parts, term_pair, terms_of}
 use Rattle.dm_lines.specs.Statements as line
-use Rattle.dm_lines.specs.Statements.{Item, Statement, instruction, list_of_one, letters, bytes_item, word_items, mnemonic_at, prefixed, exchanges, is_memory, with_terms, operated, after_prefixes, instruction_of, item_of, statement_of, line_of}
+use Rattle.dm_lines.specs.Statements.{Item, Statement, instruction, list_of_one, letters, bytes_item, word_items, mnemonic_at, prefixed, exchanges, is_memory, with_terms, operated, after_prefixes, instruction_of, item_of, statement_of, line_statement}
 use Rattle.dm_lines.specs.Laws.{AmountFits, TermFits, ItemFits, NumbersFit}
 
 -- a fact of what is there
@@ -350,8 +350,8 @@ statement_fits : (ts : List Token) → TokensFit ts → Holds StatementFits (sta
 statement_fits (t.Name l ∷ t.Colon ∷ ts) h = map_holds ItemFits StatementFits (item_of ts) (λ i. record { label = Some l; item = i }) (item_fits ts h.1.1) (λ i k. k)
 statement_fits ts h = map_holds ItemFits StatementFits (item_of ts) (λ i. record { label = None; item = i }) (item_fits ts h) (λ i k. k)
 
-line_fits : (line : List ℕ) → AllByRecursion (λ b. b < 2 ^ 8) line → Holds StatementFits (line_of line)
-unfolding line_of tokens_of
+line_fits : (line : List ℕ) → AllByRecursion (λ b. b < 2 ^ 8) line → Holds StatementFits (line_statement line)
+unfolding line_statement tokens_of
 line_fits line h = either_holds StatementFits (nat_lt 255 (length line)) None _ tt (then_holds TokensFit StatementFits (lexed false [] line) statement_of (lexed_fits false [] line h) (λ ts k. statement_fits ts k))
 
 pub numbers_fit : NumbersFit

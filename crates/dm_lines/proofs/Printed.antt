@@ -5,7 +5,7 @@ use Rattle.std.specs.List.{list_all}
 use Rattle.std.proofs.lemmas.Bool.{eqb-true}
 use Rattle.std.proofs.lemmas.Bool.Decides.{nat_tests}
 use borrow.Author.Count.{below_none, below_more}
-use Rattle.dm_text.specs.Pieces.{Piece, name, byte, word, sign, digit, byte_digits, word_digits, text_bytes, is_in_names, is_mark, parted}
+use Rattle.dm_text.specs.Pieces.{Piece, name, byte, word, sign, digit, byte_in_text, word_in_text, text_bytes, is_in_names, is_mark, parted}
 use Rattle.dm_lines.specs.declared.token.Token.{Token}
 use Rattle.dm_lines.specs.declared.token.Token.TheVariants as t
 use Rattle.dm_lines.specs.Tokens.{uppercase, is_word_byte, digit_of, magnitude_of, word_token, closed, joined_to, then_list, marked, lexed, tokens_of}
@@ -121,15 +121,15 @@ record IsNumber (u : List ℕ) (n : ℕ) : Type 0 where
   token : closed (map uppercase u) ≡ Some (t.Number n ∷ [])
   begun : is_begun (map uppercase u) ≡ true
 
-byte_number : (n : ℕ) → n < 256 → IsNumber (byte_digits n) n
-unfolding byte_digits all_words is_begun word_token
+byte_number : (n : ℕ) → n < 256 → IsNumber (byte_in_text n) n
+unfolding byte_in_text all_words is_begun word_token
 byte_number n h =
     let a = is_digit (n / 16) (omega arith) in
     let b = is_digit (n % 16) (omega arith) in
     record { words = rw (a.word, b.word) refl; token = rw (a.uppercase, b.uppercase, two n h) refl; begun = refl }
 
-word_number : (n : ℕ) → n < 65536 → IsNumber (word_digits n) n
-unfolding word_digits all_words is_begun word_token
+word_number : (n : ℕ) → n < 65536 → IsNumber (word_in_text n) n
+unfolding word_in_text all_words is_begun word_token
 word_number n h =
     let a = is_digit (n / 4096) (omega arith) in
     let b = is_digit (n / 256 % 16) (omega arith) in
@@ -178,10 +178,10 @@ module _ (comment : List ℕ) (is_comment : IsComment comment) where
       ap (lexed false []) (append_assoc (c ∷ u) (text_bytes ps) comment) ∙ run_read [] (c ∷ u) (text_bytes ps ++ comment) n.0 ∙ ap (λ (z : List ℕ). lexed false z (text_bytes ps ++ comment)) n.1 ∙ reads (c ∷ u) ps x.1 f.1 ∙ sym (none_before (then_list (closed (c ∷ u)) (all_tokens ps)))
   reads [] (byte n ∷ ps) h f =
       let i = byte_number n f.0 in
-      number_read (byte_digits n) n ps i (reads (map uppercase (byte_digits n)) ps (subst (λ (z : Bool). parted z ps ≡ true) (sym i.begun) h) f.1)
+      number_read (byte_in_text n) n ps i (reads (map uppercase (byte_in_text n)) ps (subst (λ (z : Bool). parted z ps ≡ true) (sym i.begun) h) f.1)
   reads [] (word n ∷ ps) h f =
       let i = word_number n f.0 in
-      number_read (word_digits n) n ps i (reads (map uppercase (word_digits n)) ps (subst (λ (z : Bool). parted z ps ≡ true) (sym i.begun) h) f.1)
+      number_read (word_in_text n) n ps i (reads (map uppercase (word_in_text n)) ps (subst (λ (z : Bool). parted z ps ≡ true) (sym i.begun) h) f.1)
   reads [] (sign b ∷ ps) h f =
       let x = both_true (is_mark b) (parted false ps) h in
       sign_read [] b (text_bytes ps ++ comment) (is_sign b x.0) ∙ ap (λ (z : Option (List Token)). then_list (Some []) (then_list (marked b) z)) (reads [] ps x.1 f.1 ∙ none_before (all_tokens ps))

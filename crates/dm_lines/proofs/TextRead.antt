@@ -27,7 +27,7 @@ use Rattle.dm_ins.specs.Walks.{◌>>=◌}
 use Rattle.dm_ins.proofs.TableRules.{both_true}
 use Rattle.dm_ins.proofs.Shortest.{action_fits}
 use Rattle.dm_text.specs.Names.{byte_name, word_name, segment_name, name_of}
-use Rattle.dm_text.specs.Pieces.{byte, digit, is_in_names, is_mark, parted, Piece, name, word, sign, space, plus, comma, left_bracket, right_bracket, byte_digits, word_digits, text_bytes}
+use Rattle.dm_text.specs.Pieces.{byte, digit, is_in_names, is_mark, parted, Piece, name, word, sign, space, plus, comma, left_bracket, right_bracket, byte_in_text, word_in_text, text_bytes}
 use Rattle.dm_text.specs.Texts.{base_pieces, displacement_pieces, address_pieces, size_pieces, memory_pieces, operand_pieces, behind, second_pieces, operands_pieces, mnemonic_pieces, is_nop, action_pieces, segment_pieces, lock_pieces, repeat_pieces, prefix_pieces, pieces, text_of}
 use Rattle.dm_text.proofs.Pieces.{bytes-append}
 use Rattle.dm_text.proofs.Parted.{texts_are_parted}
@@ -37,7 +37,7 @@ use Rattle.dm_text.specs.words.Words.{size_word}
 use Rattle.dm_text.specs.words.Laws.{word_pieces}
 use Rattle.dm_text.proofs.words.Sizes.{sizes_are_shown}
 use Rattle.dm_lines.specs.Tokens.{tokens_of}
-use Rattle.dm_lines.specs.Statements.{statement_of, line_of}
+use Rattle.dm_lines.specs.Statements.{statement_of, line_statement}
 use Rattle.dm_lines.specs.Laws.{AllFit, TextsArePlain, TextsAreRead}
 use Rattle.dm_lines.proofs.Printed.{pieces_are_read}
 use Rattle.dm_lines.proofs.Again.{pieces_again}
@@ -192,7 +192,7 @@ base_long Direct = omega arith
 base_long _ = omega arith
 
 displacement_long : (n : ℕ) → Long 7 (displacement_pieces n)
-unfolding Long word_digits
+unfolding Long word_in_text
 displacement_long n = by (n == 0)
   where
     by : (z : Bool) → Long 7 (if z then [] else plus ∷ word n ∷ [])
@@ -200,7 +200,7 @@ displacement_long n = by (n == 0)
     by false = omega arith
 
 address_long : (b : Base) (n : ℕ) → Long 12 (address_pieces (record { base = b; displacement = n }))
-unfolding Long word_digits
+unfolding Long word_in_text
 address_long Direct n = omega arith
 address_long BxSi n = long-append 5 7 (base_pieces BxSi) (displacement_pieces n) (base_long BxSi) (displacement_long n)
 address_long BxDi n = long-append 5 7 (base_pieces BxDi) (displacement_pieces n) (base_long BxDi) (displacement_long n)
@@ -227,7 +227,7 @@ memory_long a w m =
     (long-append 1 12 (left_bracket ∷ []) (address_pieces m) (sign_long 91) (address_long m.base m.displacement))) (sign_long 93)
 
 operand_long : (a : Action) (next : ℕ) (o : Operand) → Long 19 (operand_pieces a next o)
-unfolding Long byte_digits word_digits
+unfolding Long byte_in_text word_in_text
 operand_long a next operand.Nothing = omega arith
 operand_long a next (operand.ByteRegister r) = long_more 2 19 (name (byte_name r) ∷ []) (omega arith) (byte_long r)
 operand_long a next (operand.WordRegister r) = long_more 2 19 (name (word_name r) ∷ []) (omega arith) (word_long r)
@@ -311,12 +311,12 @@ unfolding Printed
 name_printed [] h = tt
 name_printed (b ∷ w) h = let x = both_true (is_in_names b) (list_all is_in_names w) h in (in_name_printed b x.0, name_printed w x.1)
 
-byte_printed : (n : ℕ) → Printed (byte_digits n)
-unfolding Printed byte_digits
+byte_printed : (n : ℕ) → Printed (byte_in_text n)
+unfolding Printed byte_in_text
 byte_printed n = (omega arith, (digit_printed (n / 16), (digit_printed (n % 16), (omega arith, tt))))
 
-word_printed : (n : ℕ) → Printed (word_digits n)
-unfolding Printed word_digits
+word_printed : (n : ℕ) → Printed (word_in_text n)
+unfolding Printed word_in_text
 word_printed n = (omega arith, (digit_printed (n / 4096), (digit_printed (n / 256 % 16), (digit_printed (n / 16 % 16), (digit_printed (n % 16), (omega arith, tt))))))
 
 pieces_printed : (b : Bool) (ps : List Piece) → parted b ps ≡ true → Printed (text_bytes ps)
@@ -329,8 +329,8 @@ pieces_printed false (name [] ∷ ps) h = absurd cc
 pieces_printed false (name (c ∷ w) ∷ ps) h =
     let x = both_true (list_all is_in_names (c ∷ w)) (parted true ps) h in
     printed-append (c ∷ w) (text_bytes ps) (name_printed (c ∷ w) x.0) (pieces_printed true ps x.1)
-pieces_printed false (byte n ∷ ps) h = printed-append (byte_digits n) (text_bytes ps) (byte_printed n) (pieces_printed true ps h)
-pieces_printed false (word n ∷ ps) h = printed-append (word_digits n) (text_bytes ps) (word_printed n) (pieces_printed true ps h)
+pieces_printed false (byte n ∷ ps) h = printed-append (byte_in_text n) (text_bytes ps) (byte_printed n) (pieces_printed true ps h)
+pieces_printed false (word n ∷ ps) h = printed-append (word_in_text n) (text_bytes ps) (word_printed n) (pieces_printed true ps h)
 pieces_printed true (sign c ∷ ps) h = let x = both_true (is_mark c) (parted false ps) h in (mark_printed c x.0, pieces_printed false ps x.1)
 pieces_printed false (sign c ∷ ps) h = let x = both_true (is_mark c) (parted false ps) h in (mark_printed c x.0, pieces_printed false ps x.1)
 
@@ -344,7 +344,7 @@ within n h = grind (arith, nat_tests)
 -- ---- the law
 
 pub texts_are_read : TextsAreRead
-unfolding line_of text_of Long
+unfolding line_statement text_of Long
 texts_are_read i x next s =
     let f = action_fits i.action x s in
     rw (within (length (text_bytes (pieces i next))) (pieces_long i next))

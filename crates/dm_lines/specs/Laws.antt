@@ -1,4 +1,4 @@
--- Laws of lines (`tokens_of`, `line_of`) and of their operands (`written_of`, `outline_of`): the text of every
+-- Laws of lines (`tokens_of`, `line_statement`) and of their operands (`written_of`, `outline_of`): the text of every
 -- instruction, and of data, is read as that instruction or data, and the numbers of a line fit words.
 use Rattle.std.specs.Prelude.{◌≡◌, ℕ, ◌^◌, ◌<◌, ◌≤◌, ◌⊎◌, true, false, List, [], ◌∷◌, ◌++◌, length, map, Option, Some, None, codes, flat_map}
 use Rattle.std.specs.List.{AllByRecursion}
@@ -15,10 +15,10 @@ use Rattle.dm_lines.specs.declared.term.Amount.{Amount}
 use Rattle.dm_lines.specs.declared.term.Amount.TheVariants.{Plus, Minus}
 use Rattle.dm_lines.specs.declared.term.Term.{Term}
 use Rattle.dm_lines.specs.declared.term.Term.TheVariants as term
-use Rattle.dm_lines.specs.Statements.{Item, Statement, nothing, instruction, bytes, words, line_of}
+use Rattle.dm_lines.specs.Statements.{Item, Statement, nothing, instruction, bytes, words, line_statement}
 use Rattle.dm_lines.specs.Placing.{written_of, outline_of}
 use Rattle.dm_lines.specs.Own.{own_term, own_statement}
-use Rattle.dm_text.specs.Pieces.{Piece, name, byte, word, sign, byte_digits, text_bytes, parted}
+use Rattle.dm_text.specs.Pieces.{Piece, name, byte, word, sign, byte_in_text, text_bytes, parted}
 use Rattle.dm_lines.specs.declared.token.Token.{Token}
 use Rattle.dm_lines.specs.declared.token.Token.TheVariants as t
 use Rattle.dm_lines.specs.Tokens.{closed, then_list, marked, tokens_of}
@@ -86,7 +86,7 @@ OutlinesStand = (m : Mnemonic) (t : Term) (place next : ℕ) (x : Written) → T
 
 -- the text of each instruction of the table is a line whose statement is that instruction, without a label
 abbrev pub TextsAreRead : Type 0
-TextsAreRead = (i : Ins) (bytes : List ℕ) (next : ℕ) → SpellsAction i.action bytes → line_of (text_of i next) ≡ Some (own_statement i next)
+TextsAreRead = (i : Ins) (bytes : List ℕ) (next : ℕ) → SpellsAction i.action bytes → line_statement (text_of i next) ≡ Some (own_statement i next)
 
 -- the text has at most 63 bytes, and none is below 20h, so that no line end is among them
 pub record IsPlain (text : List ℕ) : Type 0 where
@@ -101,7 +101,7 @@ TextsArePlain = (i : Ins) (next : ℕ) → IsPlain (text_of i next)
 
 -- a DB line with these bytes as numbers, at least one, with commas between them
 abbrev pub data_text : ℕ → List ℕ → List ℕ
-data_text b bs = codes "DB " ++ byte_digits b ++ flat_map (λ c. codes "," ++ byte_digits c) bs
+data_text b bs = codes "DB " ++ byte_in_text b ++ flat_map (λ c. codes "," ++ byte_in_text c) bs
 
 -- the statement of a DB line with these bytes and no label
 abbrev pub data_statement : List ℕ → Statement
@@ -110,7 +110,7 @@ data_statement bs = record { label = None; item = bytes (map Plus bs) }
 -- a DB line of bytes, at least one, is read as these bytes, with a comment after it too, if it has at most 255 bytes in
 -- all
 abbrev pub DataIsRead : Type 0
-DataIsRead = (b : ℕ) (bs comment : List ℕ) → AllByRecursion (λ c. c < 2 ^ 8) (b ∷ bs) → IsComment comment → length (data_text b bs ++ comment) ≤ 255 → line_of (data_text b bs ++ comment) ≡ Some (data_statement (b ∷ bs))
+DataIsRead = (b : ℕ) (bs comment : List ℕ) → AllByRecursion (λ c. c < 2 ^ 8) (b ∷ bs) → IsComment comment → length (data_text b bs ++ comment) ≤ 255 → line_statement (data_text b bs ++ comment) ≡ Some (data_statement (b ∷ bs))
 
 -- ---- numbers
 
@@ -123,4 +123,4 @@ ItemFits (words vs) = AllByRecursion (λ v. AmountFits v.amount) vs
 
 -- the numbers in the statement of each line are below 65,536
 abbrev pub NumbersFit : Type 0
-NumbersFit = (line : List ℕ) (s : Statement) → AllByRecursion (λ b. b < 2 ^ 8) line → line_of line ≡ Some s → ItemFits s.item
+NumbersFit = (line : List ℕ) (s : Statement) → AllByRecursion (λ b. b < 2 ^ 8) line → line_statement line ≡ Some s → ItemFits s.item

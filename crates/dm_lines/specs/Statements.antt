@@ -155,5 +155,5 @@ statement_of (t.Name l ∷ t.Colon ∷ ts) = option_map (λ i. record { label = 
 statement_of ts = option_map (λ i. record { label = None; item = i }) (item_of ts)
 
 -- the statement that a line of at most 255 bytes stands for; None for a longer one, too
-unfoldable pub line_of : List ℕ → Option Statement
-line_of line = if nat_lt 255 (length line) then None else tokens_of line >>= statement_of
+unfoldable pub line_statement : List ℕ → Option Statement
+line_statement line = if nat_lt 255 (length line) then None else tokens_of line >>= statement_of

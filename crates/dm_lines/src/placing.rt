@@ -3,7 +3,7 @@
 
 ghost use Rattle.std.specs.Prelude.{◌≡◌};
 ghost use Rattle.dm_text.specs.words.StandIns.{is_move};
-ghost use Rattle.dm_lines.specs.Placing.{displaced, standing, low_byte_of, amount_byte, distance_of, is_one_of, number_at, label_at, numeral_at, written_of, number_outline, label_outline, numeral_outline, word_outline, outline_of};
+ghost use Rattle.dm_lines.specs.Placing.{displaced, standing, low_byte_of, amount_byte, distance_of, is_count_of_one, number_at, label_at, numeral_at, written_of, number_outline, label_outline, numeral_outline, word_outline, outline_of};
 
 use crate::operands::word;
 use crate::term::{Amount, Term, Value};
@@ -66,7 +66,7 @@ fn distance(target: u16, next: u16) -> u16
 
 /// Whether a number is 1, so that it can be the count of a shift.
 fn is_one(amount: Amount) -> bool
-    ensures { result ≡ is_one_of amount }
+    ensures { result ≡ is_count_of_one amount }
 {
     match amount {
         Amount::Plus(n) => n == 1,

@@ -4,7 +4,7 @@
 ghost use Rattle.std.specs.Prelude.{◌≡◌, ◌<◌, ◌≤◌, length, option_map, IfSome};
 ghost use Rattle.dm_ins.specs.Spelling.{no_prefix};
 ghost use Rattle.dm_lines.specs.inner.Operands.{seen};
-ghost use Rattle.dm_lines.specs.Statements.{seen_item, seen_statement, short_of, far_mnemonic, mnemonic_at, prefixed, is_memory, exchanges, with_terms, operated, after_prefixes, instruction_of, item_of, statement_of, line_of};
+ghost use Rattle.dm_lines.specs.Statements.{seen_item, seen_statement, short_of, far_mnemonic, mnemonic_at, prefixed, is_memory, exchanges, with_terms, operated, after_prefixes, instruction_of, item_of, statement_of, line_statement};
 
 use crate::lexing::{Tokens, put_tokens};
 use crate::lists::{put_bytes, put_words};
@@ -197,9 +197,9 @@ fn read_statement(tokens: &[Token], items: &mut Items) -> Option<Statement>
 /// The statement that a line, without its line end, stands for; None where it stands for none, as where it has over
 /// 255 bytes. The data of a DB or a DW is put into `items`. What `tokens` and `items` hold before does not matter, and
 /// both may be overwritten: they are there so that they are not made anew for each line.
-#[tactic(auto, unfolding(crate::specs::Statements::line_of))]
+#[tactic(auto, unfolding(crate::specs::Statements::line_statement))]
 pub fn read_line(line: &[u8], tokens: &mut Tokens, items: &mut Items) -> Option<Statement>
-    ensures { option_map (seen_statement items.new) result ≡ line_of line.now }
+    ensures { option_map (seen_statement items.new) result ≡ line_statement line.now }
 {
     if 255 < line.len() {
         return None;

@@ -4,7 +4,7 @@ use Rattle.std.proofs.lemmas.List.{length-set, length-take, length-drop, get_or-
 use Rattle.std.proofs.Math.Seq.{take-set-lt}
 use Rattle.dm_load.specs.declared.format.Kind.{Kind}
 use Rattle.dm_load.specs.declared.format.Kind.TheVariants.{Com, Mz}
-use Rattle.dm_load.specs.Image.{word, with_word, is_mz, kind_of, IsGoodAs, IsGoodMz, size, header_length, entry, target, image, relocations, relocated_by}
+use Rattle.dm_load.specs.Image.{word, with_word, is_mz, file_kind, IsGoodAs, IsGoodMz, file_size, header_length, entry, target, image, relocations, relocated_by}
 
 -- what a relocation of a good file needs
 pub record IsThere (file : List ℕ) (k : ℕ) : Type 0 where
@@ -12,11 +12,11 @@ pub record IsThere (file : List ℕ) (k : ℕ) : Type 0 where
   pub listed : entry file (k + 1) ≤ length file
   pub inside : target file k + 2 ≤ length (image file)
 
-length-image : (file : List ℕ) → is_mz file ≡ true → IsGoodMz file → length (image file) ≡ size file - header_length file
+length-image : (file : List ℕ) → is_mz file ≡ true → IsGoodMz file → length (image file) ≡ file_size file - header_length file
 unfolding image
 length-image file e g =
     let whole = g.whole in
-    rw e (length-take (size file - header_length file) (drop (header_length file) file) ∙ simp length-drop (omega arith))
+    rw e (length-take (file_size file - header_length file) (drop (header_length file) file) ∙ simp length-drop (omega arith))
 
 there-mz : (file : List ℕ) (k : ℕ) → is_mz file ≡ true → IsGoodMz file → k < word file 6 → IsThere file k
 there-mz file k e g h = record {
@@ -29,7 +29,7 @@ there-true : (file : List ℕ) (k : ℕ) (b : Bool) → is_mz file ≡ b → Mz 
 there-true file k true e p g h = there-mz file k e g h
 there-true file k false e p g h = cc
 
-pub there : (kind : Kind) (file : List ℕ) (k : ℕ) → kind ≡ kind_of file → IsGoodAs kind file → k < relocations file → IsThere file k
+pub there : (kind : Kind) (file : List ℕ) (k : ℕ) → kind ≡ file_kind file → IsGoodAs kind file → k < relocations file → IsThere file k
 unfolding relocations
 there Com file k e g h =
     elim (is_mz file) as (λ b. Com ≡ cond b Mz Com → k < cond b (word file 6) 0 → IsThere file k) [ true ↦ λ p q. cc | false ↦ λ p q. absurd (omega arith) ] e h

@@ -19,8 +19,8 @@ is_mz file =
     (slice_index file 0 == 0x4D && slice_index file 1 == 0x5A) || (slice_index file 0 == 0x5A && slice_index file 1 == 0x4D)
 
 -- the kind of a program file: `Mz` or `Com`
-abbrev pub kind_of : List ℕ → Kind
-kind_of file = if is_mz file then Mz else Com
+abbrev pub file_kind : List ℕ → Kind
+file_kind file = if is_mz file then Mz else Com
 
 -- word 02h modulo 512: the number of bytes in the last page of 512; 0 where it is full
 abbrev pub last_page : List ℕ → ℕ
@@ -51,8 +51,8 @@ abbrev pub stack : List ℕ → FarPointer
 stack file = record { segment = word file 0x0E; offset = word file 0x10 }
 
 -- the number of bytes of header and image together, by the page counts of an MZ header
-unfoldable pub size : List ℕ → ℕ
-size file = if last_page file == 0 then pages file * 512 else (pages file - 1) * 512 + last_page file
+unfoldable pub file_size : List ℕ → ℕ
+file_size file = if last_page file == 0 then pages file * 512 else (pages file - 1) * 512 + last_page file
 
 -- word 06h: the number of relocations of an MZ file; a COM file has none
 unfoldable pub relocations : List ℕ → ℕ
@@ -67,20 +67,20 @@ entry file k = word file 0x18 + 4 * k
 abbrev pub target : List ℕ → ℕ → ℕ
 target file k = word file (entry file k + 2) * 16 + word file (entry file k)
 
--- the image before relocation: an MZ file's bytes from the end of the header up to `size`; a COM file is its own
+-- the image before relocation: an MZ file's bytes from the end of the header up to `file_size`; a COM file is its own
 -- image
 unfoldable pub image : List ℕ → List ℕ
-image file = if is_mz file then slice_range file (header_length file) (size file) else file
+image file = if is_mz file then slice_range file (header_length file) (file_size file) else file
 
 -- an MZ file that can be loaded: it has at least 28 bytes and one page; header and image, and a relocation table that
 -- has an entry, lie in the file, and the word of each relocation lies in the image
 pub record IsGoodMz (file : List ℕ) : Type 0 where
   pub header : 28 ≤ length file
   pub some_pages : 0 < pages file
-  pub whole : size file ≤ length file
+  pub whole : file_size file ≤ length file
   pub table : 0 < word file 0x06 → entry file (word file 0x06) ≤ length file
-  pub header_fits : header_length file ≤ size file
-  pub inside : (k : ℕ) → k < word file 0x06 → target file k + 2 ≤ size file - header_length file
+  pub header_fits : header_length file ≤ file_size file
+  pub inside : (k : ℕ) → k < word file 0x06 → target file k + 2 ≤ file_size file - header_length file
 
 -- a file of this kind can be loaded: a COM file has at most 65,278 bytes
 abbrev pub IsGoodAs : Kind → List ℕ → Type 0
@@ -89,7 +89,7 @@ IsGoodAs Mz file = IsGoodMz file
 
 -- a program file that can be loaded
 abbrev pub IsGood : List ℕ → Type 0
-IsGood file = IsGoodAs (kind_of file) file
+IsGood file = IsGoodAs (file_kind file) file
 
 -- the image after the first k relocations, in the order of the table: each adds the segment `start` to its word,
 -- modulo 65,536

@@ -1,6 +1,6 @@
 //! The words of an MZ header, and which files can be loaded.
 ghost use Rattle.std.specs.Prelude.{◌≡◌, ◌↔◌, ℕ, ◌+◌, ◌*◌, ◌%◌, ◌<◌, ◌≤◌, IsTrue, MatchResult, length};
-ghost use Rattle.dm_load.specs.Image.{word, with_word, is_mz, kind_of, IsGood, IsGoodMz, size, pages, entry, target};
+ghost use Rattle.dm_load.specs.Image.{word, with_word, is_mz, file_kind, IsGood, IsGoodMz, file_size, pages, entry, target};
 
 use crate::format::{BadFormat, Kind};
 use byteorder::{ByteOrder, LittleEndian};
@@ -43,11 +43,11 @@ fn is_mz(file: &[u8]) -> bool
 }
 
 /// The number of bytes of header and image of an MZ file, by the header's page counts.
-#[tactic(auto, unfolding(crate::specs::Image::size))]
+#[tactic(auto, unfolding(crate::specs::Image::file_size))]
 pub(crate) fn size(file: &[u8]) -> usize
     requires header { 28 ≤ length file.now }
     requires pages { 0 < pages file.now }
-    ensures value { result ≡ Rattle.dm_load.specs.Image.size file.now }
+    ensures value { result ≡ Rattle.dm_load.specs.Image.file_size file.now }
     ensures few { result ≤ 0x1FF_FE00 }
 {
     let last = word(file, 0x02) as usize % PAGE;
@@ -117,7 +117,7 @@ fn is_good_mz(file: &[u8]) -> bool
 /// pages, a file that ends before its pages or before the end of a relocation table that has an entry, a header longer
 /// than the pages, or a relocation of a word that is not wholly in the image.
 pub fn kind(file: &[u8]) -> Result<Kind, BadFormat>
-    ensures { MatchResult result (λ k. (k ≡ kind_of file.now) × IsGood file.now) (λ _. IsGood file.now → ⊥) }
+    ensures { MatchResult result (λ k. (k ≡ file_kind file.now) × IsGood file.now) (λ _. IsGood file.now → ⊥) }
 {
     let kind = if is_mz(file) { Kind::Mz } else { Kind::Com };
     let good = match kind {

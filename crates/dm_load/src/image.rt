@@ -1,6 +1,6 @@
 //! A program file that can be loaded: its image, its relocations, and the words of its header.
 ghost use Rattle.std.specs.Prelude.{◌≡◌, ℕ, ◌+◌, ◌*◌, ◌<◌, ◌≤◌, length, take, drop, min, true, MatchResult};
-ghost use Rattle.dm_load.specs.Image.{word, is_mz, kind_of, IsGood, entry, target, image, relocations, relocated, minimum, maximum, code, stack};
+ghost use Rattle.dm_load.specs.Image.{word, is_mz, file_kind, IsGood, entry, target, image, relocations, relocated, minimum, maximum, code, stack};
 
 use crate::format::{BadFormat, FarPointer, Kind};
 use crate::header::{add_to_word, kind, size, target, targets_reach, word};
@@ -15,13 +15,13 @@ pub struct Image<'a> {
 
 impl<'a> Model for Image<'a> {
     ghost use Rattle.std.specs.Prelude.{List, ℕ, ◌≡◌};
-    ghost use Rattle.dm_load.specs.Image.{IsGoodAs, kind_of};
+    ghost use Rattle.dm_load.specs.Image.{IsGoodAs, file_kind};
 
     ghost Value = { List ℕ };
 
     ghost view = { λ s. s.file.now };
 
-    ghost invariant = { λ s. (s.kind ≡ kind_of s.file.now) × IsGoodAs s.kind s.file.now };
+    ghost invariant = { λ s. (s.kind ≡ file_kind s.file.now) × IsGoodAs s.kind s.file.now };
 }
 
 impl<'a> Image<'a> {
@@ -41,7 +41,7 @@ impl<'a> Image<'a> {
 
     /// What kind of program the file is.
     pub fn kind(&self) -> Kind
-        ensures kind { result ≡ kind_of self.now }
+        ensures kind { result ≡ file_kind self.now }
         ensures good { IsGood self.now }
     {
         self.kind

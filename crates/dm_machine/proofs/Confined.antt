@@ -28,7 +28,7 @@ use Rattle.dm_ins.specs.Ins.{BeginsWith}
 use Rattle.dm_machine.specs.Run.{Answers, here, further, StopsWithin, over, whole, cut}
 use Rattle.dm_services.specs.Laws.{with_change}
 use Rattle.dm_services.specs.inner.Laws.{answer_with}
-use Rattle.dm_machine.specs.Laws.{IsQuiet, StaysQuiet, UnseenBytesChangeNoStep, UnseenBytesChangeNoRun, UnseenBlocksChangeNoRun}
+use Rattle.dm_machine.specs.Laws.{KeepsWhatIsSeen, StaysQuiet, UnseenBytesChangeNoStep, UnseenBytesChangeNoRun, UnseenBlocksChangeNoRun}
 use Rattle.dm_services.proofs.Unseen.{serves-unseen}
 
 fetched-unseen : (f : Memory → Memory) (u : IsUnseen f) (m : Memory) (c : Cpu) → fetched (f m) c ≡ fetched m c
@@ -54,25 +54,25 @@ instructs-unseen f u s x (unlisted h e) =
 multiplex-unseen : (f : Memory → Memory) (u : IsUnseen f) (s : State) → driven (with_change f s) Multiplex ≡ answer_with f (driven s Multiplex)
 multiplex-unseen f u s = ap (λ (g : Guest). go (with_guest s g)) (interrupt_return-unseen f u (guest (multiplex_reply s.cpu) s.memory))
 
-acts-unseen : (f : Memory → Memory) (u : IsUnseen f) (s : State) (o : Option EntryPoint) (x : Answer) → IsQuiet o → Acts s o x → Acts (with_change f s) o (answer_with f x)
+acts-unseen : (f : Memory → Memory) (u : IsUnseen f) (s : State) (o : Option EntryPoint) (x : Answer) → KeepsWhatIsSeen o → Acts s o x → Acts (with_change f s) o (answer_with f x)
 acts-unseen f u s (Some (entry_point.Service service)) x q h = serves-unseen f u s service x h
 acts-unseen f u s (Some (entry_point.Driver ExpandedMemory)) x q e = absurd q
 acts-unseen f u s (Some (entry_point.Driver ExtendedMemory)) x q e = absurd q
 acts-unseen f u s (Some (entry_point.Driver Multiplex)) x q e = ap (answer_with f) e ∙ sym (multiplex-unseen f u s)
 acts-unseen f u s None x q h = instructs-unseen f u s x h
 
-runs-unseen : (f : Memory → Memory) (u : IsUnseen f) (s : State) (o : Option ℕ) (x : Answer) → IsQuiet (entry_point_at s.cpu.cs s.cpu.ip) → ActsUnlessEnded s o x → ActsUnlessEnded (with_change f s) o (answer_with f x)
+runs-unseen : (f : Memory → Memory) (u : IsUnseen f) (s : State) (o : Option ℕ) (x : Answer) → KeepsWhatIsSeen (entry_point_at s.cpu.cs s.cpu.ip) → ActsUnlessEnded s o x → ActsUnlessEnded (with_change f s) o (answer_with f x)
 runs-unseen f u s (Some code) x q e = ap (answer_with f) e
 runs-unseen f u s None x q h = acts-unseen f u s (entry_point_at s.cpu.cs s.cpu.ip) x q h
 
-pub steps-unseen : (f : Memory → Memory) (u : IsUnseen f) (s : State) (x : Answer) → IsQuiet (entry_point_at s.cpu.cs s.cpu.ip) → MakesStep s x → MakesStep (with_change f s) (answer_with f x)
+pub steps-unseen : (f : Memory → Memory) (u : IsUnseen f) (s : State) (x : Answer) → KeepsWhatIsSeen (entry_point_at s.cpu.cs s.cpu.ip) → MakesStep s x → MakesStep (with_change f s) (answer_with f x)
 unfolding MakesStep
 steps-unseen f u s x q h = runs-unseen f u s s.exited x q h
 
-wants-unseen : (f : Memory → Memory) (u : IsUnseen f) (s : State) → IsQuiet (entry_point_at s.cpu.cs s.cpu.ip) → MayWant s (MakesStep s) → MayWant (with_change f s) (MakesStep (with_change f s))
+wants-unseen : (f : Memory → Memory) (u : IsUnseen f) (s : State) → KeepsWhatIsSeen (entry_point_at s.cpu.cs s.cpu.ip) → MayWant s (MakesStep s) → MayWant (with_change f s) (MakesStep (with_change f s))
 wants-unseen f u s q w = record { answer = answer_with f w.answer; gives = steps-unseen f u s w.answer q w.gives; overflows = w.overflows }
 
-answers-unseen : (f : Memory → Memory) (u : IsUnseen f) (s : State) (stop : Option Stop) (t : State) → IsQuiet (entry_point_at s.cpu.cs s.cpu.ip) → Answers s stop t → Answers (with_change f s) stop (with_change f t)
+answers-unseen : (f : Memory → Memory) (u : IsUnseen f) (s : State) (stop : Option Stop) (t : State) → KeepsWhatIsSeen (entry_point_at s.cpu.cs s.cpu.ip) → Answers s stop t → Answers (with_change f s) stop (with_change f t)
 answers-unseen f u s (Some NoMemory) t q h = (wants-unseen f u s q h.0, ap (with_change f) h.1)
 answers-unseen f u s (Some stop) t q h = steps-unseen f u s _ q h
 answers-unseen f u s None t q h = steps-unseen f u s _ q h

@@ -22,7 +22,7 @@ use Rattle.dm_space.specs.declared.entry_points.Driver.TheVariants.{ExpandedMemo
 use Rattle.dm_drivers.specs.Drivers.{driven}
 use Rattle.dm_machine.specs.Step.{MakesStep, ActsUnlessEnded, Acts, Instructs, listed, unlisted, after, instructed}
 use Rattle.dm_machine.specs.Run.{Answers, Goes, here, further, IsRun, over, whole, cut}
-use Rattle.dm_machine.specs.Laws.{IsQuiet, StaysQuiet, is_extended, with_unseen_blocks, with_extended_blocks, ExtendedBlocksChangeNoRun, RunLeavesExtended}
+use Rattle.dm_machine.specs.Laws.{KeepsWhatIsSeen, StaysQuiet, is_extended, with_unseen_blocks, with_extended_blocks, ExtendedBlocksChangeNoRun, RunLeavesExtended}
 use Rattle.dm_machine.proofs.Confined.{fewer-quiet, run-unseen}
 use Rattle.dm_machine.proofs.Kept.{run-kept}
 
@@ -48,18 +48,18 @@ instructs-same : (s : State) (x : Answer) → Instructs s x → SameTables s x.s
 instructs-same s x (listed i k b e) = answer-same s x (instructed s i k) e (after-same s (next_of i.action.mnemonic) _)
 instructs-same s x (unlisted h e) = answer-same s x _ e (same s)
 
-acts-same : (s : State) (o : Option EntryPoint) (x : Answer) → IsQuiet o → Acts s o x → SameTables s x.state
+acts-same : (s : State) (o : Option EntryPoint) (x : Answer) → KeepsWhatIsSeen o → Acts s o x → SameTables s x.state
 acts-same s (Some (entry_point.Service service)) x q h = tables-kept s service x h
 acts-same s (Some (entry_point.Driver ExpandedMemory)) x q e = absurd q
 acts-same s (Some (entry_point.Driver ExtendedMemory)) x q e = absurd q
 acts-same s (Some (entry_point.Driver Multiplex)) x q e = answer-same s x (driven s Multiplex) e (refl, refl)
 acts-same s None x q h = instructs-same s x h
 
-runs-same : (s : State) (o : Option ℕ) (x : Answer) → IsQuiet (entry_point_at s.cpu.cs s.cpu.ip) → ActsUnlessEnded s o x → SameTables s x.state
+runs-same : (s : State) (o : Option ℕ) (x : Answer) → KeepsWhatIsSeen (entry_point_at s.cpu.cs s.cpu.ip) → ActsUnlessEnded s o x → SameTables s x.state
 runs-same s (Some code) x q e = answer-same s x _ e (same s)
 runs-same s None x q h = acts-same s (entry_point_at s.cpu.cs s.cpu.ip) x q h
 
-steps-same : (s : State) (x : Answer) → IsQuiet (entry_point_at s.cpu.cs s.cpu.ip) → MakesStep s x → SameTables s x.state
+steps-same : (s : State) (x : Answer) → KeepsWhatIsSeen (entry_point_at s.cpu.cs s.cpu.ip) → MakesStep s x → SameTables s x.state
 unfolding MakesStep
 steps-same s x q h = runs-same s s.exited x q h
 
@@ -68,7 +68,7 @@ goes-same s t n q here = same s
 goes-same s t n q (further m r v goes h) =
     onward s r v (goes-same s r m (fewer-quiet s m (m + 1) (omega arith) q) goes) (steps-same r _ (q m r (omega arith) goes) h)
 
-answers-same : (r : State) (stop : Option Stop) (t : State) → IsQuiet (entry_point_at r.cpu.cs r.cpu.ip) → Answers r stop t → SameTables r t
+answers-same : (r : State) (stop : Option Stop) (t : State) → KeepsWhatIsSeen (entry_point_at r.cpu.cs r.cpu.ip) → Answers r stop t → SameTables r t
 answers-same r (Some NoMemory) t q h = subst (SameTables r) (sym h.1) (same r)
 answers-same r (Some stop) t q h = steps-same r _ q h
 answers-same r None t q h = steps-same r _ q h

@@ -26,7 +26,7 @@ use Rattle.dm_space.specs.declared.entry_points.Driver.TheVariants.{ExpandedMemo
 use Rattle.dm_drivers.specs.Drivers.{driven}
 use Rattle.dm_machine.specs.Step.{MakesStep, ActsUnlessEnded, Acts, Instructs, listed, unlisted, after, instructed}
 use Rattle.dm_machine.specs.Run.{Answers, Goes, here, further, IsRun, over, whole, cut}
-use Rattle.dm_machine.specs.Laws.{IsQuiet, StaysQuiet, RunLeavesUnseen}
+use Rattle.dm_machine.specs.Laws.{KeepsWhatIsSeen, StaysQuiet, RunLeavesUnseen}
 use Rattle.dm_machine.proofs.Confined.{steps-unseen, fewer-quiet}
 use Rattle.dm_machine.proofs.OneRun.{steps-one}
 
@@ -47,18 +47,18 @@ multiplex-shaped : (s : State) → IsShaped s.memory (driven s Multiplex).state.
 unfolding interrupt_return
 multiplex-shaped s = shaped-same s.memory
 
-acts-shaped : (s : State) (o : Option EntryPoint) (x : Answer) → IsQuiet o → Acts s o x → IsShaped s.memory x.state.memory
+acts-shaped : (s : State) (o : Option EntryPoint) (x : Answer) → KeepsWhatIsSeen o → Acts s o x → IsShaped s.memory x.state.memory
 acts-shaped s (Some (entry_point.Service service)) x q h = serves-kept s service x h
 acts-shaped s (Some (entry_point.Driver ExpandedMemory)) x q e = absurd q
 acts-shaped s (Some (entry_point.Driver ExtendedMemory)) x q e = absurd q
 acts-shaped s (Some (entry_point.Driver Multiplex)) x q e = memory-shaped s x (driven s Multiplex) e (multiplex-shaped s)
 acts-shaped s None x q h = instructs-shaped s x h
 
-runs-shaped : (s : State) (o : Option ℕ) (x : Answer) → IsQuiet (entry_point_at s.cpu.cs s.cpu.ip) → ActsUnlessEnded s o x → IsShaped s.memory x.state.memory
+runs-shaped : (s : State) (o : Option ℕ) (x : Answer) → KeepsWhatIsSeen (entry_point_at s.cpu.cs s.cpu.ip) → ActsUnlessEnded s o x → IsShaped s.memory x.state.memory
 runs-shaped s (Some code) x q e = memory-shaped s x _ e (shaped-same s.memory)
 runs-shaped s None x q h = acts-shaped s (entry_point_at s.cpu.cs s.cpu.ip) x q h
 
-steps-shaped : (s : State) (x : Answer) → IsQuiet (entry_point_at s.cpu.cs s.cpu.ip) → MakesStep s x → IsShaped s.memory x.state.memory
+steps-shaped : (s : State) (x : Answer) → KeepsWhatIsSeen (entry_point_at s.cpu.cs s.cpu.ip) → MakesStep s x → IsShaped s.memory x.state.memory
 unfolding MakesStep
 steps-shaped s x q h = runs-shaped s s.exited x q h
 
@@ -68,7 +68,7 @@ steps-shaped s x q h = runs-shaped s s.exited x q h
 abbrev Has : (ℕ → List ℕ) → State → Type 0
 Has other s = with_change (λ m. unseen_as m other) s ≡ s
 
-steps-has : (other : ℕ → List ℕ) (s : State) (x : Answer) → IsQuiet (entry_point_at s.cpu.cs s.cpu.ip) → Has other s → MakesStep s x → Has other x.state
+steps-has : (other : ℕ → List ℕ) (s : State) (x : Answer) → KeepsWhatIsSeen (entry_point_at s.cpu.cs s.cpu.ip) → Has other s → MakesStep s x → Has other x.state
 steps-has other s x q has h =
     let f : Memory → Memory = λ m. unseen_as m other in
     ap (λ (y : Answer). y.state) (steps-one s (answer_with f x) x (subst (λ (r : State). MakesStep r (answer_with f x)) has (steps-unseen f (pages-unseen other) s x q h)) h)
@@ -86,7 +86,7 @@ goes-stays other s t n q has (further m r v goes h) =
     let quiet = q m r (omega arith) goes in
     record { shape = shaped-then s.memory r.memory v.memory before.shape (steps-shaped r _ quiet h); has = steps-has other r _ quiet before.has h }
 
-answers-stay : (other : ℕ → List ℕ) (s r : State) (stop : Option Stop) (t : State) → IsQuiet (entry_point_at r.cpu.cs r.cpu.ip) → Stays other s r → Answers r stop t → Stays other s t
+answers-stay : (other : ℕ → List ℕ) (s r : State) (stop : Option Stop) (t : State) → KeepsWhatIsSeen (entry_point_at r.cpu.cs r.cpu.ip) → Stays other s r → Answers r stop t → Stays other s t
 answers-stay other s r (Some NoMemory) t q b h = subst (Stays other s) (sym h.1) b
 answers-stay other s r (Some stop) t q b h = record { shape = shaped-then s.memory r.memory t.memory b.shape (steps-shaped r _ q h); has = steps-has other r _ q b.has h }
 answers-stay other s r None t q b h = record { shape = shaped-then s.memory r.memory t.memory b.shape (steps-shaped r _ q h); has = steps-has other r _ q b.has h }

@@ -30,16 +30,16 @@ RunHasOneStop = (s t u : State) (n : ℕ) (a b : Stop) → IsRun s n a t → IsR
 
 -- at this entry point (or none) no call can change which memory the program sees: an instruction, a service of DOS, or
 -- INT 2Fh; not INT 67h and not the extended memory driver
-abbrev pub IsQuiet : Option EntryPoint → Type 0
-IsQuiet None = Unit {0}
-IsQuiet (Some (entry_point.Service service)) = Unit {0}
-IsQuiet (Some (entry_point.Driver Multiplex)) = Unit {0}
-IsQuiet (Some (entry_point.Driver ExpandedMemory)) = ⊥
-IsQuiet (Some (entry_point.Driver ExtendedMemory)) = ⊥
+abbrev pub KeepsWhatIsSeen : Option EntryPoint → Type 0
+KeepsWhatIsSeen None = Unit {0}
+KeepsWhatIsSeen (Some (entry_point.Service service)) = Unit {0}
+KeepsWhatIsSeen (Some (entry_point.Driver Multiplex)) = Unit {0}
+KeepsWhatIsSeen (Some (entry_point.Driver ExpandedMemory)) = ⊥
+KeepsWhatIsSeen (Some (entry_point.Driver ExtendedMemory)) = ⊥
 
 -- in n steps from s neither INT 67h nor the extended memory driver is called
 abbrev pub StaysQuiet : State → ℕ → Type 0
-StaysQuiet s n = (k : ℕ) (r : State) → k < n → Goes s k r → IsQuiet (entry_point_at r.cpu.cs r.cpu.ip)
+StaysQuiet s n = (k : ℕ) (r : State) → k < n → Goes s k r → KeepsWhatIsSeen (entry_point_at r.cpu.cs r.cpu.ip)
 
 -- n steps in which neither driver is called lead to the same state if memory is changed where no program sees it, and
 -- the change stays

@@ -126,7 +126,7 @@ pub(crate) fn divide_by(
 /// changed. CS and IP stay.
 #[inline(always)]
 #[tactic(auto, unfolding(crate::specs::Products::after_division, crate::specs::Products::with_division))]
-pub(crate) fn divides(width: Width, cpu: &mut Registers, sign: Sign, divisor: u16) -> bool
+fn divides_by(width: Width, cpu: &mut Registers, sign: Sign, divisor: u16) -> bool
     requires { divisor < size width }
     ensures does { OnTrue result ((memory : Memory) → guest cpu.new memory ≡ after_division width (guest cpu.old memory) (quotient_of sign width (double_of width cpu.old) divisor)) }
     ensures stays { OnFalse result (cpu.new ≡ cpu.old) }
@@ -140,6 +140,21 @@ pub(crate) fn divides(width: Width, cpu: &mut Registers, sign: Sign, divisor: u1
             set_division(width, cpu, division);
             true
         }
+    }
+}
+
+/// Does what [`divides_by`] does; its code is compiled for each sign.
+#[inline(always)]
+pub(crate) fn divides(width: Width, cpu: &mut Registers, sign: Sign, divisor: u16) -> bool
+    requires { divisor < size width }
+    ensures does { OnTrue result ((memory : Memory) → guest cpu.new memory ≡ after_division width (guest cpu.old memory) (quotient_of sign width (double_of width cpu.old) divisor)) }
+    ensures stays { OnFalse result (cpu.new ≡ cpu.old) }
+    ensures segment { cpu.new.cs ≡ cpu.old.cs }
+    ensures ip { cpu.new.ip ≡ cpu.old.ip }
+{
+    match sign {
+        Sign::Unsigned => divides_by(width, cpu, Sign::Unsigned, divisor),
+        Sign::Signed => divides_by(width, cpu, Sign::Signed, divisor),
     }
 }
 

@@ -48,17 +48,17 @@ abbrev pub has_block : xms.Tables → ℕ → Bool
 has_block tables before = is_some (slot tables (before + 1))
 
 -- what is known of a handle that is in use: what was known, or, if it was not in use, that it is since o
-abbrev pub taken : Option Origin → Since → Since
-taken o Unused = Used o
-taken o (Used p) = Used p
+abbrev pub taken_handle : Option Origin → Since → Since
+taken_handle o Unused = Used o
+taken_handle o (Used p) = Used p
 
 -- what is known of a handle, by whether it is in use after the step o, or, for None, before the run
-abbrev pub seen : Bool → Option Origin → Since → Since
-seen used o x = if used then taken o x else Unused
+abbrev pub seen_handle : Bool → Option Origin → Since → Since
+seen_handle used o x = if used then taken_handle o x else Unused
 
 -- what is known after a call of the expanded memory driver, which leaves these tables
 abbrev pub with_handles : Known → Tables → Option Origin → Known
-with_handles k ems o = record k { handles = each_from (λ h x. seen (has_handle ems h) o x) 0 k.handles }
+with_handles k ems o = record k { handles = each_from (λ h x. seen_handle (has_handle ems h) o x) 0 k.handles }
 
 -- the step since which the upper memory block at a segment is in use; o if none is known there
 unfoldable pub upper_origin : List (Option UpperSince) → Option Origin → ℕ → Option Origin
@@ -72,12 +72,12 @@ upper_since us o None = None
 upper_since us o (Some u) = Some (record { segment = u.segment; origin = upper_origin us o u.segment })
 
 -- what is known after a call of the extended memory driver, which leaves these tables, and A20 on or off
-abbrev pub with_blocks : Known → xms.Tables → Bool → Option Origin → Known
-with_blocks k tables on o = record k {
-  blocks = each_from (λ h x. seen (has_block tables h) o x) 0 k.blocks;
+abbrev pub with_extended_memory : Known → xms.Tables → Bool → Option Origin → Known
+with_extended_memory k tables on o = record k {
+  blocks = each_from (λ h x. seen_handle (has_block tables h) o x) 0 k.blocks;
   uppers = each_from (λ n x. upper_since k.uppers o (slice_get tables.uppers n)) 0 k.uppers;
-  area = seen tables.area o k.area;
-  line = seen on o k.line;
+  area = seen_handle tables.area o k.area;
+  line = seen_handle on o k.line;
 }
 
 -- nothing is known but this process
@@ -94,7 +94,7 @@ nothing_known p = record {
 
 -- what is known before a run: what is in use, and the process that is present
 abbrev pub known_first : Tables → xms.Tables → Bool → Process → Known
-known_first ems tables on p = with_blocks (with_handles (nothing_known p) ems None) tables on None
+known_first ems tables on p = with_extended_memory (with_handles (nothing_known p) ems None) tables on None
 
 -- ---- memory of the arena
 

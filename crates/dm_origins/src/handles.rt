@@ -1,7 +1,7 @@
 //! Since when handles are in use (LIM EMS 4.0; XMS 3.0).
 
 ghost use Rattle.std.specs.Prelude.{◌≡◌, length};
-ghost use Rattle.dm_origins.specs.Origins.{each_from, taken, seen, origin_since, has_handle, has_block};
+ghost use Rattle.dm_origins.specs.Origins.{each_from, taken_handle, seen_handle, origin_since, has_handle, has_block};
 
 use dm_ems::Ems;
 use dm_findings::Origin;
@@ -21,7 +21,7 @@ const HANDLES: usize = 64;
 
 /// What is known of a handle that is in use: what was known, or, if it was not in use, that it is since this step.
 fn taken(origin: Option<Origin>, known: Since) -> Since
-    ensures { result ≡ taken origin known }
+    ensures { result ≡ taken_handle origin known }
 {
     match known {
         Since::Unused => Since::Used(origin),
@@ -31,7 +31,7 @@ fn taken(origin: Option<Origin>, known: Since) -> Since
 
 /// What is known of a handle, by whether it is in use, after a step, or before the run (None).
 pub(crate) fn seen(used: bool, origin: Option<Origin>, known: Since) -> Since
-    ensures { result ≡ seen used origin known }
+    ensures { result ≡ seen_handle used origin known }
 {
     if used {
         taken(origin, known)
@@ -54,7 +54,7 @@ impl Since {
 
 /// Looks at the handles of expanded memory, after a step, or before the run (None).
 pub(crate) fn look_at_handles(known: &mut [Since; 64], ems: &Ems, origin: Option<Origin>)
-    ensures { known.new ≡ each_from (λ h x. seen (has_handle ems.now h) origin x) 0 known.old }
+    ensures { known.new ≡ each_from (λ h x. seen_handle (has_handle ems.now h) origin x) 0 known.old }
 {
     for handle in 0..HANDLES {
         known[handle] = seen(ems.slot(handle as u16).is_some(), origin, known[handle]);
@@ -63,7 +63,7 @@ pub(crate) fn look_at_handles(known: &mut [Since; 64], ems: &Ems, origin: Option
 
 /// Looks at the handles of extended memory, from handle 1 on, after a step, or before the run (None).
 pub(crate) fn look_at_blocks(known: &mut [Since; 64], xms: &Xms, origin: Option<Origin>)
-    ensures { known.new ≡ each_from (λ h x. seen (has_block xms.now h) origin x) 0 known.old }
+    ensures { known.new ≡ each_from (λ h x. seen_handle (has_block xms.now h) origin x) 0 known.old }
 {
     for before in 0..HANDLES {
         known[before] = seen(

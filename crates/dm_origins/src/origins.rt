@@ -2,7 +2,7 @@
 
 ghost use Rattle.std.specs.Prelude.{◌≡◌, ◌/◌, ◌++◌, ◌∷◌, [], IfOk, OnOk, replicate, slice_index_or};
 ghost use Rattle.dm_space.specs.Memory.{linear};
-ghost use Rattle.dm_origins.specs.Origins.{known_first, with_handles, with_blocks, with_freed, of_kept, of_paragraph, origin_of, origin_since};
+ghost use Rattle.dm_origins.specs.Origins.{known_first, with_handles, with_extended_memory, with_freed, of_kept, of_paragraph, origin_of, origin_since};
 ghost use Rattle.dm_origins.specs.declared.handles.Since.TheVariants.{Unused};
 ghost use Rattle.dm_findings.specs.processes.Processes.{with_end};
 
@@ -93,7 +93,7 @@ impl Origins {
     /// the extended memory driver: the step allocated those that were not in use, took the area if it was free, and turned
     /// A20 on if it was off.
     pub fn note_blocks(&mut self, xms: &Xms, on: bool, origin: Origin)
-        ensures { self.new ≡ with_blocks self.old xms.now on (Some origin) }
+        ensures { self.new ≡ with_extended_memory self.old xms.now on (Some origin) }
     {
         look_at_blocks(&mut self.blocks, xms, Some(origin));
         look_at_uppers(&mut self.uppers, xms, Some(origin));

@@ -12,7 +12,7 @@ use Rattle.std.proofs.lemmas.Option.{none-some, same_Some}
 use Rattle.dm_region.proofs.Written.{elsewhere, written, twice}
 use Rattle.dm_region.specs.Parts.{part, with_part}
 use Rattle.dm_pool.specs.declared.extent.Extent.{Extent}
-use Rattle.dm_pool.specs.Gaps.{overlaps, is_clear, is_free, first_passing, lowest, first_empty, next_index}
+use Rattle.dm_pool.specs.Gaps.{overlaps, is_clear, are_free, first_passing, lowest, first_empty, next_index}
 use Rattle.dm_pool.specs.Blocks.{Blocks, content, contents_of, Apart, IsPool, zeros, placed, taken, resized_from, at_base, new_base, resized, fitted, with_content}
 use Rattle.std.specs.List.{refill, length_refill}
 use Rattle.std.proofs.lemmas.List.{length-take, length-drop}
@@ -57,7 +57,7 @@ unfolding first_passing
 passes f zero p q e = absurd (none-some q e)
 passes f (suc n) p q e = choose f n p q (f p) refl e (passes f n (suc p) q)
 
-pub within_pool : (places : List (Option Extent)) (n u p : ℕ) → is_free places n u p ≡ true → (p + u ≤ n) × (is_clear places p u ≡ true)
+pub within_pool : (places : List (Option Extent)) (n u p : ℕ) → are_free places n u p ≡ true → (p + u ≤ n) × (is_clear places p u ≡ true)
 within_pool places n u p e = let both = both_so (nat_le (p + u) n) (is_clear places p u) e in (leb-true (p + u) n both.0, both.1)
 
 after_next : (places : List (Option Extent)) (c : Extent) (i : ℕ) (o : Option ℕ) → first_empty places ≡ o → next_index o ≡ Some i

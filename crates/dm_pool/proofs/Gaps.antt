@@ -6,7 +6,7 @@ use Rattle.std.proofs.Math.Bool.{true≢false}
 use Rattle.std.proofs.lemmas.Bool.Decides.{leb_tells}
 use Rattle.std.specs.Cmp.Derive.{both_true}
 use Rattle.std.proofs.lemmas.Option.{none-some, same_Some}
-use Rattle.dm_pool.specs.Gaps.{overlaps, is_clear, is_free, first_passing, lowest, first_empty, first_fit, next_index, Run}
+use Rattle.dm_pool.specs.Gaps.{overlaps, is_clear, are_free, first_passing, lowest, first_empty, first_fit, next_index, Run}
 use Rattle.dm_pool.specs.inner.Gaps.{IsCovered, AreGaps}
 use Rattle.dm_pool.specs.declared.extent.Extent.{Extent}
 
@@ -61,13 +61,13 @@ unfolding first_passing
 not_found f zero p miss = refl
 not_found f (suc n) p miss = ap (λ c. if c then Some p else first_passing f n (suc p)) (miss p (omega arith) (omega arith)) ∙ not_found f n (suc p) (λ r a b. miss r (omega arith) (omega arith))
 
-pub free : (bs : List (Option Extent)) (n u p : ℕ) → p + u ≤ n → is_clear bs p u ≡ true → is_free bs n u p ≡ true
+pub free : (bs : List (Option Extent)) (n u p : ℕ) → p + u ≤ n → is_clear bs p u ≡ true → are_free bs n u p ≡ true
 free bs n u p le h = both_true (le-leb (p + u) n le) h
 
-pub taken : (bs : List (Option Extent)) (n u p : ℕ) → is_clear bs p u ≡ false → is_free bs n u p ≡ false
+pub taken : (bs : List (Option Extent)) (n u p : ℕ) → is_clear bs p u ≡ false → are_free bs n u p ≡ false
 taken bs n u p h = ap (λ c. nat_le (p + u) n && c) h ∙ and_false (nat_le (p + u) n)
 
-pub outside : (bs : List (Option Extent)) (n u p : ℕ) → n < p + u → is_free bs n u p ≡ false
+pub outside : (bs : List (Option Extent)) (n u p : ℕ) → n < p + u → are_free bs n u p ≡ false
 outside bs n u p h = false_and (nat_le (p + u) n) (is_clear bs p u) (past (p + u) n h)
 
 pub first_at : (bs : List (Option Extent)) (i : ℕ) → i < length bs → get_or bs i None ≡ None → ((j : ℕ) → j < i → (b : Extent) × (get_or bs j None ≡ Some b)) → first_empty bs ≡ Some i
@@ -118,13 +118,13 @@ test false = inr refl
 pub unclear : (bs : List (Option Extent)) (k q u : ℕ) → IsCovered bs k → q ≤ k → k < q + u → is_clear bs q u ≡ false
 unclear bs k q u h lo hi = elim (test (is_clear bs q u)) [ inl y ↦ absurd (true≢false (sym (clear_part bs q u k 1 y lo (omega arith)) ∙ h)) | inr e ↦ e ]
 
-fits_at : (bs : List (Option Extent)) (n u k : ℕ) (gs : List Run) → 0 < u → AreGaps bs n k gs → ((q : ℕ) → q < k → is_free bs n u q ≡ false) → first_fit gs u ≡ lowest bs n u
-fits_at bs n u k [] pos are miss = sym (not_found (is_free bs n u) (suc n) 0 (λ q le lt. elim (below_or_not q k) [
+fits_at : (bs : List (Option Extent)) (n u k : ℕ) (gs : List Run) → 0 < u → AreGaps bs n k gs → ((q : ℕ) → q < k → are_free bs n u q ≡ false) → first_fit gs u ≡ lowest bs n u
+fits_at bs n u k [] pos are miss = sym (not_found (are_free bs n u) (suc n) 0 (λ q le lt. elim (below_or_not q k) [
   | inl h ↦ miss q h
   | inr h ↦ elim (below_or_not q n) [ inl i ↦ taken bs n u q (unclear bs q q u (are q h i) (omega arith) (omega arith)) | inr i ↦ outside bs n u q (omega arith) ]
 ]))
 fits_at bs n u k (g ∷ gs) pos are miss =
-    let before' : (q : ℕ) → q < g.low → is_free bs n u q ≡ false = λ q lt. elim (below_or_not q k) [ inl h ↦ miss q h | inr h ↦ taken bs n u q (unclear bs q q u (are.1 q h lt) (omega arith) (omega arith)) ] in
+    let before' : (q : ℕ) → q < g.low → are_free bs n u q ≡ false = λ q lt. elim (below_or_not q k) [ inl h ↦ miss q h | inr h ↦ taken bs n u q (unclear bs q q u (are.1 q h lt) (omega arith) (omega arith)) ] in
     elim (below_or_not g.size u) [
       | inl small ↦
           ap (λ c. if c then Some g.low else first_fit gs u) (past u g.size small)
@@ -135,7 +135,7 @@ fits_at bs n u k (g ∷ gs) pos are miss =
       | inr large ↦
           let room = are.4 in
           ap (λ c. if c then Some g.low else first_fit gs u) (le-leb u g.size large)
-          ∙ sym (found (is_free bs n u) (suc n) 0 g.low (omega arith) (omega arith) (free bs n u g.low (omega arith) (clear_part bs g.low g.size g.low u are.3 (omega arith) (omega arith))) (λ q le lt. before' q lt))
+          ∙ sym (found (are_free bs n u) (suc n) 0 g.low (omega arith) (omega arith) (free bs n u g.low (omega arith) (clear_part bs g.low g.size g.low u are.3 (omega arith) (omega arith))) (λ q le lt. before' q lt))
     ]
 
 -- the first run that fits begins at the lowest free place

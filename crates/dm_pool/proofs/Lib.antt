@@ -12,5 +12,6 @@ pub mod Maximal
 pub mod Moved
 pub mod Order
 pub mod Spelled
+pub mod Spots
 pub mod Stored
 pub mod Coming

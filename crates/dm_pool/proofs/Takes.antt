@@ -3,7 +3,7 @@ use Rattle.std.proofs.Common.{◌≡◌, ℕ, zero, suc, ◌+◌, ◌≤◌, tru
 use Rattle.std.specs.Prelude.{IfSome}
 use Rattle.std.proofs.lemmas.Option.{same_Some}
 use Rattle.dm_pool.specs.declared.extent.Extent.{Extent}
-use Rattle.dm_pool.specs.Gaps.{is_clear, is_free, lowest}
+use Rattle.dm_pool.specs.Gaps.{is_clear, are_free, lowest}
 use Rattle.dm_pool.specs.Blocks.{Blocks, contents_of}
 use Rattle.dm_pool.specs.inner.Order.{Layout, blocks_in}
 use Rattle.dm_pool.proofs.Blocks.{passes, within_pool}
@@ -12,7 +12,7 @@ use Rattle.dm_pool.proofs.Told.{lowest_zero}
 -- what a gap that was found is
 pub lowest_free : (places : List (Option Extent)) (n u p : ℕ) → lowest places n u ≡ Some p → (p + u ≤ n) × (is_clear places p u ≡ true) × (u ≡ 0 → p ≡ 0)
 lowest_free places n u p e =
-    let w = within_pool places n u p (passes (is_free places n u) (suc n) 0 p e) in
+    let w = within_pool places n u p (passes (are_free places n u) (suc n) 0 p e) in
     (w.0, w.1, λ z. sym (same_Some 0 p (sym (lowest_zero places n) ∙ ap (lowest places n) (sym z) ∙ e)))
 
 pub same_blocks : (u v : ℕ) (ps qs : List (Option Extent)) (cs ds : List (List ℕ)) → u ≡ v → ps ≡ qs → cs ≡ ds → let b : Blocks = record { units = u; places = ps; contents = cs } in b ≡ record { units = v; places = qs; contents = ds }

@@ -2,7 +2,7 @@
 use Rattle.std.specs.Prelude.{ℕ, ◌+◌, ◌*◌, ◌^◌, ◌<◌, ◌≤◌, ◌≡◌, ◌⊎◌, List, [], ◌++◌, ◌==◌, if◌then◌else◌, map, length, take, set, get_or, replicate, Option, Some, None}
 use Rattle.dm_region.specs.Parts.{part, with_part}
 use Rattle.dm_pool.specs.declared.extent.Extent.{Extent}
-use Rattle.dm_pool.specs.Gaps.{is_free, lowest, first_empty}
+use Rattle.dm_pool.specs.Gaps.{are_free, lowest, first_empty}
 
 -- a pool: its number of units, and its blocks; a number below 576 may have a block
 pub record Blocks : Type 0 where
@@ -78,7 +78,7 @@ pub record IsPool (units : ℕ) (places : List (Option Extent)) (bytes : List �
 -- free, else that of the lowest gap that holds them, its old place counted as taken; 0 for no unit, None if there is no
 -- place for it
 abbrev pub new_base : Blocks → ℕ → Extent → ℕ → Option ℕ
-new_base s i b u = if u == 0 then Some 0 else (if is_free (set s.places i None) s.units u b.base then Some b.base else lowest s.places s.units u)
+new_base s i b u = if u == 0 then Some 0 else (if are_free (set s.places i None) s.units u b.base then Some b.base else lowest s.places s.units u)
 
 -- the bytes of a block that gets u units: its own up to the smaller size, then zeros
 abbrev pub fitted : List ℕ → ℕ → List ℕ

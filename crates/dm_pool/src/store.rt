@@ -1,5 +1,5 @@
 //! The bytes of a machine, in one region: low memory by linear address, scratch bytes, and a pool of units of 1 KiB.
-ghost use Rattle.std.specs.Prelude.{◌≡◌, ◌↔◌, IsTrue, ◌+◌, ◌*◌, ◌^◌, ◌<◌, ◌≤◌, Some, None, [], ◌++◌, ◌-◌, true, take, drop, replicate, get_or, length, IfOk, IfSome, IsErrOf, MatchOption};
+ghost use Rattle.std.specs.Prelude.{◌≡◌, ◌↔◌, IsTrue, ℕ, ◌+◌, ◌*◌, ◌/◌, ◌%◌, ◌^◌, ◌<◌, ◌≤◌, Some, None, [], ◌++◌, ◌-◌, true, take, drop, replicate, get_or, set, length, IfOk, IfSome, IsErrOf, MatchOption};
 ghost use Rattle.std.specs.Borrow.{sem};
 ghost use Rattle.std.specs.Bool.{MatchBool, OnFalse, OnTrue};
 ghost use Rattle.dm_pool.specs.Blocks.{no_blocks, taken, resized, without, moved_bytes, contents_of, IsAt, IsLive, IsPool};
@@ -7,7 +7,9 @@ ghost use Rattle.dm_pool.specs.FreeList.{AreBased, Spells};
 ghost use Rattle.dm_pool.specs.Gaps.{gaps, free_units, largest, count_fitting};
 ghost use Rattle.dm_pool.specs.Stored.{zeros_of, units_of, IsTooLarge};
 ghost use Rattle.dm_pool.specs.Lending.{LendsLow, LendsScratch, LendsBlock};
-ghost use Rattle.dm_pool.specs.Parts.{HasPart, part_bytes, part_copied};
+ghost use Rattle.dm_pool.specs.declared.part.Part.{Part};
+ghost use Rattle.dm_pool.specs.declared.part.Part.TheVariants.{Block as OfBlock};
+ghost use Rattle.dm_pool.specs.Parts.{HasPart, part_bytes, with_part_bytes, with_part_byte, part_copied, IsSpot};
 ghost use Rattle.dm_pool.specs.inner.Parts.{IsLaidOut, IsSpan};
 ghost use Rattle.dm_pool.specs.inner.Stored.{IsKept, stored};
 
@@ -316,6 +318,65 @@ impl Store {
         let place = place_of(&self.table, block);
         self.region
             .part_mut(POOL + place.base * UNIT, place.units * UNIT)
+    }
+
+    /// The spot of byte `k` of a block, by which [`Store::byte`] and [`Store::set_byte`] find it. It stays the same while
+    /// the block is neither given back nor resized.
+    pub fn spot(&self, block: Block, k: usize) -> usize
+        requires { IsLive self.now.blocks block × (k < length (get_or self.now.blocks.contents block [])) }
+        ensures spot { IsSpot self.now (OfBlock block) k result }
+        ensures small { result < 2 ^ 42 }
+    {
+        self.table.recall();
+        POOL + place_of(&self.table, block).base * UNIT + k
+    }
+
+    /// The byte of low memory or of a block that lies at a spot.
+    #[inline(always)]
+    pub fn byte(&self, spot: usize) -> u8
+        requires { (part : Part) × (k : ℕ) × IsSpot self.now part k spot }
+        ensures value { (part : Part) (k : ℕ) → IsSpot self.now part k spot → result ≡ get_or (part_bytes self.now part) k 0 }
+        ensures small { spot < 2 ^ 42 }
+    {
+        self.table.recall();
+        self.region.part(spot, 1)[0]
+    }
+
+    /// Writes the byte of low memory or of a block that lies at a spot. All other bytes stay.
+    #[inline(always)]
+    pub fn set_byte(&mut self, spot: usize, value: u8)
+        requires { (part : Part) × (k : ℕ) × IsSpot self.old part k spot }
+        ensures written { (part : Part) (k : ℕ) → IsSpot self.old part k spot → self.new ≡ with_part_bytes self.old part (set (part_bytes self.old part) k value) }
+        ensures small { spot < 2 ^ 42 }
+    {
+        self.table.recall();
+        self.region.part_mut(spot, 1)[0] = value;
+    }
+
+    /// The word whose bytes, each of low memory or of a block, lie at a spot and the next one, low byte first.
+    #[inline(always)]
+    pub fn word(&self, spot: usize) -> u16
+        requires low { (part : Part) × (k : ℕ) × IsSpot self.now part k spot }
+        requires high { (part : Part) × (k : ℕ) × IsSpot self.now part k (spot + 1) }
+        ensures { (low : Part) (j : ℕ) (high : Part) (k : ℕ) → IsSpot self.now low j spot → IsSpot self.now high k (spot + 1) → result ≡ get_or (part_bytes self.now low) j 0 + 256 * get_or (part_bytes self.now high) k 0 }
+    {
+        self.table.recall();
+        let bytes = self.region.part(spot, 2);
+        u16::from_le_bytes([bytes[0], bytes[1]])
+    }
+
+    /// Writes the word whose bytes, each of low memory or of a block, lie at a spot and the next one, low byte first.
+    /// All other bytes stay.
+    #[inline(always)]
+    pub fn set_word(&mut self, spot: usize, value: u16)
+        requires low { (part : Part) × (k : ℕ) × IsSpot self.old part k spot }
+        requires high { (part : Part) × (k : ℕ) × IsSpot self.old part k (spot + 1) }
+        ensures { (low : Part) (j : ℕ) (high : Part) (k : ℕ) → IsSpot self.old low j spot → IsSpot self.old high k (spot + 1) → self.new ≡ with_part_byte (with_part_byte self.old low j (value % 256)) high k (value / 256) }
+    {
+        self.table.recall();
+        let bytes = self.region.part_mut(spot, 2);
+        bytes[0] = (value % 0x100) as u8;
+        bytes[1] = (value / 0x100) as u8;
     }
 
     /// Copies `len` bytes of a block, from its byte `from` on, to the place from byte `to` on of another block or the

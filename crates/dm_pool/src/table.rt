@@ -1,7 +1,7 @@
 //! The table of a pool: where each block lies, by its number; the order in which the blocks lie; and where the free
 //! list begins.
 ghost use Rattle.std.specs.Prelude.{◌≡◌, ◌↔◌, IsTrue, ℕ, ◌+◌, ◌^◌, ◌<◌, ◌≤◌, true, false, Some, None, get_or, set, length, replicate, IfSome, MatchOption};
-ghost use Rattle.dm_pool.specs.Gaps.{is_clear, is_free, first_empty};
+ghost use Rattle.dm_pool.specs.Gaps.{is_clear, are_free, first_empty};
 ghost use Rattle.dm_pool.specs.inner.Order.{no_layout, IsNth, IsOrder, IsTable};
 
 use crate::extent::Extent;
@@ -245,7 +245,7 @@ impl Table {
     /// them.
     pub(crate) fn is_free_but(&self, slot: usize, from: usize, units: usize) -> bool
         requires { from ≤ self.now.units }
-        ensures { result ≡ is_free (set self.now.places slot None) self.now.units units from }
+        ensures { result ≡ are_free (set self.now.places slot None) self.now.units units from }
     {
         if units > self.units - from {
             return false;

@@ -7,8 +7,8 @@ abbrev pub program_of : List (List ℕ × List ℕ) → List ℕ → Option (Lis
 program_of store name = option_map (λ p. p.1) (find (λ p. str_eq_ignore_ascii_case p.0 name) store)
 
 -- the store has a program with this name, ASCII case ignored
-abbrev pub has_name : List (List ℕ × List ℕ) → List ℕ → Bool
-has_name store name = is_some (program_of store name)
+abbrev pub has_program : List (List ℕ × List ℕ) → List ℕ → Bool
+has_program store name = is_some (program_of store name)
 
 -- a program's name: 1 to 64 bytes, none of them zero
 pub record IsName (name : List ℕ) : Type 0 where

@@ -1,7 +1,7 @@
 //! The store of programs: named files, whose names are compared with ASCII case ignored.
 ghost use Rattle.std.specs.Prelude.{◌≡◌, ◌++◌, ◌↔◌, ◌≤◌, ◌<◌, List, [], ◌∷◌, ℕ, true, IfOk, OnOk, OnErr, IsErrOf, length, map, option_map};
 ghost use Rattle.std.specs.Str.{str_eq_ignore_ascii_case};
-ghost use Rattle.dm_proc.specs.Programs.{has_name, program_of, IsName};
+ghost use Rattle.dm_proc.specs.Programs.{has_program, program_of, IsName};
 
 use std::alloc::{AllocError, Global};
 use std::marker::Model;
@@ -102,7 +102,7 @@ impl Programs {
     pub fn add(&mut self, alloc: Global, name: &[u8], bytes: Vec<u8>) -> Result<(), AddError>
         requires { IsName name.now }
         ensures ok { OnOk result (self.new ≡ self.old ++ (name.now, bytes.items) ∷ []) }
-        ensures twice { IsErrOf result AddError.Twice ↔ (has_name self.old name.now ≡ true) }
+        ensures twice { IsErrOf result AddError.Twice ↔ (has_program self.old name.now ≡ true) }
         ensures err { OnErr result (self.new ≡ self.old) }
     {
         if self.find(name).is_some() {

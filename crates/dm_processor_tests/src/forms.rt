@@ -168,7 +168,7 @@ REP MOVSW   | F3 A5 | CX=0000                                   |";
 pub(crate) const FORMED: [&str; 6] = [MOVES, WORDS, BYTES, JUMPS, STACK, STRINGS];
 
 /// Definitions: dm_cpu EffectiveAddress first_of second_of segment_by own_segment
-/// Definitions: dm_forms Forms IsForm HasAction action_of override_of two
+/// Definitions: dm_forms Forms IsForm HasAction action_of override_of with_two_operands
 #[test]
 fn instructions_with_forms(rt: HostRuntime) -> Result<(), Fail> {
     for rows in FORMED {

@@ -161,7 +161,7 @@ pub(crate) fn number_of(form: &Form) -> usize
 }
 
 /// Definitions: dm_cpu EffectiveAddress first_of second_of segment_by own_segment
-/// Definitions: dm_forms Forms IsForm HasAction action_of override_of two
+/// Definitions: dm_forms Forms IsForm HasAction action_of override_of with_two_operands
 #[test]
 fn each_form_has_a_row(rt: HostRuntime) -> Result<(), Fail> {
     let mut seen = [false; FORMS];

@@ -391,7 +391,7 @@ fn lines_before_a_failing_read_are_answered(rt: HostRuntime) -> Result<(), Fail>
 
 /// The packets before the read that fails are answered, and nothing is read after the end of the conversation.
 ///
-/// Definitions: dm_cli Serving Serves IsServed DebugsByGdb
+/// Definitions: dm_cli Serving ServesStream IsServed DebugsByGdb
 #[test]
 fn packets_before_a_failing_read_are_answered(rt: HostRuntime) -> Result<(), Fail> {
     for (kind, told) in [

@@ -283,7 +283,7 @@ fn play(
     play_with(rt, alloc, &mut server, most, rows)
 }
 
-/// Definitions: dm_gdb Servers Replies plain_reply register_reply memory_reply base_of threads_reply
+/// Definitions: dm_gdb Servers Replies plain_reply register_reply memory_reply first_segment_address threads_reply
 /// Definitions: dm_gdb Description features_reply description
 /// Definitions: dm_target Registers register_bytes core_values
 /// Definitions: dm_target Memory readable byte_at
@@ -303,7 +303,7 @@ fn ends(rt: &impl Abort, alloc: Global, server: &mut Server) -> Result<(), Fail>
     Ok(())
 }
 
-/// Definitions: dm_gdb Servers Replies step_reply arrival_reply written PutsConsole
+/// Definitions: dm_gdb Servers Replies step_reply arrival_reply memory_written PutsConsole
 /// Definitions: dm_target Going Continues has_arrived
 #[test]
 fn a_program_is_debugged_to_its_end(rt: HostRuntime) -> Result<(), Fail> {
@@ -311,10 +311,10 @@ fn a_program_is_debugged_to_its_end(rt: HostRuntime) -> Result<(), Fail> {
     ends(&rt, rt.alloc(), &mut server)
 }
 
-/// Definitions: dm_gdb Servers Replies undone_reply with_past restarted with_written with_registers
+/// Definitions: dm_gdb Servers Replies undone_reply with_past restarted after_write with_registers
 /// Definitions: dm_gdb Replies reply_text
 /// Definitions: dm_target Undoing Undoes HitBy undone_by
-/// Definitions: dm_history Becomes Becomes Leads
+/// Definitions: dm_history Becomes BecomesBy HasStepTo
 /// Definitions: dm_history Edits changed edits_to
 /// Definitions: dm_history Pasts with_change GoesBack
 #[test]
@@ -360,13 +360,13 @@ fn other_stops_are_signals(rt: HostRuntime) -> Result<(), Fail> {
 }
 
 /// Definitions: dm_gdb Servers registers_after setting_reply with_registers
-/// Definitions: dm_target Settings registers_with with_value place_for value_of
+/// Definitions: dm_target Settings registers_with with_value place_for register_value
 #[test]
 fn registers_are_set(rt: HostRuntime) -> Result<(), Fail> {
     play(&rt, rt.alloc(), HELLO, 100, &SETTINGS)
 }
 
-/// Definitions: dm_gdb Monitor is_shown step_of text_reply stepped_reply
+/// Definitions: dm_gdb Monitor is_shown step_asked text_reply stepped_reply
 /// Definitions: dm_gdb Servers Replies
 #[test]
 fn commands_are_handed_on(rt: HostRuntime) -> Result<(), Fail> {

@@ -36,7 +36,7 @@ fn sizes_too_large(rt: HostRuntime) -> Result<(), Fail> {
     Ok(())
 }
 
-/// Definitions: dm_proc Programs program_of has_name
+/// Definitions: dm_proc Programs program_of has_program
 #[test]
 fn store_takes_a_name_once(rt: HostRuntime) -> Result<(), Fail> {
     let mut programs = Programs::new(rt.alloc());
@@ -78,7 +78,7 @@ const GREEDY: [u8; 28] = [
     b'M', b'Z', 28, 0, 1, 0, 0, 0, 1, 0, 0xFF, 0xFF, 0, 0, 0, 0, 0, 0, 0, 0, 0, 0, 0, 0, 0, 0, 0, 0,
 ];
 
-/// Definitions: dm_proc Programs program_of has_name; dm_services state.State State HasProgram
+/// Definitions: dm_proc Programs program_of has_program; dm_services state.State State HasProgram
 /// Definitions: dm_machine Start IsNew clear_registers clear_flags IsBadProgram HasNoRoom
 #[test]
 fn refused_loads_change_nothing(rt: HostRuntime) -> Result<(), Fail> {

@@ -3,7 +3,7 @@ use Rattle.std.specs.Prelude.{ℕ, ◌==◌, if◌then◌else◌, List, [], ◌�
 use Rattle.std.specs.List.{flat_map}
 use Rattle.dm_findings.specs.declared.report.Listed.{Listed}
 use Rattle.dm_findings.specs.Report.{Reported}
-use Rattle.dm_reports.specs.Texts.{counted, found_line, repeated_line}
+use Rattle.dm_reports.specs.Texts.{count_text, found_line, repeated_line}
 
 -- the line of a finding that the report lists
 abbrev pub listed_line : Listed → List ℕ
@@ -15,7 +15,7 @@ again_line l = if l.more == 0 then [] else repeated_line l
 
 -- the line about findings that are left out: how many they are
 abbrev pub left_out_line : ℕ → List ℕ
-left_out_line n = codes "not listed: " ++ counted n (codes "finding") ++ 10 ∷ []
+left_out_line n = codes "not listed: " ++ count_text n (codes "finding") ++ 10 ∷ []
 
 -- the line about the findings that the report leaves out; none if there are none
 abbrev pub unlisted_line : ℕ → List ℕ

@@ -34,8 +34,8 @@ place_text (At segment offset) = codes " at " ++ address_text segment offset
 place_text (Before segment offset) = codes " before " ++ address_text segment offset
 
 -- the two bytes at CS:IP
-abbrev pub code_text : Memory → Cpu → List ℕ
-code_text m c =
+abbrev pub code_bytes_text : Memory → Cpu → List ℕ
+code_bytes_text m c =
     codes ": " ++ two_digits (peek m (linear m.a20 c.cs c.ip)) ++ codes " " ++ two_digits (peek m (linear m.a20 c.cs (up c.ip 1)))
 
 -- the call that the next step would perform; nothing for an instruction
@@ -46,7 +46,7 @@ next_text (Some call) = codes ": " ++ call_text call
 -- what the next step would perform: the bytes at CS:IP that are no instruction, a call, or an instruction, of which
 -- nothing is said
 abbrev pub what_text : Stop → Memory → Cpu → List ℕ
-what_text stop.Unlisted m c = code_text m c
+what_text stop.Unlisted m c = code_bytes_text m c
 what_text _ m c = next_text (call_of c)
 
 -- why the run stopped, where in its code the program would have gone on, and what the next step would perform

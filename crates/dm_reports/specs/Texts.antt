@@ -31,8 +31,8 @@ abbrev pub ending_text : ℕ → List ℕ
 ending_text n = if n == 1 then [] else codes "s"
 
 -- a number of things in decimal, and what they are, by the word for one of them
-abbrev pub counted : ℕ → List ℕ → List ℕ
-counted n word = decimal n ++ codes " " ++ word ++ ending_text n
+abbrev pub count_text : ℕ → List ℕ → List ℕ
+count_text n word = decimal n ++ codes " " ++ word ++ ending_text n
 
 -- that a call failed, with the code and its meaning
 abbrev pub refusal_text : Act → ℕ → List ℕ
@@ -40,7 +40,7 @@ refusal_text a code = codes "refused with code " ++ two_digits code ++ codes "h"
 
 -- that a call failed for lack of memory: how many paragraphs it asked for, and the largest number available
 abbrev pub short_text : ℕ → ℕ → List ℕ
-short_text asked largest = codes "refused with code 08h, not enough memory: " ++ counted asked (codes "paragraph") ++ codes " wanted, " ++ decimal largest ++ codes " available"
+short_text asked largest = codes "refused with code 08h, not enough memory: " ++ count_text asked (codes "paragraph") ++ codes " wanted, " ++ decimal largest ++ codes " available"
 
 -- that an instruction reads or writes a byte of a free block: the verb, the byte, and the block's segment
 abbrev pub free_text : List ℕ → ℕ → ℕ → ℕ → List ℕ
@@ -52,7 +52,7 @@ map_text saved = if saved then codes ", map not restored" else []
 
 -- what a program has allocated at its end
 abbrev pub kept_text : Kept → List ℕ
-kept_text (kept.Handle handle pages saved) = codes "EMS handle " ++ decimal handle ++ codes ": " ++ counted pages (codes "page") ++ codes " not freed" ++ map_text saved
+kept_text (kept.Handle handle pages saved) = codes "EMS handle " ++ decimal handle ++ codes ": " ++ count_text pages (codes "page") ++ codes " not freed" ++ map_text saved
 kept_text (kept.Window window) = codes "window " ++ decimal window ++ codes " still mapped"
 kept_text (kept.Block handle kib locked) = codes "XMS handle " ++ decimal handle ++ codes ": " ++ decimal kib ++ codes " KiB not freed" ++ lock_text locked
 kept_text (kept.Upper at) = codes "upper block at " ++ four_digits at ++ codes " not freed"
@@ -81,7 +81,7 @@ finding_text a (RomWritten segment offset) = codes "writes " ++ address_text seg
 finding_text a (NothingWritten segment offset) = codes "writes " ++ address_text segment offset ++ codes ", where there is no memory"
 finding_text a (TailWritten at byte) = codes "byte " ++ decimal byte ++ codes " of the header at " ++ four_digits at ++ codes " written"
 finding_text a (OtherFreed at owner) = codes "block at " ++ four_digits at ++ codes " of process " ++ four_digits owner ++ codes " freed"
-finding_text a (NotResized asked) = codes "block not resized to " ++ counted asked (codes "paragraph")
+finding_text a (NotResized asked) = codes "block not resized to " ++ count_text asked (codes "paragraph")
 
 -- the text of what was performed in the step: a call, or an instruction
 abbrev pub act_text : Act → List ℕ

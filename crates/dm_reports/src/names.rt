@@ -5,6 +5,7 @@ ghost use Rattle.std.specs.Prelude.{◌≡◌, ◌++◌, OnOk, codes};
 ghost use Rattle.dm_views.specs.Digits.{two_digits};
 ghost use Rattle.dm_reports.specs.Names.{call_text, dos_name, expanded_name, extended_name};
 
+use dm_drivers::{expanded, extended};
 use dm_findings::Call;
 use dm_services::{Function, function_of};
 use dm_views::byte_digits;
@@ -43,60 +44,59 @@ fn dos_name(function: Function) -> &'static [u8]
     }
 }
 
-/// The name of a function of INT 67h in parentheses, after a space; empty for a number that is not served.
-fn expanded_name(number: u8) -> &'static [u8]
-    ensures { result.now ≡ expanded_name number }
+/// The name of a function of INT 67h in parentheses, after a space; empty for `Unknown`.
+fn expanded_name(function: expanded::Function) -> &'static [u8]
+    ensures { result.now ≡ expanded_name function }
 {
-    match number {
-        0x40 => b" (Get Status)",
-        0x41 => b" (Get Page Frame Address)",
-        0x42 => b" (Get Unallocated Page Count)",
-        0x43 => b" (Allocate Pages)",
-        0x44 => b" (Map/Unmap Handle Page)",
-        0x45 => b" (Deallocate Pages)",
-        0x46 => b" (Get Version)",
-        0x47 => b" (Save Page Map)",
-        0x48 => b" (Restore Page Map)",
-        0x4B => b" (Get Handle Count)",
-        0x4C => b" (Get Handle Pages)",
-        0x4D => b" (Get All Handle Pages)",
-        0x4E => b" (Get/Set Page Map)",
-        0x50 => b" (Map/Unmap Multiple Handle Pages)",
-        0x51 => b" (Reallocate Pages)",
-        0x53 => b" (Get/Set Handle Name)",
-        0x54 => b" (Get Handle Directory)",
-        0x57 => b" (Move/Exchange Memory Region)",
-        0x58 => b" (Get Mappable Physical Address Array)",
-        _ => b"",
+    match function {
+        expanded::Function::Status => b" (Get Status)",
+        expanded::Function::Frame => b" (Get Page Frame Address)",
+        expanded::Function::PageCounts => b" (Get Unallocated Page Count)",
+        expanded::Function::Allocate => b" (Allocate Pages)",
+        expanded::Function::MapPage => b" (Map/Unmap Handle Page)",
+        expanded::Function::Deallocate => b" (Deallocate Pages)",
+        expanded::Function::Version => b" (Get Version)",
+        expanded::Function::SaveMap => b" (Save Page Map)",
+        expanded::Function::RestoreMap => b" (Restore Page Map)",
+        expanded::Function::CountHandles => b" (Get Handle Count)",
+        expanded::Function::CountPages => b" (Get Handle Pages)",
+        expanded::Function::ListPages => b" (Get All Handle Pages)",
+        expanded::Function::WholeMap => b" (Get/Set Page Map)",
+        expanded::Function::MapMany => b" (Map/Unmap Multiple Handle Pages)",
+        expanded::Function::Reallocate => b" (Reallocate Pages)",
+        expanded::Function::HandleName => b" (Get/Set Handle Name)",
+        expanded::Function::Directory => b" (Get Handle Directory)",
+        expanded::Function::Regions => b" (Move/Exchange Memory Region)",
+        expanded::Function::Mappable => b" (Get Mappable Physical Address Array)",
+        expanded::Function::Unknown => b"",
     }
 }
 
-/// The name of a function of the extended memory driver in parentheses, after a space; empty for a number that is not
-/// served.
-fn extended_name(number: u8) -> &'static [u8]
-    ensures { result.now ≡ extended_name number }
+/// The name of a function of the extended memory driver in parentheses, after a space; empty for `Unknown`.
+fn extended_name(function: extended::Function) -> &'static [u8]
+    ensures { result.now ≡ extended_name function }
 {
-    match number {
-        0x00 => b" (Get XMS Version Number)",
-        0x01 => b" (Request High Memory Area)",
-        0x02 => b" (Release High Memory Area)",
-        0x03 => b" (Global Enable A20)",
-        0x04 => b" (Global Disable A20)",
-        0x05 => b" (Local Enable A20)",
-        0x06 => b" (Local Disable A20)",
-        0x07 => b" (Query A20)",
-        0x08 => b" (Query Free Extended Memory)",
-        0x09 => b" (Allocate Extended Memory Block)",
-        0x0A => b" (Free Extended Memory Block)",
-        0x0B => b" (Move Extended Memory Block)",
-        0x0C => b" (Lock Extended Memory Block)",
-        0x0D => b" (Unlock Extended Memory Block)",
-        0x0E => b" (Get Handle Information)",
-        0x0F => b" (Reallocate Extended Memory Block)",
-        0x10 => b" (Request Upper Memory Block)",
-        0x11 => b" (Release Upper Memory Block)",
-        0x12 => b" (Reallocate Upper Memory Block)",
-        _ => b"",
+    match function {
+        extended::Function::Version => b" (Get XMS Version Number)",
+        extended::Function::TakeArea => b" (Request High Memory Area)",
+        extended::Function::ReleaseArea => b" (Release High Memory Area)",
+        extended::Function::EnableGlobally => b" (Global Enable A20)",
+        extended::Function::DisableGlobally => b" (Global Disable A20)",
+        extended::Function::EnableLocally => b" (Local Enable A20)",
+        extended::Function::DisableLocally => b" (Local Disable A20)",
+        extended::Function::Line => b" (Query A20)",
+        extended::Function::FreeSize => b" (Query Free Extended Memory)",
+        extended::Function::Allocate => b" (Allocate Extended Memory Block)",
+        extended::Function::Deallocate => b" (Free Extended Memory Block)",
+        extended::Function::MoveMemory => b" (Move Extended Memory Block)",
+        extended::Function::Lock => b" (Lock Extended Memory Block)",
+        extended::Function::Unlock => b" (Unlock Extended Memory Block)",
+        extended::Function::Information => b" (Get Handle Information)",
+        extended::Function::Reallocate => b" (Reallocate Extended Memory Block)",
+        extended::Function::RequestUpper => b" (Request Upper Memory Block)",
+        extended::Function::ReleaseUpper => b" (Release Upper Memory Block)",
+        extended::Function::ResizeUpper => b" (Reallocate Upper Memory Block)",
+        extended::Function::Unknown => b"",
     }
 }
 
@@ -127,12 +127,12 @@ pub fn put_call(out: &mut Vec<u8>, call: Call) -> Result<(), AllocError>
         }
         Call::ExpandedMemory(number) => {
             out.extend_from_slice(b"INT 67h function ")?;
-            put_function(out, number, expanded_name(number))
+            put_function(out, number, expanded_name(expanded::function_of(number)))
         }
         Call::Multiplex => out.extend_from_slice(b"INT 2Fh"),
         Call::ExtendedMemory(number) => {
             out.extend_from_slice(b"XMS function ")?;
-            put_function(out, number, extended_name(number))
+            put_function(out, number, extended_name(extended::function_of(number)))
         }
         Call::Interrupt(number) => {
             out.extend_from_slice(b"INT ")?;

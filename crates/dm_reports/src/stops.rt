@@ -2,7 +2,7 @@
 //! is a failed allocation.
 
 ghost use Rattle.std.specs.Prelude.{◌≡◌, ◌++◌, OnOk};
-ghost use Rattle.dm_reports.specs.Stops.{is_exit, reason_text, place_text, code_text, next_text, what_text, stopped_text, stopped_line};
+ghost use Rattle.dm_reports.specs.Stops.{is_exit, reason_text, place_text, code_bytes_text, next_text, what_text, stopped_text, stopped_line};
 
 use crate::names::put_call;
 use dm_cpu::Cpu;
@@ -52,7 +52,7 @@ fn put_place(out: &mut Vec<u8>, site: Site) -> Result<(), AllocError>
 
 /// Appends the two bytes at CS:IP.
 fn put_code(out: &mut Vec<u8>, cpu: &Cpu, space: &Space) -> Result<(), AllocError>
-    ensures { OnOk result (out.new.items ≡ out.old.items ++ code_text space.now.memory cpu.now) }
+    ensures { OnOk result (out.new.items ≡ out.old.items ++ code_bytes_text space.now.memory cpu.now) }
 {
     out.extend_from_slice(b": ")?;
     out.extend_from_slice(&byte_digits(space.peek(cpu.cs, cpu.ip)))?;

@@ -5,7 +5,7 @@ ghost use Rattle.std.specs.Prelude.{◌≡◌, ◌++◌, OnOk, codes, decimal};
 ghost use Rattle.dm_findings.specs.Findings.{is_error};
 ghost use Rattle.dm_text.specs.Texts.{text_of};
 ghost use Rattle.dm_views.specs.Digits.{two_digits, four_digits, address_text};
-ghost use Rattle.dm_reports.specs.Texts.{act_text, contents_text, counted, ending_text, finding_text, found_line, free_text, found_text, kept_text, kept_verb, kind_text, lock_text, map_text, origin_text, origin_verb, refusal_text, repeated_line, short_text, site_text, told_text};
+ghost use Rattle.dm_reports.specs.Texts.{act_text, contents_text, count_text, ending_text, finding_text, found_line, free_text, found_text, kept_text, kept_verb, kind_text, lock_text, map_text, origin_text, origin_verb, refusal_text, repeated_line, short_text, site_text, told_text};
 
 use crate::meanings::meaning_of;
 use crate::names::put_call;
@@ -86,7 +86,7 @@ fn ending_of(n: u64) -> &'static [u8]
 
 /// Appends a number of things in decimal, and what they are, by the word for one of them.
 pub(crate) fn put_counted(out: &mut Vec<u8>, n: u64, word: &[u8]) -> Result<(), AllocError>
-    ensures { OnOk result (out.new.items ≡ out.old.items ++ counted n word.now) }
+    ensures { OnOk result (out.new.items ≡ out.old.items ++ count_text n word.now) }
 {
     put_number(out, n)?;
     out.extend_from_slice(b" ")?;
@@ -149,7 +149,7 @@ fn put_handle_kept(
     saved: bool,
 ) -> Result<(), AllocError>
     ensures { OnOk result (out.new.items ≡ out.old.items
-        ++ (codes "EMS handle " ++ decimal handle ++ codes ": " ++ counted pages (codes "page") ++ codes " not freed" ++ map_text saved)) }
+        ++ (codes "EMS handle " ++ decimal handle ++ codes ": " ++ count_text pages (codes "page") ++ codes " not freed" ++ map_text saved)) }
 {
     put_count(out, b"EMS handle ", handle, b": ")?;
     put_counted(out, pages as u64, b"page")?;
@@ -248,7 +248,7 @@ fn put_other_freed(out: &mut Vec<u8>, at: u16, owner: u16) -> Result<(), AllocEr
 
 /// Appends that a block was not resized: to how many paragraphs.
 fn put_not_resized(out: &mut Vec<u8>, asked: u16) -> Result<(), AllocError>
-    ensures { OnOk result (out.new.items ≡ out.old.items ++ (codes "block not resized to " ++ counted asked (codes "paragraph"))) }
+    ensures { OnOk result (out.new.items ≡ out.old.items ++ (codes "block not resized to " ++ count_text asked (codes "paragraph"))) }
 {
     out.extend_from_slice(b"block not resized to ")?;
     put_counted(out, asked as u64, b"paragraph")

@@ -45,14 +45,14 @@ action_with letter bytes =
     else request.Malformed
 
 -- an action of `vCont`, without its thread
-abbrev pub action_of : List ℕ → Request
-action_of [] = request.Malformed
-action_of (letter ∷ bytes) = action_with letter bytes
+abbrev pub resumption_of : List ℕ → Request
+resumption_of [] = request.Malformed
+resumption_of (letter ∷ bytes) = action_with letter bytes
 
 -- the request of this name, without its `v`, and these bytes after a semicolon: of `vCont` the first action counts
 abbrev pub verb_with : List ℕ → List ℕ → Request
 verb_with name bytes =
-    if bytes_eq name (codes "Cont") then action_of (front_of 58 (front_of 59 bytes))
+    if bytes_eq name (codes "Cont") then resumption_of (front_of 58 (front_of 59 bytes))
     else if bytes_eq name (codes "Run") then request.Restart
     else if bytes_eq name (codes "Kill") then request.EndProgram
     else request.Unknown

@@ -11,8 +11,8 @@ use Rattle.dm_requests.specs.Arguments.{cut_at, two_numbers, after_prefix, point
 use Rattle.dm_requests.specs.Names.{if_read, named_query, named_verb, single}
 
 -- `m ADDRESS,COUNT`, without its `m`
-abbrev pub memory_of : List ℕ → Request
-memory_of bytes = if_read (two_numbers bytes) (λ numbers. request.Memory numbers.0 numbers.1)
+abbrev pub memory_request : List ℕ → Request
+memory_request bytes = if_read (two_numbers bytes) (λ numbers. request.Memory numbers.0 numbers.1)
 
 -- `M`, by its address, its count, and its bytes; None if they are no pairs of digits
 abbrev pub set_bytes : ℕ → ℕ → Option (List ℕ) → Request
@@ -68,7 +68,7 @@ query_of bytes =
 -- the request with this first byte, and these bytes after it
 abbrev pub lettered : ℕ → List ℕ → Request
 lettered b bytes =
-    if b == 109 then memory_of bytes
+    if b == 109 then memory_request bytes
     else if b == 77 then set_memory_of bytes
     else if b == 112 then register_of bytes
     else if b == 80 then set_register_of bytes

@@ -1,7 +1,7 @@
 //! Requests that are known by their names alone, or by a name and an action.
 
 ghost use Rattle.std.specs.Prelude.{◌≡◌};
-ghost use Rattle.dm_requests.specs.Names.{front_of, query_named, named_query, range_of, action_of, verb_with, named_verb, backwards, lone, single};
+ghost use Rattle.dm_requests.specs.Names.{front_of, query_named, named_query, range_of, resumption_of, verb_with, named_verb, backwards, lone, single};
 
 use crate::arguments::{cut_at, two_numbers};
 use crate::request::Request;
@@ -58,7 +58,7 @@ fn range(bytes: &[u8]) -> Request
 
 /// An action of `vCont`, without its thread.
 fn action(bytes: &[u8]) -> Request
-    ensures { result ≡ action_of bytes.now }
+    ensures { result ≡ resumption_of bytes.now }
 {
     match bytes {
         [b's' | b'S', ..] => Request::Step,

@@ -1,7 +1,7 @@
 //! Reading what a packet carries as a request.
 
 ghost use Rattle.std.specs.Prelude.{◌≡◌, IfOk};
-ghost use Rattle.dm_requests.specs.Requests.{set_bytes, memory_of, set_memory_of, register_of, set_register_with, set_register_of, set_registers_of, insertion, removal, feature_of, command_of, query_of, request_of};
+ghost use Rattle.dm_requests.specs.Requests.{set_bytes, memory_request, set_memory_of, register_of, set_register_with, set_register_of, set_registers_of, insertion, removal, feature_of, command_of, query_of, request_of};
 
 use crate::arguments::{after_prefix, cut_at, point_of, two_numbers, unhex};
 use crate::commands::read_number;
@@ -12,7 +12,7 @@ use std::alloc::{AllocError, Global};
 
 /// `m ADDRESS,COUNT`.
 fn memory(bytes: &[u8]) -> Request
-    ensures { result ≡ memory_of bytes.now }
+    ensures { result ≡ memory_request bytes.now }
 {
     match two_numbers(bytes) {
         Some((address, count)) => Request::Memory(address, count),

@@ -66,8 +66,8 @@ LoadingAs true s x = Overlaying s x
 LoadingAs false s x = Executing s x
 
 -- 4Bh from s returns x: by AL, a child is started or an overlay loaded, or the call fails
-abbrev pub Loading : State → Answer → Type 0
-Loading s x = LoadingAs (byte_of s.cpu Al == 3) s x
+abbrev pub LoadingProgram : State → Answer → Type 0
+LoadingProgram s x = LoadingAs (byte_of s.cpu Al == 3) s x
 
 -- the result of the end of a process with a code, which leaves processes qs, registers d and memory n: the parent goes
 -- on with them (Returned); or the machine stops with `Exited`, the step is counted and `exited` is the code; or it

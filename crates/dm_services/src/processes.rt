@@ -4,7 +4,7 @@ ghost use Rattle.std.specs.Prelude.{◌≡◌, ◌<◌};
 ghost use Rattle.dm_cpu.specs.Cpu.{byte_of};
 ghost use Rattle.dm_ins.specs.declared.operand.ByteRegister.TheVariants.{Al};
 ghost use Rattle.dm_services.specs.state.State.{HasProgram};
-ghost use Rattle.dm_services.specs.Processes.{concluded, not_loaded, Executing, Overlaying, Loading, Terminating, Keeping, tell_code};
+ghost use Rattle.dm_services.specs.Processes.{concluded, not_loaded, Executing, Overlaying, LoadingProgram, Terminating, Keeping, tell_code};
 
 use crate::allocation::answer;
 use crate::state::{Parts, Stop};
@@ -71,7 +71,7 @@ fn overlay(parts: &mut Parts)
 /// processes stay. Counts the step; never stops the machine.
 pub(crate) fn load_program(parts: &mut Parts)
     requires { HasProgram parts.old }
-    ensures loading { Loading parts.old (record { stop = None; state = parts.new }) }
+    ensures loading { LoadingProgram parts.old (record { stop = None; state = parts.new }) }
     ensures program { HasProgram parts.new }
 {
     if parts.cpu.byte(ByteRegister::Al) == 3 {

@@ -12,7 +12,7 @@ use Rattle.dm_region.proofs.Written.{twice}
 use Rattle.dm_pool.proofs.Blocks.{part_length, set_twice}
 use Rattle.dm_space.specs.declared.place.Place.{Place}
 use Rattle.dm_space.specs.declared.place.Place.TheVariants.{Low, Page, Rom, Nothing}
-use Rattle.dm_space.specs.Copies.{values, reads, writes, copied_in, copied_out}
+use Rattle.dm_space.specs.Copies.{values, bytes_read, bytes_written, copied_in, copied_out}
 use Rattle.dm_space.specs.Memory.{Memory, Held, Fits, IsHeld, IsThere, place, peek, poke, byte_at, shown, page_bytes, with_blocks, with_byte}
 use Rattle.dm_space.specs.Rom.{rom}
 use Rattle.dm_space.specs.inner.Runs.{shift, run_bytes, with_run}
@@ -111,7 +111,7 @@ low-fits m b n h t = let last = t (n - 1) (omega arith) in omega (arith, last, h
 pub page-fits : (m : Memory) (p k n : ℕ) → 0 < n → AreThere m (Page p k) n → k + n ≤ length (page_bytes m p)
 page-fits m p k n h t = let last = t (n - 1) (omega arith) in omega (arith, last.1, h)
 
-pub run-read : (m : Memory) (a : ℕ) (p : Place) (n : ℕ) → 0 < n → IsRun m a p n → AreThere m p n → reads m a n ≡ run_bytes m p n
+pub run-read : (m : Memory) (a : ℕ) (p : Place) (n : ℕ) → 0 < n → IsRun m a p n → AreThere m p n → bytes_read m a n ≡ run_bytes m p n
 run-read m a (Low b) n h r t = values-part (peek m) a n m.low b (low-fits m b n h t) (λ i low. run-peek m a (Low b) n i r low)
 run-read m a (Page p k) n h r t = values-part (peek m) a n (page_bytes m p) k (page-fits m p k n h t) (λ i low. run-peek m a (Page p k) n i r low)
 run-read m a (Rom k) n h r t = values-same (peek m) rom a n k (λ i low. run-peek m a (Rom k) n i r low)
@@ -150,7 +150,7 @@ run-more m t a p n w r i h =
     let e : suc a + i ≡ a + suc i = omega arith in
     place-windows m t (suc a + i) w ∙ ap (place m) e ∙ r (suc i) (omega arith) ∙ shift-more p i
 
-low-run : (vs : List ℕ) (m : Memory) (a b : ℕ) → IsRun m a (Low b) (length vs) → b + length vs ≤ length m.low → writes m a vs ≡ with_run m (Low b) (length vs) vs
+low-run : (vs : List ℕ) (m : Memory) (a b : ℕ) → IsRun m a (Low b) (length vs) → b + length vs ≤ length m.low → bytes_written m a vs ≡ with_run m (Low b) (length vs) vs
 low-run [] m a b r fits = ap (λ (l : List ℕ). record m { low = l }) (sym (none-written m.low b))
 low-run (v ∷ vs) m a b r fits =
     let t : Memory = record m { low = set m.low b v } in
@@ -158,7 +158,7 @@ low-run (v ∷ vs) m a b r fits =
     let next : b + 1 ≡ suc b = omega arith in
     let first : poke m a v ≡ t = poke-at m a v (Low b) (suc (length vs)) r (omega arith) ∙ ap (λ k. with_byte m (Low k) v) here in
     let run = subst (λ k. IsRun t (suc a) (Low k) (length vs)) next (run-more m t a (Low b) (length vs) refl r) in
-    ap (λ (x : Memory). writes x (suc a) vs) first
+    ap (λ (x : Memory). bytes_written x (suc a) vs) first
     ∙ low-run vs t (suc a) (suc b) run (omega (arith, length-set m.low b v, fits))
     ∙ ap (λ (l : List ℕ). record m { low = l }) (one-more m.low vs b v (omega (arith, fits)))
 
@@ -170,7 +170,7 @@ same-content (c ∷ cs) (suc p) = ap (λ l. c ∷ l) (same-content cs p)
 with_contents : Memory → List (List ℕ) → Memory
 with_contents m cs = with_blocks m (record m.blocks { contents = cs })
 
-page-run : (vs : List ℕ) (m : Memory) (a p k : ℕ) → IsRun m a (Page p k) (length vs) → p < length m.blocks.contents → k + length vs ≤ length (page_bytes m p) → writes m a vs ≡ with_run m (Page p k) (length vs) vs
+page-run : (vs : List ℕ) (m : Memory) (a p k : ℕ) → IsRun m a (Page p k) (length vs) → p < length m.blocks.contents → k + length vs ≤ length (page_bytes m p) → bytes_written m a vs ≡ with_run m (Page p k) (length vs) vs
 unfolding with_contents
 page-run [] m a p k r live fits = ap (with_contents m) (sym (ap (set m.blocks.contents p) (none-written (page_bytes m p) k) ∙ same-content m.blocks.contents p))
 page-run (v ∷ vs) m a p k r live fits =
@@ -182,25 +182,25 @@ page-run (v ∷ vs) m a p k r live fits =
     let page : page_bytes t p ≡ set xs k v = get_or-set_same cs p (set xs k v) [] live in
     let first : poke m a v ≡ t = poke-at m a v (Page p k) (suc (length vs)) r (omega arith) ∙ ap (λ j. with_byte m (Page p j) v) here in
     let run = subst (λ j. IsRun t (suc a) (Page p j) (length vs)) next (run-more m t a (Page p k) (length vs) refl r) in
-    ap (λ (x : Memory). writes x (suc a) vs) first
+    ap (λ (x : Memory). bytes_written x (suc a) vs) first
     ∙ page-run vs t (suc a) p (suc k) run (omega (arith, length-set cs p (set xs k v), live)) (omega (arith, ap length page, length-set xs k v, fits))
     ∙ ap (λ (ys : List ℕ). with_contents m (set (set cs p (set xs k v)) p (with_part ys (suc k) (length vs) vs))) page
     ∙ ap (with_contents m) (set_twice cs p (set xs k v) (with_part (set xs k v) (suc k) (length vs) vs))
     ∙ ap (λ (ys : List ℕ). with_contents m (set cs p ys)) (one-more xs vs k v (omega (arith, fits)))
 
-rom-run : (vs : List ℕ) (m : Memory) (a k : ℕ) → IsRun m a (Rom k) (length vs) → writes m a vs ≡ m
+rom-run : (vs : List ℕ) (m : Memory) (a k : ℕ) → IsRun m a (Rom k) (length vs) → bytes_written m a vs ≡ m
 rom-run [] m a k r = refl
 rom-run (v ∷ vs) m a k r =
-    ap (λ (x : Memory). writes x (suc a) vs) (poke-at m a v (Rom k) (suc (length vs)) r (omega arith))
+    ap (λ (x : Memory). bytes_written x (suc a) vs) (poke-at m a v (Rom k) (suc (length vs)) r (omega arith))
     ∙ rom-run vs m (suc a) (k + 1) (run-more m m a (Rom k) (length vs) refl r)
 
-nothing-run : (vs : List ℕ) (m : Memory) (a : ℕ) → IsRun m a Nothing (length vs) → writes m a vs ≡ m
+nothing-run : (vs : List ℕ) (m : Memory) (a : ℕ) → IsRun m a Nothing (length vs) → bytes_written m a vs ≡ m
 nothing-run [] m a r = refl
 nothing-run (v ∷ vs) m a r =
-    ap (λ (x : Memory). writes x (suc a) vs) (poke-at m a v Nothing (suc (length vs)) r (omega arith))
+    ap (λ (x : Memory). bytes_written x (suc a) vs) (poke-at m a v Nothing (suc (length vs)) r (omega arith))
     ∙ nothing-run vs m (suc a) (run-more m m a Nothing (length vs) refl r)
 
-pub run-written : (vs : List ℕ) (m : Memory) (a : ℕ) (p : Place) → 0 < length vs → IsRun m a p (length vs) → AreThere m p (length vs) → writes m a vs ≡ with_run m p (length vs) vs
+pub run-written : (vs : List ℕ) (m : Memory) (a : ℕ) (p : Place) → 0 < length vs → IsRun m a p (length vs) → AreThere m p (length vs) → bytes_written m a vs ≡ with_run m p (length vs) vs
 run-written vs m a (Low b) h r t = low-run vs m a b r (low-fits m b (length vs) h t)
 run-written vs m a (Page p k) h r t = (let fits = page-fits m p k (length vs) h t in page-run vs m a p k r (page-there m.blocks.contents p 0 (omega (arith, fits, h))) fits)
 run-written vs m a (Rom k) h r t = rom-run vs m a k r
@@ -231,9 +231,9 @@ rom-fits m k n h t = let last = t (n - 1) (omega arith) in omega (arith, last, h
 
 -- one copy after another
 
-writes-more : (xs ys : List ℕ) (m : Memory) (a : ℕ) → writes m a (xs ++ ys) ≡ writes (writes m a xs) (a + length xs) ys
-writes-more [] ys m a = let e : a ≡ a + 0 = omega arith in ap (λ b. writes m b ys) e
-writes-more (x ∷ xs) ys m a = let e : suc a + length xs ≡ a + suc (length xs) = omega arith in writes-more xs ys (poke m a x) (suc a) ∙ ap (λ b. writes (writes (poke m a x) (suc a) xs) b ys) e
+writes-more : (xs ys : List ℕ) (m : Memory) (a : ℕ) → bytes_written m a (xs ++ ys) ≡ bytes_written (bytes_written m a xs) (a + length xs) ys
+writes-more [] ys m a = let e : a ≡ a + 0 = omega arith in ap (λ b. bytes_written m b ys) e
+writes-more (x ∷ xs) ys m a = let e : suc a + length xs ≡ a + suc (length xs) = omega arith in writes-more xs ys (poke m a x) (suc a) ∙ ap (λ b. bytes_written (bytes_written (poke m a x) (suc a) xs) b ys) e
 
 pub in-none : (h : Held) (a at : ℕ) → h ≡ copied_in h a at 0
 in-none h a at = ap (λ (s : List ℕ). record h { scratch = s }) (sym (none-written h.scratch at))
@@ -241,7 +241,7 @@ in-none h a at = ap (λ (s : List ℕ). record h { scratch = s }) (sym (none-wri
 pub in-more : (h : Held) (a at n k : ℕ) → at + n + k ≤ length h.scratch → copied_in (copied_in h a at n) (a + n) (at + n) k ≡ copied_in h a at (n + k)
 in-more h a at n k fits =
     ap (λ (s : List ℕ). record h { scratch = s })
-    (twice h.scratch (reads h.memory a n) (reads h.memory (a + n) k) at n k (length-values (peek h.memory) a n) (length-values (peek h.memory) (a + n) k) fits
+    (twice h.scratch (bytes_read h.memory a n) (bytes_read h.memory (a + n) k) at n k (length-values (peek h.memory) a n) (length-values (peek h.memory) (a + n) k) fits
     ∙ ap (with_part h.scratch at (n + k)) (sym (values-more (peek h.memory) a n k)))
 
 pub out-none : (h : Held) (a at : ℕ) → h ≡ copied_out h at a 0
@@ -251,8 +251,8 @@ pub out-more : (h : Held) (a at n k : ℕ) → at + n ≤ length h.scratch → c
 out-more h a at n k fits =
     let e : a + n ≡ a + length (part h.scratch at n) = omega (arith, part_length h.scratch at n fits) in
     ap (λ (m : Memory). record h { memory = m })
-    (ap (λ b. writes (writes h.memory a (part h.scratch at n)) b (part h.scratch (at + n) k)) e
-    ∙ sym (ap (writes h.memory a) (part-more h.scratch at n k) ∙ writes-more (part h.scratch at n) (part h.scratch (at + n) k) h.memory a))
+    (ap (λ b. bytes_written (bytes_written h.memory a (part h.scratch at n)) b (part h.scratch (at + n) k)) e
+    ∙ sym (ap (bytes_written h.memory a) (part-more h.scratch at n k) ∙ writes-more (part h.scratch at n) (part h.scratch (at + n) k) h.memory a))
 
 -- one more value written behind others
 pub one-value : (f : ℕ → ℕ) (xs : List ℕ) (at a n : ℕ) → at + n < length xs → set (with_part xs at n (values f a n)) (at + n) (f (a + n)) ≡ with_part xs at (n + 1) (values f a (n + 1))

@@ -4,7 +4,7 @@ use Rattle.std.specs.Bool.{MatchBool}
 use Rattle.std.proofs.Common.{◌≡◌, ◌≢◌, ℕ, suc, zero, ◌+◌, ◌≤◌, Bool, true, false, List, [], ◌∷◌, Option, Some, None, ◌++◌, take, drop, length, get_or, set, refl, sym, ◌∙◌, ap, subst, arith}
 use Rattle.std.proofs.Math.Bool.{true≢false}
 use Rattle.std.proofs.lemmas.Option.{none-some, same_Some}
-use Rattle.std.proofs.lemmas.List.{get_or-set_other, length-take, length-take-le, take_all, drop_all, append-nil, append_assoc}
+use Rattle.std.proofs.lemmas.List.{get_or-set_other, length-set, length-take, length-take-le, take_all, drop_all, append-nil, append_assoc}
 use Rattle.std.specs.List.{length_refill}
 use Rattle.dm_region.specs.Parts.{part, with_part}
 use Rattle.dm_region.proofs.Bytes.{length-with_part}
@@ -13,7 +13,7 @@ use Rattle.dm_pool.specs.declared.extent.Extent.{Extent}
 use Rattle.dm_pool.specs.Gaps.{first_empty, lowest}
 use Rattle.dm_pool.specs.Blocks.{Blocks, placed, taken, without, with_block, with_content, at_base, moved_bytes, resized_from, new_base, resized, fitted, zeros}
 use Rattle.dm_pool.specs.Stored.{Stored, refit, zeros_of}
-use Rattle.dm_pool.proofs.Blocks.{vacant, part_length}
+use Rattle.dm_pool.proofs.Blocks.{vacant, part_length, refilled}
 use Rattle.dm_space.specs.Memory.{Memory, IsHeld, Fits, IsPage, page_bytes, with_blocks}
 use Rattle.dm_space.specs.inner.Memory.{held}
 use Rattle.dm_space.specs.Unseen.{shows}
@@ -157,3 +157,9 @@ byte_behind [] (suc n) zero = refl
 byte_behind [] (suc n) (suc at) = byte_behind [] n at
 byte_behind (x ∷ xs) n zero = refl
 byte_behind (x ∷ xs) n (suc at) = byte_behind xs n at
+
+-- a word written through the loan of a slice
+pub word_lent : (old now : List ℕ) (at a b : ℕ) → now ≡ old → refit old (set (set now at a) (at + 1) b) ≡ set (set old at a) (at + 1) b
+word_lent old now at a b e =
+    refilled (length old) old (set (set now at a) (at + 1) b) (length-set (set now at a) (at + 1) b ∙ length-set now at a ∙ ap length e)
+    ∙ ap (λ (xs : List ℕ). set (set xs at a) (at + 1) b) e

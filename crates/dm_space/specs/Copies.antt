@@ -11,21 +11,21 @@ values f a zero = []
 values f a (suc n) = f a ∷ values f (suc a) n
 
 -- the bytes that reads of the n linear addresses from a on return
-abbrev pub reads : Memory → ℕ → ℕ → List ℕ
-reads m a n = values (peek m) a n
+abbrev pub bytes_read : Memory → ℕ → ℕ → List ℕ
+bytes_read m a n = values (peek m) a n
 
 -- the memory after these bytes have been written to the linear addresses from a on, one after the other
-abbrev pub writes : Memory → ℕ → List ℕ → Memory
-writes m a [] = m
-writes m a (v ∷ vs) = writes (poke m a v) (suc a) vs
+abbrev pub bytes_written : Memory → ℕ → List ℕ → Memory
+bytes_written m a [] = m
+bytes_written m a (v ∷ vs) = bytes_written (poke m a v) (suc a) vs
 
 -- h after the n bytes from the linear address a on have been copied into the scratch bytes from `at` on (Space.copy_in)
 abbrev pub copied_in : Held → ℕ → ℕ → ℕ → Held
-copied_in h a at n = record h { scratch = with_part h.scratch at n (reads h.memory a n) }
+copied_in h a at n = record h { scratch = with_part h.scratch at n (bytes_read h.memory a n) }
 
 -- h after the n scratch bytes from `at` on have been written to the linear addresses from a on (Space.copy_out)
 abbrev pub copied_out : Held → ℕ → ℕ → ℕ → Held
-copied_out h at a n = record h { memory = writes h.memory a (part h.scratch at n) }
+copied_out h at a n = record h { memory = bytes_written h.memory a (part h.scratch at n) }
 
 -- h after the n bytes of a block from its byte `from` on have been copied into the scratch bytes from `at` on
 -- (Space.copy_block_in)

@@ -1,6 +1,8 @@
 -- What a write does, in terms of places: for layers that compare the places of addresses and see nothing of the map.
 -- Two addresses of one writable place are aliased.
-use Rattle.std.specs.Prelude.{◌≡◌, ℕ, length}
+use Rattle.std.specs.Prelude.{◌≡◌, ℕ, ◌+◌, ◌*◌, ◌<◌, length}
+use Rattle.dm_pool.specs.declared.extent.Extent.{Extent}
+use Rattle.dm_pool.specs.Blocks.{IsAt}
 use Rattle.dm_space.specs.declared.place.Place.{Place}
 use Rattle.dm_space.specs.declared.place.Place.TheVariants.{Low, Page, Rom, Nothing}
 use Rattle.dm_space.specs.Memory.{Memory, page_bytes}
@@ -22,3 +24,11 @@ pub record IsShaped (S T : Memory) : Type 0 where
   pub places : T.blocks.places ≡ S.blocks.places
   pub page_count : length T.blocks.contents ≡ length S.blocks.contents
   pub page_sizes : (page : ℕ) → length (page_bytes T page) ≡ length (page_bytes S page)
+
+-- the spot of a place, a number by which its byte is found at once: of RAM the address, of a page's bytes one above all
+-- addresses
+abbrev pub IsSpot : Memory → Place → ℕ → Type 0
+IsSpot m (Low a) spot = (a < 0x110000) × (spot ≡ a)
+IsSpot m (Page page k) spot = (b : Extent) × IsAt m.blocks page b × (k < b.units * 1024) × (spot ≡ 0x310000 + b.base * 1024 + k)
+IsSpot m (Rom k) spot = ⊥
+IsSpot m Nothing spot = ⊥

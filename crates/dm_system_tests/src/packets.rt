@@ -83,7 +83,7 @@ fn check_stream(rt: &impl Abort, alloc: Global, stream: &[u8], wanted: &str) -> 
 }
 
 /// Definitions: dm_requests packets.Streams Holds read_from
-/// Definitions: dm_requests packets.Reading after received lone_byte whole_packet
+/// Definitions: dm_requests packets.Reading after_byte received lone_byte whole_packet
 /// Definitions: dm_requests packets.Checks checksum_of is_checked
 /// Definitions: dm_requests packets.Escapes unescaped
 #[test]

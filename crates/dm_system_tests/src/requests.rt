@@ -200,7 +200,7 @@ fn check_payload(rt: &impl Abort, alloc: Global, payload: &[u8], wanted: &str) -
     Ok(())
 }
 
-/// Definitions: dm_requests Requests request_of memory_of set_memory_of register_of set_register_of set_registers_of insertion removal feature_of command_of
+/// Definitions: dm_requests Requests request_of memory_request set_memory_of register_of set_register_of set_registers_of insertion removal feature_of command_of
 /// Definitions: dm_requests Arguments cut_at two_numbers access_of point_of
 #[test]
 fn requests_have_arguments(rt: HostRuntime) -> Result<(), Fail> {
@@ -210,7 +210,7 @@ fn requests_have_arguments(rt: HostRuntime) -> Result<(), Fail> {
     Ok(())
 }
 
-/// Definitions: dm_requests Names named_query named_verb action_of range_of backwards lone single
+/// Definitions: dm_requests Names named_query named_verb resumption_of range_of backwards lone single
 #[test]
 fn requests_have_names(rt: HostRuntime) -> Result<(), Fail> {
     for (payload, wanted) in NAMED {

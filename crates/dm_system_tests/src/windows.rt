@@ -372,7 +372,7 @@ fn scratch_byte(space: &Space, at: usize) -> Option<u8> {
 }
 
 /// Definitions: dm_pool Parts HasPart part_bytes with_part_bytes part_copied
-/// Definitions: dm_space Copies reads writes values copied_in copied_out
+/// Definitions: dm_space Copies bytes_read bytes_written values copied_in copied_out
 #[test]
 fn bytes_are_copied_in_across_borders(rt: HostRuntime) -> Result<(), Fail> {
     let (mut space, _page) = bordered(rt.alloc())?;
@@ -433,7 +433,7 @@ fn bytes_are_copied_in_across_borders(rt: HostRuntime) -> Result<(), Fail> {
 }
 
 /// Definitions: dm_pool Parts HasPart part_bytes with_part_bytes part_copied
-/// Definitions: dm_space Copies reads writes values copied_in copied_out
+/// Definitions: dm_space Copies bytes_read bytes_written values copied_in copied_out
 #[test]
 fn bytes_are_copied_out_across_borders(rt: HostRuntime) -> Result<(), Fail> {
     // linear address to which 51h, 52h, 53h, 54h are copied; the segment and offset of four bytes, with A20 on; their
@@ -467,7 +467,7 @@ fn bytes_are_copied_out_across_borders(rt: HostRuntime) -> Result<(), Fail> {
     Ok(())
 }
 
-/// Definitions: dm_space Copies reads writes values copied_in copied_out
+/// Definitions: dm_space Copies bytes_read bytes_written values copied_in copied_out
 #[test]
 fn later_bytes_are_copied_over_earlier_ones(rt: HostRuntime) -> Result<(), Fail> {
     let (mut space, page) = bordered(rt.alloc())?;

@@ -5,7 +5,7 @@ use Rattle.dm_requests.specs.declared.request.Point.{Point}
 use Rattle.dm_services.specs.declared.state.stop.Stop.{Stop}
 use Rattle.dm_services.specs.declared.state.stop.Stop.TheVariants.{Steps as AllSteps, Memory as NoMemory}
 use Rattle.dm_services.specs.state.State.{State}
-use Rattle.dm_history.specs.Becomes.{Becomes, start}
+use Rattle.dm_history.specs.Becomes.{BecomesBy, start}
 use Rattle.dm_history.specs.Branches.{IsBranch, Reaches}
 use Rattle.dm_history.specs.Pasts.{Past, Was, GoesBack}
 use Rattle.dm_history.proofs.OneState.{one_state, rises}
@@ -17,7 +17,7 @@ use Rattle.dm_target.specs.declared.undoing.Undone.TheVariants as undone
 use Rattle.dm_target.specs.Going.{Passes, Continues, is_among, place_of}
 use Rattle.dm_target.specs.Going as going
 use Rattle.dm_target.specs.Watching.{unwatched}
-use Rattle.dm_target.specs.Returning.{Misses, Meets, IsClear, AreClear, Returns}
+use Rattle.dm_target.specs.Returning.{Misses, Meets, AreClear, Returns}
 use Rattle.dm_target.specs.Returning as returning
 use Rattle.dm_target.specs.inner.Surveying.{IsMet, ClearTo, MetAt, Seen, Stands, IsStand, IsLookedAt, IsSomeAfter, IsSurvey, WasMet, Shows, IsPart, IsLast, IsKnown, found_with}
 use Rattle.dm_target.specs.inner.Surveying as surveying
@@ -42,14 +42,14 @@ seen_before points watches o k j end last e l (surveying.last h i less since met
     let same : h ≡ k = cc in
     (omega (arith, since, same), omega (arith, less, l, same), subst (λ n. MetAt points watches o n) same met)
 
-met_before : (points : List ℕ) (watches : List Point) (o m : State) (k end : ℕ) (last : Option ℕ) → last ≡ Some k → o.steps ≤ m.steps → m.steps < end → Becomes o [] m → Stands points watches o m last → (o.steps ≤ k) × (k < end) × MetAt points watches o k
+met_before : (points : List ℕ) (watches : List Point) (o m : State) (k end : ℕ) (last : Option ℕ) → last ≡ Some k → o.steps ≤ m.steps → m.steps < end → BecomesBy o [] m → Stands points watches o m last → (o.steps ≤ k) × (k < end) × MetAt points watches o k
 met_before points watches o m k end last e up l b (surveying.here there) =
     let same : m.steps ≡ k = cc in
     (omega (arith, up, same), omega (arith, l, same), subst (λ j. MetAt points watches o j) same (record { at = m; becomes = b; steps = refl; met = surveying.stands there }))
 met_before points watches o m k end last e up l b (surveying.before same off seen) = seen_before points watches o k m.steps end last e (omega (arith, l)) seen
 
 -- a part that was left before its end
-pub left_survey : (points : List ℕ) (watches : List Point) (o m : State) (parts end : ℕ) (last : Option ℕ) → 0 < parts → IsSomeAfter parts last → o.steps ≤ m.steps → m.steps < end → Becomes o [] m → Stands points watches o m last →
+pub left_survey : (points : List ℕ) (watches : List Point) (o m : State) (parts end : ℕ) (last : Option ℕ) → 0 < parts → IsSomeAfter parts last → o.steps ≤ m.steps → m.steps < end → BecomesBy o [] m → Stands points watches o m last →
     IsSurvey points watches o end (found_with last false)
 left_survey points watches o m parts end None some there up l b stands = absurd (omega (arith, some, there))
 left_survey points watches o m parts end (Some k) some there up l b stands =
@@ -60,7 +60,7 @@ pub none_after : (last : Option ℕ) → IsSomeAfter 0 last
 none_after None = refl
 none_after (Some k) = tt
 
-pub left_at : (points : List ℕ) (watches : List Point) (o m : State) (parts end : ℕ) (last : Option ℕ) (result : Option Found) → result ≡ found_with last false → 0 < parts → end ≤ 2 ^ 64 - 1 → IsSomeAfter parts last → m.steps < end → Becomes o [] m →
+pub left_at : (points : List ℕ) (watches : List Point) (o m : State) (parts end : ℕ) (last : Option ℕ) (result : Option Found) → result ≡ found_with last false → 0 < parts → end ≤ 2 ^ 64 - 1 → IsSomeAfter parts last → m.steps < end → BecomesBy o [] m →
     Stands points watches o m last → IsSurvey points watches o end result
 left_at points watches o m parts end last result e some top there l b stands =
     subst (λ (x : Option Found). IsSurvey points watches o end x) (sym e)
@@ -76,7 +76,7 @@ pub some_after : (points : List ℕ) (watches : List Point) (o t : State) (end p
 some_after points watches o t end parts None h = absurd h
 some_after points watches o t end parts (Some k) h = tt
 
-pub becomes_after : (points : List ℕ) (watches : List Point) (o t : State) (end : ℕ) (found : Option ℕ) → IsLookedAt points watches o end t found false → Becomes o [] t
+pub becomes_after : (points : List ℕ) (watches : List Point) (o t : State) (end : ℕ) (found : Option ℕ) → IsLookedAt points watches o end t found false → BecomesBy o [] t
 becomes_after points watches o t end None h = absurd h
 becomes_after points watches o t end (Some k) h = h.1
 

@@ -15,7 +15,7 @@ use Rattle.dm_machine.specs.Step.{fetched}
 use Rattle.dm_machine.specs.Run.{IsRun, whole}
 use Rattle.dm_machine.proofs.OneRun.{same-begins, length-fetched}
 use Rattle.dm_machine.proofs.OneStop.{run-one}
-use Rattle.dm_history.specs.Becomes.{Becomes, stepped, Leads, on}
+use Rattle.dm_history.specs.Becomes.{BecomesBy, stepped, HasStepTo, on}
 use Rattle.dm_history.specs.Branches.{Reaches}
 use Rattle.dm_history.proofs.Leading.{leads-steps}
 use Rattle.dm_history.proofs.OneState.{one_state, rises}
@@ -70,15 +70,15 @@ one_hit watches s t a b (performed i k none x g) (performed j m there y h) =
 
 -- ---- steps on the way
 
-pub run_leads : (s t : State) → IsRun s 1 AllSteps t → Leads s t
+pub run_leads : (s t : State) → IsRun s 1 AllSteps t → HasStepTo s t
 run_leads s t a = on (one_of s t 1 (all-made s t 1 AllSteps refl a).goes refl)
 
 -- the states from m up to this count are no hits, but m may stand at a breakpoint
 abbrev pub Way : List ℕ → List Point → State → State → ℕ → Type 0
-Way points watches o m end = (s : State) → Becomes o [] s → m.steps ≤ s.steps → s.steps < end → (m.steps < s.steps → is_among points (place_of s) ≡ false) × Misses watches s
+Way points watches o m end = (s : State) → BecomesBy o [] s → m.steps ≤ s.steps → s.steps < end → (m.steps < s.steps → is_among points (place_of s) ≡ false) × Misses watches s
 
 -- the way to t, and the step from there
-way_more : (points : List ℕ) (watches : List Point) (o m t : State) (end : ℕ) → t.steps + 1 ≡ end → end ≤ 2 ^ 64 - 1 → Becomes o [] t → (m.steps < t.steps → is_among points (place_of t) ≡ false) → Misses watches t → Way points watches o m t.steps →
+way_more : (points : List ℕ) (watches : List Point) (o m t : State) (end : ℕ) → t.steps + 1 ≡ end → end ≤ 2 ^ 64 - 1 → BecomesBy o [] t → (m.steps < t.steps → is_among points (place_of t) ≡ false) → Misses watches t → Way points watches o m t.steps →
     Way points watches o m end
 way_more points watches o m t end e top b apart miss way = λ s c l r. elim (cases_lt s.steps t.steps) [
   | inl less ↦ way s c l less
@@ -104,16 +104,16 @@ among_of points s e = left_true (is_among points (place_of s)) e
 
 -- where steps that passed have led
 record Walked (points : List ℕ) (watches : List Point) (o m : State) (n : ℕ) (t : State) : Type 0 where
-  pub becomes : Becomes o [] t
+  pub becomes : BecomesBy o [] t
   pub steps : t.steps ≡ m.steps + n
   pub way : Way points watches o m t.steps
   pub apart : m.steps < t.steps → is_among points (place_of t) ≡ false
 
 -- one more step is counted
-counted_more : (s t : State) → Leads s t → s.steps < 2 ^ 64 - 1 → t.steps ≡ s.steps + 1
+counted_more : (s t : State) → HasStepTo s t → s.steps < 2 ^ 64 - 1 → t.steps ≡ s.steps + 1
 counted_more s t h l = let e = leads-steps s t h in omega (arith, e, l)
 
-walked : (points : List ℕ) (watches : List Point) (o m t : State) (n : ℕ) → Passes points watches None m n t → Becomes o [] m → m.steps + n ≤ 2 ^ 64 - 1 → Walked points watches o m n t
+walked : (points : List ℕ) (watches : List Point) (o m t : State) (n : ℕ) → Passes points watches None m n t → BecomesBy o [] m → m.steps + n ≤ 2 ^ 64 - 1 → Walked points watches o m n t
 walked points watches o m t n going.here b top = record {
   becomes = b;
   steps = omega arith;
@@ -134,10 +134,10 @@ walked points watches o m t n (going.further k v u p run hits off) b top =
 
 -- ---- what is known of hits on the way
 
-met_stands : (points : List ℕ) (watches : List Point) (o m : State) → Becomes o [] m → is_among points (place_of m) ≡ true → MetAt points watches o m.steps
+met_stands : (points : List ℕ) (watches : List Point) (o m : State) → BecomesBy o [] m → is_among points (place_of m) ≡ true → MetAt points watches o m.steps
 met_stands points watches o m b e = record { at = m; becomes = b; steps = refl; met = surveying.stands e }
 
-clear_on : (points : List ℕ) (watches : List Point) (o m : State) (end : ℕ) → Becomes o [] m → end ≤ 2 ^ 64 - 1 → is_among points (place_of m) ≡ false → Way points watches o m end → ClearTo points watches o m.steps end
+clear_on : (points : List ℕ) (watches : List Point) (o m : State) (end : ℕ) → BecomesBy o [] m → end ≤ 2 ^ 64 - 1 → is_among points (place_of m) ≡ false → Way points watches o m end → ClearTo points watches o m.steps end
 clear_on points watches o m end b top off way = λ s c l r. elim (cases_lt m.steps s.steps) [
   | inl after ↦ record { apart = (way s c l r).0 after; misses = (way s c l r).1 }
   | inr now ↦
@@ -155,7 +155,7 @@ seen_more : (points : List ℕ) (watches : List Point) (o : State) (last : Optio
 seen_more points watches o last k end l (surveying.none j a) b = surveying.none end (clear_join points watches o o.steps k end a b)
 seen_more points watches o last k end l (surveying.last h j less since met a) b = surveying.last h end (omega (arith, less, l)) since met (clear_join points watches o (h + 1) k end a b)
 
-way_seen : (points : List ℕ) (watches : List Point) (o m : State) (last : Option ℕ) (end : ℕ) → Becomes o [] m → m.steps < end → end ≤ 2 ^ 64 - 1 → Stands points watches o m last → Way points watches o m end → Seen points watches o last end
+way_seen : (points : List ℕ) (watches : List Point) (o m : State) (last : Option ℕ) (end : ℕ) → BecomesBy o [] m → m.steps < end → end ≤ 2 ^ 64 - 1 → Stands points watches o m last → Way points watches o m end → Seen points watches o last end
 way_seen points watches o m last end b l top (surveying.here e) way =
     surveying.last m.steps end l (rises o m [] b (omega (arith, l, top))) (met_stands points watches o m b e)
     (λ s c after r. record { apart = (way s c (omega (arith, after)) r).0 (omega (arith, after)); misses = (way s c (omega (arith, after)) r).1 })
@@ -165,12 +165,12 @@ way_seen points watches o m last end b l top (surveying.before same off seen) wa
 -- ---- a stop before the end
 
 -- a stop that is none of those to which the program comes
-no_stop : (o s t : State) (end : ℕ) (stop : Stop) → stop ≢ AllSteps → stop ≢ NoMemory → IsRun s 1 stop t → Becomes o [] s → end ≤ 2 ^ 64 - 1 → Reaches o end → s.steps + 1 < end → ⊥
+no_stop : (o s t : State) (end : ℕ) (stop : Stop) → stop ≢ AllSteps → stop ≢ NoMemory → IsRun s 1 stop t → BecomesBy o [] s → end ≤ 2 ^ 64 - 1 → Reaches o end → s.steps + 1 < end → ⊥
 no_stop o s t end stop p q run b top r l =
     let count = r.steps in
     let x = split o r.last [] 0 s.steps r.becomes (omega arith) (omega (arith, l, top)) (rises o s [] b (omega (arith, l, top))) (omega (arith, count, l)) (All-nil (λ e. e.step ≤ s.steps)) (All-nil (λ e. s.steps ≤ e.step)) in
     let same : x.at ≡ s = one_state o x.at s [] x.before b x.steps (omega (arith, l, top)) in
-    let after : Becomes s [] r.last = subst (λ (u : State). Becomes u [] r.last) same x.after in
+    let after : BecomesBy s [] r.last = subst (λ (u : State). BecomesBy u [] r.last) same x.after in
     let gone = all-goes s r.last [] after refl r.alive (omega (arith, count, top)) in
     let made = gone.steps in
     let all : IsRun s gone.made AllSteps r.last = whole gone.alive refl gone.goes in
@@ -193,7 +193,7 @@ way_cut points watches o m s t n end stop p q run w l top r =
       | inr now ↦ way_more points watches o m s end (omega (arith, count, now, l)) top w.becomes w.apart (misses_stop watches s t stop p q run) w.way
     ]
 
-pub stopped_seen : (points : List ℕ) (watches : List Point) (o m t : State) (last : Option ℕ) (end : ℕ) (stop : Stop) (pause : Pause) → pause ≡ Stopped stop → stop ≢ NoMemory → Becomes o [] m → m.steps < end → end ≤ 2 ^ 64 - 1 → Reaches o end →
+pub stopped_seen : (points : List ℕ) (watches : List Point) (o m t : State) (last : Option ℕ) (end : ℕ) (stop : Stop) (pause : Pause) → pause ≡ Stopped stop → stop ≢ NoMemory → BecomesBy o [] m → m.steps < end → end ≤ 2 ^ 64 - 1 → Reaches o end →
     Stands points watches o m last → Continues points watches None m (end - m.steps) pause t → Seen points watches o last end
 stopped_seen points watches o m t last end stop pause is q b l top r stands (going.plain why e f g h run) =
     way_seen points watches o m last end b l top stands (way_bare points watches o m end e f)
@@ -214,7 +214,7 @@ stopped_seen points watches o m t last end stop pause is q b l top r stands (goi
 -- ---- a hit
 
 -- t is where the steps have ended
-over_end : (points : List ℕ) (watches : List Point) (o t : State) (k : ℕ) (end : ℕ) (before found : Option ℕ) (full : Bool) → before ≡ Some k → t.steps ≤ end → Becomes o [] t → Seen points watches o before t.steps → IsStand points t end before found full →
+over_end : (points : List ℕ) (watches : List Point) (o t : State) (k : ℕ) (end : ℕ) (before found : Option ℕ) (full : Bool) → before ≡ Some k → t.steps ≤ end → BecomesBy o [] t → Seen points watches o before t.steps → IsStand points t end before found full →
     IsLookedAt points watches o end t found full
 over_end points watches o t k end before found full e l b seen (surveying.over r) = subst (λ j. Seen points watches o before j) (let same : t.steps ≡ end = omega (arith, l, r) in same) seen
 over_end points watches o t k end before found full e l b seen (surveying.here less there) = (less, b, surveying.here there)
@@ -222,13 +222,13 @@ over_end points watches o t k end before found full e l b seen (surveying.before
     subst (λ (x : Option ℕ). IsLookedAt points watches o end t x false) (sym e)
     (less, b, surveying.before (Some k) off (subst (λ (x : Option ℕ). Seen points watches o x t.steps) e seen))
 
-met_hits : (points : List ℕ) (watches : List Point) (o s t : State) (point : Point) → Becomes o [] s → IsRun s 1 AllSteps t → Hits watches s t (Some point) → MetAt points watches o s.steps
+met_hits : (points : List ℕ) (watches : List Point) (o s t : State) (point : Point) → BecomesBy o [] s → IsRun s 1 AllSteps t → Hits watches s t (Some point) → MetAt points watches o s.steps
 met_hits points watches o s t point b run h = record { at = s; becomes = b; steps = refl; met = surveying.hits point t run h }
 
 nothing_between : (points : List ℕ) (watches : List Point) (o : State) (from end : ℕ) → end ≤ from → ClearTo points watches o from end
 nothing_between points watches o from end l = λ s c after before. absurd (omega (arith, l, after, before))
 
-pub hit_seen : (points : List ℕ) (watches : List Point) (o m t : State) (point : Point) (step end : ℕ) (found : Option ℕ) (full : Bool) (pause : Pause) → pause ≡ Hit point → Becomes o [] m → m.steps < end → end ≤ 2 ^ 64 - 1 → step ≡ t.steps - 1 →
+pub hit_seen : (points : List ℕ) (watches : List Point) (o m t : State) (point : Point) (step end : ℕ) (found : Option ℕ) (full : Bool) (pause : Pause) → pause ≡ Hit point → BecomesBy o [] m → m.steps < end → end ≤ 2 ^ 64 - 1 → step ≡ t.steps - 1 →
     Continues points watches None m (end - m.steps) pause t → IsStand points t end (Some step) found full → IsLookedAt points watches o end t found full
 hit_seen points watches o m t point step end found full pause is b l top now (going.plain why e f g h run) s = (let no : Hit point ≡ Stopped why = sym is ∙ h in cc)
 hit_seen points watches o m t point step end found full pause is b l top now (going.arrived made v less h p run miss off) s = (let no : Hit point ≡ Arrived = sym is ∙ h in cc)
@@ -249,13 +249,13 @@ hit_seen points watches o m t point step end found full pause is b l top now (go
 
 -- ---- a breakpoint
 
-arrived_end : (points : List ℕ) (watches : List Point) (o t : State) (end : ℕ) (before found : Option ℕ) (full : Bool) → is_among points (place_of t) ≡ true → t.steps ≤ end → Becomes o [] t → Seen points watches o before t.steps →
+arrived_end : (points : List ℕ) (watches : List Point) (o t : State) (end : ℕ) (before found : Option ℕ) (full : Bool) → is_among points (place_of t) ≡ true → t.steps ≤ end → BecomesBy o [] t → Seen points watches o before t.steps →
     IsStand points t end before found full → IsLookedAt points watches o end t found full
 arrived_end points watches o t end before found full there l b seen (surveying.over r) = subst (λ j. Seen points watches o before j) (let same : t.steps ≡ end = omega (arith, l, r) in same) seen
 arrived_end points watches o t end before found full there l b seen (surveying.here less e) = (less, b, surveying.here e)
 arrived_end points watches o t end before found full there l b seen (surveying.before less off) = (let no : true ≡ false = sym there ∙ off in cc)
 
-pub arrived_seen : (points : List ℕ) (watches : List Point) (o m t : State) (last : Option ℕ) (end : ℕ) (found : Option ℕ) (full : Bool) (pause : Pause) → pause ≡ Arrived → Becomes o [] m → m.steps < end → end ≤ 2 ^ 64 - 1 →
+pub arrived_seen : (points : List ℕ) (watches : List Point) (o m t : State) (last : Option ℕ) (end : ℕ) (found : Option ℕ) (full : Bool) (pause : Pause) → pause ≡ Arrived → BecomesBy o [] m → m.steps < end → end ≤ 2 ^ 64 - 1 →
     Stands points watches o m last → Continues points watches None m (end - m.steps) pause t → IsStand points t end last found full → IsLookedAt points watches o end t found full
 arrived_seen points watches o m t last end found full pause is b l top stands (going.plain why e f g h run) s = (let no : Arrived ≡ Stopped why = sym is ∙ h in cc)
 arrived_seen points watches o m t last end found full pause is b l top stands (going.arrived made v less h p run miss arr) s =

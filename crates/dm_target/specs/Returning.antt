@@ -22,13 +22,13 @@ pub data Meets (points : List ℕ) (watches : List Point) (s : State) : Undone �
   stands : is_among points (place_of s) ≡ true → Misses watches s → Meets points watches s Back
 
 -- s is no hit
-pub record IsClear (points : List ℕ) (watches : List Point) (s : State) : Type 0 where
+pub record IsNoHit (points : List ℕ) (watches : List Point) (s : State) : Type 0 where
   pub apart : is_among points (place_of s) ≡ false
   pub misses : Misses watches s
 
 -- from one step of the history p up to another, that one left out, no state is a hit
 abbrev pub AreClear : List ℕ → List Point → Past → ℕ → ℕ → Type 0
-AreClear points watches p from end = (k : ℕ) (s : State) → from ≤ k → k < end → Was p k s → IsClear points watches s
+AreClear points watches p from end = (k : ℕ) (s : State) → from ≤ k → k < end → Was p k s → IsNoHit points watches s
 
 -- the history p goes back to the last hit before its present state, and becomes q; and what is told of it. Where there is
 -- none, it goes back to its origin (`to_start`); where it stands there already, it stays (`begun`)

@@ -9,10 +9,10 @@ use Rattle.dm_target.specs.Memory.{linear_of, segment_below}
 
 -- the number that the bytes of a register spell, the lowest first: four bytes for the registers 0 to 13, two for 32 and 33.
 -- None for other bytes, and for other registers, which cannot be set
-abbrev pub value_of : ℕ → List ℕ → Option ℕ
-value_of n (a ∷ b ∷ c ∷ d ∷ []) = if nat_lt n 14 then Some (a + 256 * b + (65536 * c + 16777216 * d)) else None
-value_of n (a ∷ b ∷ []) = if n == 32 || n == 33 then Some (a + 256 * b) else None
-value_of n _ = None
+abbrev pub register_value : ℕ → List ℕ → Option ℕ
+register_value n (a ∷ b ∷ c ∷ d ∷ []) = if nat_lt n 14 then Some (a + 256 * b + (65536 * c + 16777216 * d)) else None
+register_value n (a ∷ b ∷ []) = if n == 32 || n == 33 then Some (a + 256 * b) else None
+register_value n _ = None
 
 -- whether a register can have this value: ESP and EIP are linear addresses, up to FFFF:FFFF
 abbrev pub is_reached : ℕ → ℕ → Bool
@@ -66,4 +66,4 @@ with_value_if m c n (Some v) = if is_reached n v then Some (with_value m c n v) 
 
 -- the registers with one set to bytes; None if it cannot be set to them
 abbrev pub registers_with : Memory → Cpu → ℕ → List ℕ → Option Cpu
-registers_with m c n bytes = with_value_if m c n (value_of n bytes)
+registers_with m c n bytes = with_value_if m c n (register_value n bytes)

@@ -2,7 +2,7 @@
 
 ghost use Rattle.std.specs.Prelude.{◌≡◌, ◌<◌, ◌≤◌, ℕ, false, List, [], IfOk, OnOk, OnErr};
 ghost use Rattle.dm_services.specs.state.State.{State};
-ghost use Rattle.dm_history.specs.Becomes.{Becomes};
+ghost use Rattle.dm_history.specs.Becomes.{BecomesBy};
 ghost use Rattle.dm_history.specs.Branches.{Reaches};
 ghost use Rattle.dm_history.specs.Pasts.{GoesBack, Was};
 ghost use Rattle.dm_target.specs.Returning.{Meets, Returns};
@@ -61,7 +61,7 @@ fn look_further(
 ) -> Result<(Option<u64>, bool), AllocError>
     requires { branch.old.machine.steps < end }
     ensures more { IfOk result (λ r. r.1 ≡ false → branch.new.machine.steps < end) }
-    ensures looked { IfOk result (λ r. (o : State) → Becomes o [] branch.old.machine → Reaches o end → Stands points.now watches.now o branch.old.machine last → IsLookedAt points.now watches.now o end branch.new.machine r.0 r.1) }
+    ensures looked { IfOk result (λ r. (o : State) → BecomesBy o [] branch.old.machine → Reaches o end → Stands points.now watches.now o branch.old.machine last → IsLookedAt points.now watches.now o end branch.new.machine r.0 r.1) }
 {
     let at = branch.machine().steps();
     match go_on(alloc, branch, end - at, None, points, watches) {

@@ -1,7 +1,7 @@
 //! Setting registers by their numbers.
 
 ghost use Rattle.std.specs.Prelude.{◌≡◌, ◌≤◌, true};
-ghost use Rattle.dm_target.specs.Settings.{value_of, is_reached, reaches, place_for, with_value, registers_with};
+ghost use Rattle.dm_target.specs.Settings.{register_value, is_reached, reaches, place_for, with_value, registers_with};
 
 use crate::memory::{LAST, linear_of, segment_below};
 use dm_alu::Flags;
@@ -10,7 +10,7 @@ use dm_space::Space;
 
 /// The number that the bytes of a register spell; None for other bytes, and for registers that cannot be set.
 fn value_of(number: u32, bytes: &[u8]) -> Option<u32>
-    ensures { result ≡ value_of number bytes.now }
+    ensures { result ≡ register_value number bytes.now }
 {
     match bytes {
         [a, b, c, d] => {

@@ -17,18 +17,18 @@ abbrev pub digit : ℕ → ℕ
 digit d = if nat_lt d 10 then 48 + d else 55 + d
 
 -- a byte as a number in text: 0, two hexadecimal digits, h
-unfoldable pub byte_digits : ℕ → List ℕ
-byte_digits n = 48 ∷ digit (n / 16) ∷ digit (n % 16) ∷ 104 ∷ []
+unfoldable pub byte_in_text : ℕ → List ℕ
+byte_in_text n = 48 ∷ digit (n / 16) ∷ digit (n % 16) ∷ 104 ∷ []
 
 -- a word as a number in text: 0, four hexadecimal digits, h
-unfoldable pub word_digits : ℕ → List ℕ
-word_digits n = 48 ∷ digit (n / 4096) ∷ digit (n / 256 % 16) ∷ digit (n / 16 % 16) ∷ digit (n % 16) ∷ 104 ∷ []
+unfoldable pub word_in_text : ℕ → List ℕ
+word_in_text n = 48 ∷ digit (n / 4096) ∷ digit (n / 256 % 16) ∷ digit (n / 16 % 16) ∷ digit (n % 16) ∷ 104 ∷ []
 
 -- the bytes of a piece, in ASCII
 abbrev pub piece_bytes : Piece → List ℕ
 piece_bytes (name w) = w
-piece_bytes (byte n) = byte_digits n
-piece_bytes (word n) = word_digits n
+piece_bytes (byte n) = byte_in_text n
+piece_bytes (word n) = word_in_text n
 piece_bytes (sign b) = b ∷ []
 
 -- the bytes of pieces, one after the other

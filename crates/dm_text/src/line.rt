@@ -2,7 +2,7 @@
 //! at the end (Intel 8086 Family User's Manual, section 2.9, constants of ASM-86).
 
 ghost use Rattle.std.specs.Prelude.{◌≡◌, ◌+◌, ◌<◌, ◌≤◌, ◌++◌, List, ℕ, [], length};
-ghost use Rattle.dm_text.specs.Pieces.{digit, byte_digits, word_digits};
+ghost use Rattle.dm_text.specs.Pieces.{digit, byte_in_text, word_in_text};
 
 use arrayvec::ArrayVec;
 use std::marker::Model;
@@ -57,17 +57,17 @@ impl Line {
     /// Appends a byte as a number: 0, two digits, h.
     pub(crate) fn put_byte(&mut self, n: u8)
         requires { length self.old + 4 ≤ 64 }
-        ensures items { self.new ≡ self.old ++ byte_digits n }
+        ensures items { self.new ≡ self.old ++ byte_in_text n }
         ensures len { length self.new ≡ length self.old + 4 }
     {
         self.put(&byte_number(n));
     }
 
     /// Appends a word as a number: 0, four digits, h.
-    #[tactic(auto, unfolding(crate::specs::Pieces::word_digits))]
+    #[tactic(auto, unfolding(crate::specs::Pieces::word_in_text))]
     pub(crate) fn put_word(&mut self, n: u16)
         requires { length self.old + 6 ≤ 64 }
-        ensures items { self.new ≡ self.old ++ word_digits n }
+        ensures items { self.new ≡ self.old ++ word_in_text n }
         ensures len { length self.new ≡ length self.old + 6 }
     {
         self.put(&[
@@ -82,9 +82,9 @@ impl Line {
 }
 
 /// A byte as a number in text: 0, two hexadecimal digits, h.
-#[tactic(auto, unfolding(crate::specs::Pieces::byte_digits))]
+#[tactic(auto, unfolding(crate::specs::Pieces::byte_in_text))]
 pub fn byte_number(n: u8) -> [u8; 4]
-    ensures { result ≡ byte_digits n }
+    ensures { result ≡ byte_in_text n }
 {
     let n = n as u16;
     [b'0', digit_of(n / 16), digit_of(n % 16), b'h']

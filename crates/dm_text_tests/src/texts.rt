@@ -245,7 +245,7 @@ const ALL: [&str; 9] = [
     PROGRAM, REGISTERS, ADDRESSES, SIZES, NUMBERS, TARGETS, PREFIXES, EXCHANGES, ALONE,
 ];
 
-/// Definitions: dm_text Texts text_of pieces; dm_lines Statements line_of statement_of item_of
+/// Definitions: dm_text Texts text_of pieces; dm_lines Statements line_statement statement_of item_of
 #[test]
 fn lines_of_a_program(rt: HostRuntime) -> Result<(), Fail> {
     check(&rt, PROGRAM)
@@ -271,7 +271,7 @@ fn sizes_stand_where_no_register_gives_them(rt: HostRuntime) -> Result<(), Fail>
 }
 
 /// Definitions: dm_text Texts operands_pieces second_pieces behind operand_pieces
-/// Definitions: dm_text Pieces Piece text_bytes byte_digits word_digits digit
+/// Definitions: dm_text Pieces Piece text_bytes byte_in_text word_in_text digit
 #[test]
 fn numbers_have_two_or_four_digits(rt: HostRuntime) -> Result<(), Fail> {
     check(&rt, NUMBERS)

@@ -11,8 +11,8 @@ use Rattle.dm_cpu.specs.Guest.{up}
 use Rattle.dm_touches.specs.declared.elements.FarAddress.{FarAddress}
 use Rattle.dm_touches.specs.declared.elements.Element.{Element}
 use Rattle.dm_touches.specs.declared.elements.Element.TheVariants as element
-use Rattle.dm_touches.specs.Elements.{far, linear_of, place_of, bytes_in, bytes_if, bytes_of, one, two, nothing}
-use Rattle.dm_touches.specs.Laws.{Keeps}
+use Rattle.dm_touches.specs.Elements.{far, linear_of, byte_place, bytes_in, bytes_if, bytes_of, one_element, two_elements, nothing}
+use Rattle.dm_touches.specs.Laws.{KeepsOthers}
 
 -- ---- one byte
 
@@ -47,14 +47,14 @@ poke_kept m a v q ne = kept_with m (place m a) q v ne
 
 -- ---- lists of bytes
 
-same_place : (m n : Memory) → IsShaped m n → (f : FarAddress) → place_of n f ≡ place_of m f
+same_place : (m n : Memory) → IsShaped m n → (f : FarAddress) → byte_place n f ≡ byte_place m f
 same_place m n s f = place-shaped m n s (linear_of n.a20 f) ∙ ap (λ (b : Bool). place m (linear_of b f)) s.a20
 
-pub keeps_all : (m : Memory) → Keeps m m []
+pub keeps_all : (m : Memory) → KeepsOthers m m []
 keeps_all m = record { shape = shaped-same m; kept = λ q h. refl }
 
-pub keeps_as : (m n : Memory) (fs gs : List FarAddress) → fs ≡ gs → Keeps m n fs → Keeps m n gs
-keeps_as m n fs gs e k = subst (λ (l : List FarAddress). Keeps m n l) e k
+pub keeps_as : (m n : Memory) (fs gs : List FarAddress) → fs ≡ gs → KeepsOthers m n fs → KeepsOthers m n gs
+keeps_as m n fs gs e k = subst (λ (l : List FarAddress). KeepsOthers m n l) e k
 
 front_of : (P : FarAddress → Type 0) (xs ys : List FarAddress) → All P (xs ++ ys) → All P xs
 front_of P [] ys a = All-nil P
@@ -64,42 +64,42 @@ back_of : (P : FarAddress → Type 0) (xs ys : List FarAddress) → All P (xs ++
 back_of P [] ys a = a
 back_of P (x ∷ xs) ys a = back_of P xs ys (All-tail P x (xs ++ ys) a)
 
-moved : (m n : Memory) → IsShaped m n → (q : Place) (fs : List FarAddress) → All (λ (f : FarAddress). place_of m f ≢ q) fs → All (λ (f : FarAddress). place_of n f ≢ q) fs
-moved m n s q [] a = All-nil (λ (f : FarAddress). place_of n f ≢ q)
+moved : (m n : Memory) → IsShaped m n → (q : Place) (fs : List FarAddress) → All (λ (f : FarAddress). byte_place m f ≢ q) fs → All (λ (f : FarAddress). byte_place n f ≢ q) fs
+moved m n s q [] a = All-nil (λ (f : FarAddress). byte_place n f ≢ q)
 moved m n s q (f ∷ fs) a =
-    let P : FarAddress → Type 0 = λ g. place_of m g ≢ q in
-    All-cons (λ (g : FarAddress). place_of n g ≢ q) f fs (λ e. All-head P f fs a (sym (same_place m n s f) ∙ e)) (moved m n s q fs (All-tail P f fs a))
+    let P : FarAddress → Type 0 = λ g. byte_place m g ≢ q in
+    All-cons (λ (g : FarAddress). byte_place n g ≢ q) f fs (λ e. All-head P f fs a (sym (same_place m n s f) ∙ e)) (moved m n s q fs (All-tail P f fs a))
 
-pub keeps_then : (m n o : Memory) (xs ys : List FarAddress) → Keeps m n xs → Keeps n o ys → Keeps m o (xs ++ ys)
+pub keeps_then : (m n o : Memory) (xs ys : List FarAddress) → KeepsOthers m n xs → KeepsOthers n o ys → KeepsOthers m o (xs ++ ys)
 keeps_then m n o xs ys k l = record {
   shape = shaped-then m n o k.shape l.shape;
-  kept = λ q a. (let P : FarAddress → Type 0 = λ f. place_of m f ≢ q in
+  kept = λ q a. (let P : FarAddress → Type 0 = λ f. byte_place m f ≢ q in
       l.kept q (moved m n k.shape q ys (back_of P xs ys a)) ∙ k.kept q (front_of P xs ys a));
 }
 
 -- ---- elements
 
-byte_keeps : (m : Memory) (a v : ℕ) (f : FarAddress) → a ≡ linear_of m.a20 f → Keeps m (poke m a v) (f ∷ [])
+byte_keeps : (m : Memory) (a v : ℕ) (f : FarAddress) → a ≡ linear_of m.a20 f → KeepsOthers m (poke m a v) (f ∷ [])
 byte_keeps m a v f e = record {
   shape = poke-shaped m a v;
-  kept = λ q h. (let P : FarAddress → Type 0 = λ g. place_of m g ≢ q in
+  kept = λ q h. (let P : FarAddress → Type 0 = λ g. byte_place m g ≢ q in
       poke_kept m a v q (λ same. All-head P f [] h (ap (place m) (sym e) ∙ sym same)));
 }
 
-pub keeps_byte : (m : Memory) (s o v : ℕ) → Keeps m (poke m (linear m.a20 s o) v) (bytes_in (element.Byte s o))
+pub keeps_byte : (m : Memory) (s o v : ℕ) → KeepsOthers m (poke m (linear m.a20 s o) v) (bytes_in (element.Byte s o))
 keeps_byte m s o v = byte_keeps m (linear m.a20 s o) v (far s o) refl
 
-pub keeps_word : (m : Memory) (s o v : ℕ) → Keeps m (poke16 m s o v) (bytes_in (element.Word s o))
+pub keeps_word : (m : Memory) (s o v : ℕ) → KeepsOthers m (poke16 m s o v) (bytes_in (element.Word s o))
 keeps_word m s o v =
     let n : Memory = poke m (linear m.a20 s o) (v % 256) in
-    let low : Keeps m n (far s o ∷ []) = byte_keeps m (linear m.a20 s o) (v % 256) (far s o) refl in
+    let low : KeepsOthers m n (far s o ∷ []) = byte_keeps m (linear m.a20 s o) (v % 256) (far s o) refl in
     let same : linear m.a20 s (up o 1) ≡ linear n.a20 s (up o 1) = ap (λ (b : Bool). linear b s (up o 1)) (sym low.shape.a20) in
     keeps_then m n _ (far s o ∷ []) (far s (up o 1) ∷ []) low (byte_keeps n (linear m.a20 s (up o 1)) (v / 256) (far s (up o 1)) same)
 
 -- one element that may be missing
-pub keeps_one : (m n : Memory) (e : Option Element) → Keeps m n (bytes_if e) → Keeps m n (bytes_of (one e))
+pub keeps_one : (m n : Memory) (e : Option Element) → KeepsOthers m n (bytes_if e) → KeepsOthers m n (bytes_of (one_element e))
 keeps_one m n e k = keeps_as m n _ _ (sym (append-nil (bytes_if e ++ []) ∙ append-nil (bytes_if e))) k
 
 -- two elements that may be missing
-pub keeps_two : (m n : Memory) (a b : Option Element) → Keeps m n (bytes_if a ++ bytes_if b) → Keeps m n (bytes_of (two a b))
+pub keeps_two : (m n : Memory) (a b : Option Element) → KeepsOthers m n (bytes_if a ++ bytes_if b) → KeepsOthers m n (bytes_of (two_elements a b))
 keeps_two m n a b k = keeps_as m n _ _ (sym (append-nil (bytes_if a ++ bytes_if b))) k

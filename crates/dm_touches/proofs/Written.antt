@@ -29,32 +29,32 @@ use Rattle.dm_touches.specs.declared.elements.Elements.{Elements}
 use Rattle.dm_touches.specs.Elements.{bytes_of, nothing}
 use Rattle.dm_touches.specs.Access.{access_of}
 use Rattle.dm_touches.specs.Touches.{pushed, pushed_second, pushed_by_interrupt, destination, does_work, writes_dividing, writes_of_string, writes_by, writes}
-use Rattle.dm_touches.specs.Laws.{Keeps, WritesAreListed}
+use Rattle.dm_touches.specs.Laws.{KeepsOthers, WritesAreListed}
 use Rattle.dm_touches.proofs.Places.{keeps_all, keeps_one, keeps_two}
 use Rattle.dm_touches.proofs.Operands.{Addresses, keeps_operand, keeps_operands, keeps_push, keeps_pushes, keeps_interrupt, keeps_written}
 
 -- ---- choices
 
-choice_keeps : (m : Memory) (b : Bool) (g h : Guest) (fs : List FarAddress) → Keeps m g.memory fs → Keeps m h.memory fs → Keeps m (cond b g h).memory fs
+choice_keeps : (m : Memory) (b : Bool) (g h : Guest) (fs : List FarAddress) → KeepsOthers m g.memory fs → KeepsOthers m h.memory fs → KeepsOthers m (cond b g h).memory fs
 choice_keeps m true g h fs p q = p
 choice_keeps m false g h fs p q = q
 
-jump_keeps : (taken : Bool) (g : Guest) (override : Option SegmentRegister) (a : Operand) → Keeps g.memory (jumped_where taken g override a).memory []
+jump_keeps : (taken : Bool) (g : Guest) (override : Option SegmentRegister) (a : Operand) → KeepsOthers g.memory (jumped_where taken g override a).memory []
 unfolding jumped_where jumped
 jump_keeps taken g override a = choice_keeps g.memory taken _ g [] (keeps_all g.memory) (keeps_all g.memory)
 
-into_keeps : (b : Bool) (g : Guest) → Keeps g.memory (if b then interrupt g 4 else g).memory (bytes_of (if b then pushed_by_interrupt g.cpu else nothing))
+into_keeps : (b : Bool) (g : Guest) → KeepsOthers g.memory (if b then interrupt g 4 else g).memory (bytes_of (if b then pushed_by_interrupt g.cpu else nothing))
 into_keeps true g = keeps_interrupt g 4
 into_keeps false g = keeps_all g.memory
 
-division_keeps : (w : Width) (g : Guest) (o : Option Division) → Keeps g.memory (after_division w g o).memory (bytes_of (writes_dividing g.cpu o))
+division_keeps : (w : Width) (g : Guest) (o : Option Division) → KeepsOthers g.memory (after_division w g o).memory (bytes_of (writes_dividing g.cpu o))
 unfolding after_division
 division_keeps w g None = keeps_interrupt g 0
 division_keeps w g (Some d) = keeps_all g.memory
 
 -- ---- strings
 
-once_keeps : (w : Width) (g : Guest) (override : Option SegmentRegister) (operation : StringOperation) → Keeps g.memory (once w g override operation).memory (bytes_of (writes_of_string w g.cpu operation))
+once_keeps : (w : Width) (g : Guest) (override : Option SegmentRegister) (operation : StringOperation) → KeepsOthers g.memory (once w g override operation).memory (bytes_of (writes_of_string w g.cpu operation))
 unfolding once
 once_keeps w g override string.Move = keeps_one g.memory _ (destination w g.cpu) (keeps_written w g.memory g.cpu.es g.cpu.di _)
 once_keeps w g override string.Compare = keeps_all g.memory
@@ -62,18 +62,18 @@ once_keeps w g override string.Store = keeps_one g.memory _ (destination w g.cpu
 once_keeps w g override string.Load = keeps_all g.memory
 once_keeps w g override string.Scan = keeps_all g.memory
 
-unless_keeps : (b : Bool) (g h : Guest) (e : Elements) → Keeps g.memory h.memory (bytes_of e) → Keeps g.memory (if b then g else h).memory (bytes_of (if not b then e else nothing))
+unless_keeps : (b : Bool) (g h : Guest) (e : Elements) → KeepsOthers g.memory h.memory (bytes_of e) → KeepsOthers g.memory (if b then g else h).memory (bytes_of (if not b then e else nothing))
 unless_keeps true g h e k = keeps_all g.memory
 unless_keeps false g h e k = k
 
-string_keeps : (w : Width) (g : Guest) (override : Option SegmentRegister) (o : Option Repeat) (operation : StringOperation) (start : ℕ) → Keeps g.memory (string_effect w g override o operation start).memory (bytes_of (if does_work g.cpu o then writes_of_string w g.cpu operation else nothing))
+string_keeps : (w : Width) (g : Guest) (override : Option SegmentRegister) (o : Option Repeat) (operation : StringOperation) (start : ℕ) → KeepsOthers g.memory (string_effect w g override o operation start).memory (bytes_of (if does_work g.cpu o then writes_of_string w g.cpu operation else nothing))
 unfolding string_effect
 string_keeps w g override None operation start = once_keeps w g override operation
 string_keeps w g override (Some repeat) operation start = unless_keeps (g.cpu.cx == 0) g _ _ (once_keeps w g override operation)
 
 -- ---- each instruction
 
-act_keeps : (g : Guest) (p : Prefixes) (start : ℕ) (m : Mnemonic) (a b : Operand) → Keeps g.memory (act g p start (operation_of m) a b).memory (bytes_of (writes_by g p (access_of m) a b))
+act_keeps : (g : Guest) (p : Prefixes) (start : ℕ) (m : Mnemonic) (a b : Operand) → KeepsOthers g.memory (act g p start (operation_of m) a b).memory (bytes_of (writes_by g p (access_of m) a b))
 unfolding operation_of access_of writes_by move_effect moved exchanged pointer_loaded input stack_effect popped_into flags_popped arithmetic sum_into difference_into compared logic_into tested incremented decremented negated complemented shifted multiplied divided jumped_if looped transferred jumped far_jumped called far_called returned far_returned interrupt_effect interrupt_return push
 act_keeps g p start op.Push a b = keeps_push g _
 act_keeps g p start op.Pushf a b = keeps_push g _

@@ -18,8 +18,8 @@ abbrev pub linear_of : Bool → FarAddress → ℕ
 linear_of a20 f = linear a20 f.segment f.offset
 
 -- the place of a byte in memory
-abbrev pub place_of : Memory → FarAddress → Place
-place_of m f = place m (linear_of m.a20 f)
+abbrev pub byte_place : Memory → FarAddress → Place
+byte_place m f = place m (linear_of m.a20 f)
 
 -- the bytes of an element; the second byte of a word is at the next offset, modulo 65,536
 abbrev pub bytes_in : Element → List FarAddress
@@ -40,12 +40,12 @@ abbrev pub nothing : Elements
 nothing = record { first = None; second = None; third = None }
 
 -- one element, which may be missing
-abbrev pub one : Option Element → Elements
-one a = record { first = a; second = None; third = None }
+abbrev pub one_element : Option Element → Elements
+one_element a = record { first = a; second = None; third = None }
 
 -- two elements, each of which may be missing
-abbrev pub two : Option Element → Option Element → Elements
-two a b = record { first = a; second = b; third = None }
+abbrev pub two_elements : Option Element → Option Element → Elements
+two_elements a b = record { first = a; second = b; third = None }
 
 -- three elements, each of which may be missing
 abbrev pub three : Option Element → Option Element → Option Element → Elements

@@ -1,7 +1,7 @@
 //! Bytes and words in memory, by segment and offset.
 
 ghost use Rattle.std.specs.Prelude.{◌≡◌};
-ghost use Rattle.dm_touches.specs.Elements.{one, two, three, nothing};
+ghost use Rattle.dm_touches.specs.Elements.{one_element, two_elements, three, nothing};
 
 /// A byte in memory, by segment and offset.
 #[derive(Clone, Copy, Debug, PartialEq, Eq)]
@@ -46,7 +46,7 @@ impl Elements {
 
     /// One element, or none.
     pub(crate) fn one(first: Option<Element>) -> Elements
-        ensures { result ≡ one first }
+        ensures { result ≡ one_element first }
     {
         Elements {
             first,
@@ -57,7 +57,7 @@ impl Elements {
 
     /// Two elements, each of which may be missing.
     pub(crate) fn two(first: Option<Element>, second: Option<Element>) -> Elements
-        ensures { result ≡ two first second }
+        ensures { result ≡ two_elements first second }
     {
         Elements {
             first,

@@ -10,7 +10,7 @@ ghost use Rattle.dm_cpu.specs.Guest.{guest, down, up};
 ghost use Rattle.dm_cpu.specs.Operands.{data_segment, segment_for, offset_of, value_of, with_operand, base_of};
 ghost use Rattle.dm_operations.specs.Products.{double_of};
 ghost use Rattle.dm_touches.specs.Access.{access_of};
-ghost use Rattle.dm_touches.specs.Touches.{element_at, element_of, word_behind, stack_word, pushed_by_interrupt, with_vector, source, destination, divided_by, does_work, reads_dividing, reads_of_string, reads_by, writes_dividing, writes_of_string, writes_by, reads, writes};
+ghost use Rattle.dm_touches.specs.Touches.{element_at, element_of, word_behind, stack_word, pushed_by_interrupt, operand_and_vector, source, destination, divided_by, does_work, reads_dividing, reads_of_string, reads_by, writes_dividing, writes_of_string, writes_by, reads, writes};
 
 use crate::access::{Access, access_of};
 use crate::elements::{Element, Elements, Touched};
@@ -140,7 +140,7 @@ fn pushed_by_interrupt(cpu: &Cpu) -> Elements
 
 /// The vector of interrupt `number`, behind an operand that may be in memory.
 fn with_vector(operand: Option<Element>, number: u8) -> Elements
-    ensures { result ≡ with_vector operand number }
+    ensures { result ≡ operand_and_vector operand number }
 {
     Elements::three(
         operand,

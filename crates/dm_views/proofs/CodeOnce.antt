@@ -9,7 +9,7 @@ use Rattle.dm_ins.specs.Ins.{BeginsWith}
 use Rattle.dm_decode.proofs.Exact.{no_front}
 use Rattle.dm_cpu.specs.declared.cpu.Cpu.{Cpu}
 use Rattle.dm_cpu.specs.Guest.{up}
-use Rattle.dm_views.specs.Code.{listed_line, IsLine, listed, unlisted, AreLines, none, more, IsCode}
+use Rattle.dm_views.specs.Code.{instruction_line, IsLine, listed, unlisted, AreLines, none, more, IsCode}
 use Rattle.dm_views.specs.Registers.{fields_text, general, special, IsRegistersText}
 
 -- ---- one instruction stands at an address
@@ -50,7 +50,7 @@ line_once m s o _ _ _ _ (listed i k x) (listed j l y) =
     let e = stands_once m s o i j k l x y in
     record {
       size = e.size;
-      text = ap (λ (n : ℕ). listed_line s o (take n (sixteen_after m s o)) i (up o n)) e.size ∙ ap (λ (z : Ins). listed_line s o (take l (sixteen_after m s o)) z (up o l)) e.instruction;
+      text = ap (λ (n : ℕ). instruction_line s o (take n (sixteen_after m s o)) i (up o n)) e.size ∙ ap (λ (z : Ins). instruction_line s o (take l (sixteen_after m s o)) z (up o l)) e.instruction;
     }
 line_once m s o _ _ _ _ (listed i k x) (unlisted n) = absurd (n i k x)
 line_once m s o _ _ _ _ (unlisted n) (listed j l y) = absurd (n j l y)

@@ -6,7 +6,7 @@ use Rattle.dm_ins.specs.Ins.{BeginsWith}
 use Rattle.dm_decode.specs.Decoded.{Decodes}
 use Rattle.dm_cpu.specs.Guest.{up}
 use Rattle.dm_space.specs.EightBytes.{byte_after, sixteen_after}
-use Rattle.dm_views.specs.Code.{listed_line, unlisted_line, IsLine, listed, unlisted, AreLines, none, more, IsCode}
+use Rattle.dm_views.specs.Code.{instruction_line, byte_line, IsLine, listed, unlisted, AreLines, none, more, IsCode}
 
 -- the bytes there begin with a spelling of the instruction
 pub stands : (m : Memory) (s o : ℕ) (window : List ℕ) (i : Ins) (k : ℕ) → window ≡ sixteen_after m s o → Decodes window (Some (i, k)) → BeginsWith (sixteen_after m s o) i k
@@ -23,10 +23,10 @@ first_byte : (m : Memory) (s o : ℕ) (d : ℕ) → get_or (sixteen_after m s o)
 unfolding sixteen_after
 first_byte m s o d = refl
 
-pub line_listed : (m : Memory) (s o : ℕ) (window : List ℕ) (i : Ins) (k : ℕ) → window ≡ sixteen_after m s o → Decodes window (Some (i, k)) → IsLine m s o k (listed_line s o (take k window) i (up o k))
+pub line_listed : (m : Memory) (s o : ℕ) (window : List ℕ) (i : Ins) (k : ℕ) → window ≡ sixteen_after m s o → Decodes window (Some (i, k)) → IsLine m s o k (instruction_line s o (take k window) i (up o k))
 line_listed m s o window i k w d = rw w (listed i k (stands m s o window i k w d))
 
-pub line_unlisted : (m : Memory) (s o : ℕ) (window : List ℕ) (byte d : ℕ) → window ≡ sixteen_after m s o → byte ≡ get_or window 0 d → Decodes window None → IsLine m s o 1 (unlisted_line s o byte)
+pub line_unlisted : (m : Memory) (s o : ℕ) (window : List ℕ) (byte d : ℕ) → window ≡ sixteen_after m s o → byte ≡ get_or window 0 d → Decodes window None → IsLine m s o 1 (byte_line s o byte)
 line_unlisted m s o window byte d w b n =
     let e : byte ≡ byte_after m s o 0 = b ∙ ap (λ (x : List ℕ). get_or x 0 d) w ∙ first_byte m s o d in
     rw e (unlisted (none_stands m s o window w n))

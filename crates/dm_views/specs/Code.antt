@@ -12,17 +12,17 @@ use Rattle.dm_text.specs.Texts.{text_of}
 use Rattle.dm_views.specs.Digits.{two_digits, address_text}
 
 -- the line of an instruction: its address, its bytes and its text. `next` is the offset after it
-abbrev pub listed_line : ℕ → ℕ → List ℕ → Ins → ℕ → List ℕ
-listed_line segment offset bytes i next = address_text segment offset ++ codes " " ++ flat_map two_digits bytes ++ codes " " ++ text_of i next ++ 10 ∷ []
+abbrev pub instruction_line : ℕ → ℕ → List ℕ → Ins → ℕ → List ℕ
+instruction_line segment offset bytes i next = address_text segment offset ++ codes " " ++ flat_map two_digits bytes ++ codes " " ++ text_of i next ++ 10 ∷ []
 
 -- the line of a byte with which no instruction begins: its address, the byte and `DB`
-abbrev pub unlisted_line : ℕ → ℕ → ℕ → List ℕ
-unlisted_line segment offset byte = address_text segment offset ++ codes " " ++ two_digits byte ++ codes " DB" ++ 10 ∷ []
+abbrev pub byte_line : ℕ → ℕ → ℕ → List ℕ
+byte_line segment offset byte = address_text segment offset ++ codes " " ++ two_digits byte ++ codes " DB" ++ 10 ∷ []
 
 -- the line of the k bytes at segment:offset: of the instruction there, or of one byte with which none begins
 pub data IsLine (m : Memory) (segment offset : ℕ) : ℕ → List ℕ → Type 0 where
-  listed : (i : Ins) (k : ℕ) → BeginsWith (sixteen_after m segment offset) i k → IsLine m segment offset k (listed_line segment offset (take k (sixteen_after m segment offset)) i (up offset k))
-  unlisted : ((i : Ins) (k : ℕ) → BeginsWith (sixteen_after m segment offset) i k → ⊥) → IsLine m segment offset 1 (unlisted_line segment offset (byte_after m segment offset 0))
+  listed : (i : Ins) (k : ℕ) → BeginsWith (sixteen_after m segment offset) i k → IsLine m segment offset k (instruction_line segment offset (take k (sixteen_after m segment offset)) i (up offset k))
+  unlisted : ((i : Ins) (k : ℕ) → BeginsWith (sixteen_after m segment offset) i k → ⊥) → IsLine m segment offset 1 (byte_line segment offset (byte_after m segment offset 0))
 
 -- the text of n lines, the first at segment:offset, each at the offset after the bytes of the one before; and the
 -- offset after the last

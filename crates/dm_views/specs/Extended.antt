@@ -7,7 +7,7 @@ use Rattle.dm_xms.specs.declared.tables.Handle.{Handle}
 use Rattle.dm_xms.specs.declared.tables.Upper.{Upper}
 use Rattle.dm_xms.specs.Tables.{Tables}
 use Rattle.dm_xms.specs.Calls.{slot}
-use Rattle.dm_xms.specs.Blocks.{address}
+use Rattle.dm_xms.specs.Blocks.{begin_address}
 use Rattle.dm_views.specs.Digits.{two_digits, four_digits, eight_digits, in_turn}
 
 -- the line of an extended memory block: handle, linear address, size in KiB, lock count
@@ -17,7 +17,7 @@ block_line number base kib locks = four_digits number ++ codes " " ++ eight_digi
 -- the line of the block of handle `before + 1`; no text if the handle is not in use. Handles count from 1
 abbrev pub block_text : Tables → Memory → ℕ → List ℕ
 block_text xms m before =
-    option_map_or (λ (h : Handle). block_line (before + 1) (address m h.block) h.kib h.locks) (slot xms (before + 1)) []
+    option_map_or (λ (h : Handle). block_line (before + 1) (begin_address m h.block) h.kib h.locks) (slot xms (before + 1)) []
 
 -- the line of an upper memory block: segment and size in paragraphs; no text for None
 abbrev pub upper_line : Option Upper → List ℕ

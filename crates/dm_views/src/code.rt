@@ -6,7 +6,7 @@ ghost use Rattle.std.specs.List.{flat_map};
 ghost use Rattle.dm_space.specs.EightBytes.{sixteen_after};
 ghost use Rattle.dm_text.specs.Texts.{text_of};
 ghost use Rattle.dm_views.specs.Digits.{two_digits};
-ghost use Rattle.dm_views.specs.Code.{listed_line, unlisted_line, IsLine, IsCode};
+ghost use Rattle.dm_views.specs.Code.{instruction_line, byte_line, IsLine, IsCode};
 
 use crate::digits::{byte_digits, put_address};
 use dm_decode::decode;
@@ -70,7 +70,7 @@ fn put_listed(
     ins: &Ins,
     next: u16,
 ) -> Result<(), AllocError>
-    ensures { OnOk result (out.new.items ≡ out.old.items ++ listed_line segment offset bytes.now ins.now next) }
+    ensures { OnOk result (out.new.items ≡ out.old.items ++ instruction_line segment offset bytes.now ins.now next) }
 {
     put_address(out, segment, offset)?;
     out.extend_from_slice(b" ")?;
@@ -82,7 +82,7 @@ fn put_listed(
 
 /// Appends the line of a byte with which no instruction begins: its address, the byte and `DB`.
 fn put_unlisted(out: &mut Vec<u8>, segment: u16, offset: u16, byte: u8) -> Result<(), AllocError>
-    ensures { OnOk result (out.new.items ≡ out.old.items ++ unlisted_line segment offset byte) }
+    ensures { OnOk result (out.new.items ≡ out.old.items ++ byte_line segment offset byte) }
 {
     put_address(out, segment, offset)?;
     out.extend_from_slice(b" ")?;

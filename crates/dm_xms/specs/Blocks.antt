@@ -52,8 +52,8 @@ first_unit (Some b) = b.base
 
 -- the linear address of a block's first byte, 110000h if there is no such block or it has 0 KiB; the pool begins at
 -- 110000h, above all memory that a program can address
-abbrev pub address : Memory → ℕ → ℕ
-address m block = 0x110000 + 0x400 * first_unit (get_or m.blocks.places block None)
+abbrev pub begin_address : Memory → ℕ → ℕ
+begin_address m block = 0x110000 + 0x400 * first_unit (get_or m.blocks.places block None)
 
 -- 0Ch: the block of a handle gets one lock more, and the result is its linear address; an error if the handle is not
 -- in use, or its block has 255 locks already
@@ -61,7 +61,7 @@ unfoldable pub lock : Extended → ℕ → Result (ℕ × Extended) Status
 lock x handle =
     need (slot x.xms handle) UnknownHandle (λ s.
     if s.locks == 255 then Err TooManyLocks else
-    Ok (address x.memory s.block, record x { xms = with_slot x.xms handle (Some (record s { locks = s.locks + 1 })) }))
+    Ok (begin_address x.memory s.block, record x { xms = with_slot x.xms handle (Some (record s { locks = s.locks + 1 })) }))
 
 -- 0Dh: the block of a handle gets one lock less; an error if the handle is not in use, or its block has no lock
 unfoldable pub unlock : Tables → ℕ → Result (Unit {0} × Tables) Status

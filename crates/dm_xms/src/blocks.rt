@@ -5,7 +5,7 @@ ghost use Rattle.std.specs.Prelude.{◌≡◌};
 ghost use Rattle.dm_xms.specs.Tables.{extended};
 ghost use Rattle.dm_xms.specs.Calls.{answer, left};
 ghost use Rattle.dm_xms.specs.Consistent.{IsConsistent};
-ghost use Rattle.dm_xms.specs.Blocks.{address, free_memory, allocate, deallocate, lock, unlock, information, reallocate};
+ghost use Rattle.dm_xms.specs.Blocks.{begin_address, free_memory, allocate, deallocate, lock, unlock, information, reallocate};
 
 use crate::status::Status;
 use crate::tables::{Handle, Xms};
@@ -40,7 +40,7 @@ pub struct HandleInformation {
 
 /// The linear address of a block's first byte; 110000h for a block of 0 KiB, and if there is no such block.
 fn address(space: &Space, block: Block) -> usize
-    ensures { result ≡ address space.now.memory block }
+    ensures { result ≡ begin_address space.now.memory block }
 {
     if space.has(block) {
         POOL + UNIT * space.base(block)
@@ -52,7 +52,7 @@ fn address(space: &Space, block: Block) -> usize
 impl Handle {
     /// The linear address of the first byte of the handle's block; 110000h for a block of 0 KiB.
     pub fn base(&self, space: &Space) -> usize
-        ensures { result ≡ address space.now.memory self.now.block }
+        ensures { result ≡ begin_address space.now.memory self.now.block }
     {
         address(space, self.block)
     }

@@ -11,14 +11,14 @@ use Rattle.dm_asm.specs.declared.codes.Problem.TheVariants as problem
 use Rattle.dm_lines.specs.Statements.{Item}
 use Rattle.dm_asm.specs.Lines.{lines_of}
 use Rattle.dm_asm.specs.Programs.{Sized, Laid, total, longest_program, labels_of}
-use Rattle.dm_asm.specs.Labels.{Label, find}
+use Rattle.dm_asm.specs.Labels.{Label, place_of_label}
 use Rattle.dm_asm.specs.Codes.{Codes, Knows}
 use Rattle.dm_asm.specs.declared.known.Known.{Known}
 use Rattle.dm_asm.specs.inner.Fixed.{AreKnown}
 
 -- the map has the names of the list, each with its first place there, and no others
 abbrev pub AreKept : Labels → List Label → Type 0
-AreKept kept labels = (name : Name'.Name) → tree.get (slice_cmp nat_cmp) kept.places name.bytes ≡ find name labels
+AreKept kept labels = (name : Name'.Name) → tree.get (slice_cmp nat_cmp) kept.places name.bytes ≡ place_of_label name labels
 
 -- each place in the map is an offset, below 65,536
 abbrev pub AreNear : Labels → Type 0

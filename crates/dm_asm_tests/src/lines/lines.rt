@@ -420,7 +420,7 @@ fn data_are_numbers_texts_and_labels(rt: HostRuntime) -> Result<(), Fail> {
 }
 
 /// 255 bytes and one more, some of them a comment.
-/// Definitions: dm_lines Statements line_of statement_of item_of
+/// Definitions: dm_lines Statements line_statement statement_of item_of
 #[test]
 fn lines_have_255_bytes(rt: HostRuntime) -> Result<(), Fail> {
     let mut reader = Reader::new();

@@ -18,7 +18,7 @@ use Rattle.dm_touches.specs.declared.elements.Element.{Element}
 use Rattle.dm_touches.specs.declared.elements.Element.TheVariants as element
 use Rattle.dm_touches.specs.declared.elements.Elements.{Elements}
 use Rattle.dm_touches.specs.declared.elements.FarAddress.{FarAddress}
-use Rattle.dm_touches.specs.Elements.{far, linear_of, place_of, bytes_if, bytes_of}
+use Rattle.dm_touches.specs.Elements.{far, linear_of, byte_place, bytes_if, bytes_of}
 use Rattle.dm_touches.specs.Touches.{writes}
 use Rattle.dm_touches.proofs.Written.{writes_listed}
 use Rattle.dm_touches.specs.quiet.Marks.{level_at, lies_below, passes_if, pass}
@@ -92,13 +92,13 @@ place_is_low m x a e =
 not_below : (ms : List ℕ) (a : ℕ) → lies_below ms 1 a ≡ true → 1 ≤ level_at ms (a / 16) → ⊥
 not_below ms a e h = (let less : level_at ms (a / 16) < 1 = grind (arith, nat_tests) in omega (arith, less, h))
 
-none_at : (m : Memory) (ms : List ℕ) (a : ℕ) (fs : List FarAddress) → a < 0xC0000 → 1 ≤ level_at ms (a / 16) → are_all (lies_below ms 1) m.a20 fs ≡ true → All (λ (f : FarAddress). place_of m f ≢ place m a) fs
-none_at m ms a [] low marked e = All-nil (λ (f : FarAddress). place_of m f ≢ place m a)
+none_at : (m : Memory) (ms : List ℕ) (a : ℕ) (fs : List FarAddress) → a < 0xC0000 → 1 ≤ level_at ms (a / 16) → are_all (lies_below ms 1) m.a20 fs ≡ true → All (λ (f : FarAddress). byte_place m f ≢ place m a) fs
+none_at m ms a [] low marked e = All-nil (λ (f : FarAddress). byte_place m f ≢ place m a)
 none_at m ms a (f ∷ fs) low marked e =
     let x = linear_of m.a20 f in
     let here : lies_below ms 1 x ≡ true = and_left (lies_below ms 1 x) (are_all (lies_below ms 1) m.a20 fs) e in
     let other : place m x ≢ place m a = λ same. (let is : x ≡ a = place_is_low m x a (same ∙ place-low m a low) in not_below ms a (subst (λ (y : ℕ). lies_below ms 1 y ≡ true) is here) marked) in
-    All-cons (λ (f : FarAddress). place_of m f ≢ place m a) f fs other (none_at m ms a fs low marked (and_right (lies_below ms 1 x) (are_all (lies_below ms 1) m.a20 fs) e))
+    All-cons (λ (f : FarAddress). byte_place m f ≢ place m a) f fs other (none_at m ms a fs low marked (and_right (lies_below ms 1 x) (are_all (lies_below ms 1) m.a20 fs) e))
 
 -- a marked byte stays
 keeps_byte : (g : Guest) (i : Ins) (k : ℕ) (ms : List ℕ) (a : ℕ) → a < 0xC0000 → 1 ≤ level_at ms (a / 16) → pass (lies_below ms 1) g.memory.a20 (writes g i k) ≡ true → peek (effect g i k).memory a ≡ peek g.memory a

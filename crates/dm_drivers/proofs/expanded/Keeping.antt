@@ -16,7 +16,9 @@ use Rattle.dm_ems_move.proofs.Keeping.{moves_keep}
 use Rattle.dm_ems_move.proofs.Leaving.{moves_leave}
 use Rattle.dm_ems_move.proofs.Shown.{bytes_shaped}
 use Rattle.dm_drivers.specs.expanded.Caller.{Caller}
-use Rattle.dm_drivers.specs.expanded.Functions.{call, handle_name, directory, regions, mappable}
+use Rattle.dm_drivers.specs.declared.expanded.functions.Function.{Function}
+use Rattle.dm_drivers.specs.declared.expanded.functions.Function.TheVariants.{Status, Frame, PageCounts, Allocate, MapPage, Deallocate, Version, SaveMap, RestoreMap, CountHandles, CountPages, ListPages, WholeMap, MapMany, Reallocate, HandleName, Directory, Regions, Mappable, Unknown}
+use Rattle.dm_drivers.specs.expanded.Functions.{call, function_of, handle_name, directory, regions, mappable}
 use Rattle.dm_drivers.specs.expanded.inner.Laws.{ExpandedMemoryCallsKeep}
 
 -- what a call does to the tables and the memory
@@ -75,32 +77,31 @@ mappable_keeps c n =
 
 -- ---- all functions
 
-call_keeps : (c : Caller) (n : ℕ) → Keeps c (call c n)
+call_keeps : (c : Caller) (f : Function) → Keeps c (call c f)
 unfolding call names.list_pages
-call_keeps c n =
-    choice c (n == 0x40) _ _ (nothing c _)
-    (choice c (n == 0x41) _ _ (nothing c _)
-    (choice c (n == 0x42) _ _ (nothing c _)
-    (choice c (n == 0x43) _ _ (record { consistency = calls_keep.allocating c.x c.cpu.bx; outside = calls_leave.allocating c.x c.cpu.bx })
-    (choice c (n == 0x44) _ _ (record { consistency = calls_keep.mapping c.x (byte_of c.cpu Al) c.cpu.bx c.cpu.dx; outside = calls_leave.mapping c.x (byte_of c.cpu Al) c.cpu.bx c.cpu.dx })
-    (choice c (n == 0x45) _ _ (record { consistency = calls_keep.deallocating c.x c.cpu.dx; outside = calls_leave.deallocating c.x c.cpu.dx })
-    (choice c (n == 0x46) _ _ (nothing c _)
-    (choice c (n == 0x47) _ _ (record { consistency = calls_keep.saving c.x c.cpu.dx; outside = calls_leave.saving c.x c.cpu.dx })
-    (choice c (n == 0x48) _ _ (record { consistency = calls_keep.restoring c.x c.cpu.dx; outside = calls_leave.restoring c.x c.cpu.dx })
-    (choice c (n == 0x4B) _ _ (nothing c _)
-    (choice c (n == 0x4C) _ _ (nothing c _)
-    (choice c (n == 0x4D) _ _ (writing_keeps c _ c.cpu.es c.cpu.di _)
-    (choice c (n == 0x4E) _ _ (record { consistency = moves_keep.setting c.x (byte_of c.cpu Al) c.cpu.es c.cpu.di c.cpu.ds c.cpu.si; outside = moves_leave.setting c.x (byte_of c.cpu Al) c.cpu.es c.cpu.di c.cpu.ds c.cpu.si })
-    (choice c (n == 0x50) _ _ (record { consistency = moves_keep.mapping c.x (byte_of c.cpu Al) c.cpu.dx c.cpu.cx c.cpu.ds c.cpu.si; outside = moves_leave.mapping c.x (byte_of c.cpu Al) c.cpu.dx c.cpu.cx c.cpu.ds c.cpu.si })
-    (choice c (n == 0x51) _ _ (record { consistency = moves_keep.reallocating c.x c.cpu.dx c.cpu.bx; outside = moves_leave.reallocating c.x c.cpu.dx c.cpu.bx })
-    (choice c (n == 0x53) _ _ (handle_name_keeps c (byte_of c.cpu Al))
-    (choice c (n == 0x54) _ _ (directory_keeps c (byte_of c.cpu Al))
-    (choice c (n == 0x57) _ _ (regions_keeps c (byte_of c.cpu Al))
-    (choice c (n == 0x58) _ _ (mappable_keeps c (byte_of c.cpu Al))
-    (nothing c _)))))))))))))))))))
+call_keeps c Status = nothing c _
+call_keeps c Frame = nothing c _
+call_keeps c PageCounts = nothing c _
+call_keeps c Allocate = record { consistency = calls_keep.allocating c.x c.cpu.bx; outside = calls_leave.allocating c.x c.cpu.bx }
+call_keeps c MapPage = record { consistency = calls_keep.mapping c.x (byte_of c.cpu Al) c.cpu.bx c.cpu.dx; outside = calls_leave.mapping c.x (byte_of c.cpu Al) c.cpu.bx c.cpu.dx }
+call_keeps c Deallocate = record { consistency = calls_keep.deallocating c.x c.cpu.dx; outside = calls_leave.deallocating c.x c.cpu.dx }
+call_keeps c Version = nothing c _
+call_keeps c SaveMap = record { consistency = calls_keep.saving c.x c.cpu.dx; outside = calls_leave.saving c.x c.cpu.dx }
+call_keeps c RestoreMap = record { consistency = calls_keep.restoring c.x c.cpu.dx; outside = calls_leave.restoring c.x c.cpu.dx }
+call_keeps c CountHandles = nothing c _
+call_keeps c CountPages = nothing c _
+call_keeps c ListPages = writing_keeps c _ c.cpu.es c.cpu.di _
+call_keeps c WholeMap = record { consistency = moves_keep.setting c.x (byte_of c.cpu Al) c.cpu.es c.cpu.di c.cpu.ds c.cpu.si; outside = moves_leave.setting c.x (byte_of c.cpu Al) c.cpu.es c.cpu.di c.cpu.ds c.cpu.si }
+call_keeps c MapMany = record { consistency = moves_keep.mapping c.x (byte_of c.cpu Al) c.cpu.dx c.cpu.cx c.cpu.ds c.cpu.si; outside = moves_leave.mapping c.x (byte_of c.cpu Al) c.cpu.dx c.cpu.cx c.cpu.ds c.cpu.si }
+call_keeps c Reallocate = record { consistency = moves_keep.reallocating c.x c.cpu.dx c.cpu.bx; outside = moves_leave.reallocating c.x c.cpu.dx c.cpu.bx }
+call_keeps c HandleName = handle_name_keeps c (byte_of c.cpu Al)
+call_keeps c Directory = directory_keeps c (byte_of c.cpu Al)
+call_keeps c Regions = regions_keeps c (byte_of c.cpu Al)
+call_keeps c Mappable = mappable_keeps c (byte_of c.cpu Al)
+call_keeps c Unknown = nothing c _
 
 pub keep : ExpandedMemoryCallsKeep
 keep = record {
-  consistency = λ c. (call_keeps c (byte_of c.cpu Ah)).consistency;
-  outside = λ c. (call_keeps c (byte_of c.cpu Ah)).outside;
+  consistency = λ c. (call_keeps c (function_of (byte_of c.cpu Ah))).consistency;
+  outside = λ c. (call_keeps c (function_of (byte_of c.cpu Ah))).outside;
 }

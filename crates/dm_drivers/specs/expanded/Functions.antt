@@ -18,6 +18,8 @@ use Rattle.dm_ems_move.specs.Reallocation.{reallocate}
 use Rattle.dm_ems_move.specs.Maps.{whole_map}
 use Rattle.dm_ems_move.specs.Many.{map_many}
 use Rattle.dm_ems_move.specs.RegionMoves.{move_region, exchange_region, moved_code}
+use Rattle.dm_drivers.specs.declared.expanded.functions.Function.{Function}
+use Rattle.dm_drivers.specs.declared.expanded.functions.Function.TheVariants.{Status, Frame, PageCounts, Allocate, MapPage, Deallocate, Version, SaveMap, RestoreMap, CountHandles, CountPages, ListPages, WholeMap, MapMany, Reallocate, HandleName, Directory, Regions, Mappable, Unknown}
 use Rattle.dm_drivers.specs.expanded.Caller.{Caller, with_status, on_cpu, succeeded, refused, settled, after_call, after_call_with_status, after_list}
 
 -- the registers after 4Eh, but for AH: AL is the size of a map where the call returns it, else all stay
@@ -71,50 +73,74 @@ mappable c number =
     if number == 1 then on_cpu c (succeeded (record c.cpu { cx = 4 })) else
     on_cpu c (refused c.cpu NoSubfunction)
 
--- the registers, tables and memory after the function with a number; one that the driver does not have sets AH to
--- status 84h
-unfoldable pub call : Caller → ℕ → Caller
-call c number =
-    -- 40h: AH is 0, as the driver is there
-    if number == 0x40 then on_cpu c (succeeded c.cpu) else
-    -- 41h: BX is the frame's segment
-    if number == 0x41 then on_cpu c (succeeded (record c.cpu { bx = 0xE000 })) else
-    -- 42h: BX is the number of pages that can still be allocated, DX the number of all pages
-    if number == 0x42 then on_cpu c (succeeded (record c.cpu { bx = unallocated c.x; dx = c.x.ems.total })) else
-    -- 43h: a new handle with BX pages of zeros is allocated, and DX becomes its number
-    if number == 0x43 then after_call c (handles.allocate c.x c.cpu.bx) (λ handle. record c.cpu { dx = handle }) else
-    -- 44h: window AL shows logical page BX of the handle in DX, or nothing for page FFFFh; the other windows stay
-    if number == 0x44 then after_call c (windows.map_page c.x (byte_of c.cpu Al) c.cpu.bx c.cpu.dx) (λ done. c.cpu) else
-    -- 45h: the handle in DX and its pages are freed; handle 0 stays in use
-    if number == 0x45 then after_call c (handles.deallocate c.x c.cpu.dx) (λ done. c.cpu) else
-    -- 46h: AL is the version, 40h for 4.0
-    if number == 0x46 then on_cpu c (succeeded (with_byte c.cpu Al 0x40)) else
-    -- 47h: what the four windows show is saved under the handle in DX
-    if number == 0x47 then after_call c (windows.save_map c.x c.cpu.dx) (λ done. c.cpu) else
-    -- 48h: the four windows show what was saved under the handle in DX, which then has nothing saved
-    if number == 0x48 then after_call c (windows.restore_map c.x c.cpu.dx) (λ done. c.cpu) else
-    -- 4Bh: BX is the number of handles in use, handle 0 among them
-    if number == 0x4B then on_cpu c (succeeded (record c.cpu { bx = handles.in_use c.x })) else
-    -- 4Ch: BX is the number of pages of the handle in DX
-    if number == 0x4C then on_cpu c (settled c.cpu (handles.count_pages c.x c.cpu.dx) (λ pages. record c.cpu { bx = pages })) else
-    -- 4Dh: for each handle in use its number and its number of pages are written at ES:DI, two words; BX is the number
-    -- of handles in use
-    if number == 0x4D then after_list c (names.list_pages c.x c.cpu.es c.cpu.di) (λ count. record c.cpu { bx = count }) else
-    -- 4Eh: with AL = 0 the map of the windows is written at ES:DI, with 1 they are set from the map at DS:SI, with 2 the
-    -- map at DS:SI is read, that of the windows written at ES:DI, and then they are set, and with 3 AL becomes the size
-    -- of a map in bytes, 16; status 8Fh for another value
-    if number == 0x4E then after_call c (whole_map c.x (byte_of c.cpu Al) c.cpu.es c.cpu.di c.cpu.ds c.cpu.si) (numbered c.cpu) else
-    -- 50h: windows show pages of the handle in DX, or nothing, as CX pairs at DS:SI say, which name windows by number
-    -- (AL = 0) or by segment (AL = 1); the other windows stay. Status 8Fh for another value of AL
-    if number == 0x50 then after_call c (map_many c.x (byte_of c.cpu Al) c.cpu.dx c.cpu.cx c.cpu.ds c.cpu.si) (λ done. c.cpu) else
-    -- 51h: the handle in DX gets BX pages in all, and BX becomes its number of pages. If there are not enough, the
-    -- handle keeps its pages, and BX is their number; if it is not in use, BX stays
-    if number == 0x51 then after_call_with_status c (reallocate c.x c.cpu.dx c.cpu.bx) (recounted c.cpu) else
-    if number == 0x53 then handle_name c (byte_of c.cpu Al) else
-    if number == 0x54 then directory c (byte_of c.cpu Al) else
-    if number == 0x57 then regions c (byte_of c.cpu Al) else
-    if number == 0x58 then mappable c (byte_of c.cpu Al) else on_cpu c (with_status c.cpu 0x84)
+-- the function of INT 67h with a number, which calls have in AH; `Unknown` for a number that the driver does not have
+abbrev pub function_of : ℕ → Function
+function_of number =
+    if number == 0x40 then Status else
+    if number == 0x41 then Frame else
+    if number == 0x42 then PageCounts else
+    if number == 0x43 then Allocate else
+    if number == 0x44 then MapPage else
+    if number == 0x45 then Deallocate else
+    if number == 0x46 then Version else
+    if number == 0x47 then SaveMap else
+    if number == 0x48 then RestoreMap else
+    if number == 0x4B then CountHandles else
+    if number == 0x4C then CountPages else
+    if number == 0x4D then ListPages else
+    if number == 0x4E then WholeMap else
+    if number == 0x50 then MapMany else
+    if number == 0x51 then Reallocate else
+    if number == 0x53 then HandleName else
+    if number == 0x54 then Directory else
+    if number == 0x57 then Regions else
+    if number == 0x58 then Mappable else Unknown
+
+-- the registers, tables and memory after a function
+unfoldable pub call : Caller → Function → Caller
+-- AH is 0, as the driver is there
+call c Status = on_cpu c (succeeded c.cpu)
+-- BX is the frame's segment
+call c Frame = on_cpu c (succeeded (record c.cpu { bx = 0xE000 }))
+-- BX is the number of pages that can still be allocated, DX the number of all pages
+call c PageCounts = on_cpu c (succeeded (record c.cpu { bx = unallocated c.x; dx = c.x.ems.total }))
+-- a new handle with BX pages of zeros is allocated, and DX becomes its number
+call c Allocate = after_call c (handles.allocate c.x c.cpu.bx) (λ handle. record c.cpu { dx = handle })
+-- window AL shows logical page BX of the handle in DX, or nothing for page FFFFh; the other windows stay
+call c MapPage = after_call c (windows.map_page c.x (byte_of c.cpu Al) c.cpu.bx c.cpu.dx) (λ done. c.cpu)
+-- the handle in DX and its pages are freed; handle 0 stays in use
+call c Deallocate = after_call c (handles.deallocate c.x c.cpu.dx) (λ done. c.cpu)
+-- AL is the version, 40h for 4.0
+call c Version = on_cpu c (succeeded (with_byte c.cpu Al 0x40))
+-- what the four windows show is saved under the handle in DX
+call c SaveMap = after_call c (windows.save_map c.x c.cpu.dx) (λ done. c.cpu)
+-- the four windows show what was saved under the handle in DX, which then has nothing saved
+call c RestoreMap = after_call c (windows.restore_map c.x c.cpu.dx) (λ done. c.cpu)
+-- BX is the number of handles in use, handle 0 among them
+call c CountHandles = on_cpu c (succeeded (record c.cpu { bx = handles.in_use c.x }))
+-- BX is the number of pages of the handle in DX
+call c CountPages = on_cpu c (settled c.cpu (handles.count_pages c.x c.cpu.dx) (λ pages. record c.cpu { bx = pages }))
+-- for each handle in use its number and its number of pages are written at ES:DI, two words; BX is the number of
+-- handles in use
+call c ListPages = after_list c (names.list_pages c.x c.cpu.es c.cpu.di) (λ count. record c.cpu { bx = count })
+-- with AL = 0 the map of the windows is written at ES:DI, with 1 they are set from the map at DS:SI, with 2 the map at
+-- DS:SI is read, that of the windows written at ES:DI, and then they are set, and with 3 AL becomes the size of a map in
+-- bytes, 16; status 8Fh for another value
+call c WholeMap = after_call c (whole_map c.x (byte_of c.cpu Al) c.cpu.es c.cpu.di c.cpu.ds c.cpu.si) (numbered c.cpu)
+-- windows show pages of the handle in DX, or nothing, as CX pairs at DS:SI say, which name windows by number
+-- (AL = 0) or by segment (AL = 1); the other windows stay. Status 8Fh for another value of AL
+call c MapMany = after_call c (map_many c.x (byte_of c.cpu Al) c.cpu.dx c.cpu.cx c.cpu.ds c.cpu.si) (λ done. c.cpu)
+-- the handle in DX gets BX pages in all, and BX becomes its number of pages. If there are not enough, the handle keeps
+-- its pages, and BX is their number; if it is not in use, BX stays
+call c Reallocate = after_call_with_status c (reallocate c.x c.cpu.dx c.cpu.bx) (recounted c.cpu)
+-- the subfunction whose number is in AL
+call c HandleName = handle_name c (byte_of c.cpu Al)
+call c Directory = directory c (byte_of c.cpu Al)
+call c Regions = regions c (byte_of c.cpu Al)
+call c Mappable = mappable c (byte_of c.cpu Al)
+-- the driver does not have the function: AH is status 84h
+call c Unknown = on_cpu c (with_status c.cpu 0x84)
 
 -- the registers, tables and memory after INT 67h: after the function whose number is in AH
 abbrev pub dispatched : Caller → Caller
-dispatched c = call c (byte_of c.cpu Ah)
+dispatched c = call c (function_of (byte_of c.cpu Ah))

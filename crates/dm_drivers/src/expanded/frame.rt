@@ -3,6 +3,7 @@
 ghost use Rattle.std.specs.Prelude.{◌≡◌};
 ghost use Rattle.dm_ins.specs.declared.operand.ByteRegister.TheVariants.{Al};
 ghost use Rattle.dm_cpu.specs.Cpu.{with_byte};
+ghost use Rattle.dm_drivers.specs.declared.expanded.functions.Function.TheVariants.{Mappable};
 ghost use Rattle.dm_drivers.specs.expanded.Caller.{caller, succeeded};
 ghost use Rattle.dm_drivers.specs.expanded.Functions.{call, mappable};
 
@@ -59,7 +60,7 @@ fn count_windows(cpu: &mut Cpu)
 /// 58h: AL selects whether the windows are listed (0) or counted (1); status 8Fh for another value.
 #[tactic(auto, unfolding(crate::specs::expanded::Functions::call, crate::specs::expanded::Functions::mappable))]
 pub(crate) fn mappable(cpu: &mut Cpu, ems: &Ems, space: &mut Space)
-    ensures { caller cpu.new ems.now space.new.memory ≡ call (caller cpu.old ems.now space.old.memory) 0x58 }
+    ensures { caller cpu.new ems.now space.new.memory ≡ call (caller cpu.old ems.now space.old.memory) Mappable }
 {
     match cpu.byte(ByteRegister::Al) {
         0 => list_frame(cpu, ems, space),

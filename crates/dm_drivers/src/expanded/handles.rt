@@ -4,6 +4,7 @@
 ghost use Rattle.std.specs.Prelude.{◌≡◌};
 ghost use Rattle.dm_ems.specs.Tables.{expanded};
 ghost use Rattle.dm_ems.specs.Consistent.{IsConsistent};
+ghost use Rattle.dm_drivers.specs.declared.expanded.functions.Function.TheVariants.{Allocate, CountHandles, CountPages, Deallocate, ListPages, PageCounts, Reallocate};
 ghost use Rattle.dm_drivers.specs.expanded.Caller.{caller};
 ghost use Rattle.dm_drivers.specs.expanded.Functions.{call};
 
@@ -15,7 +16,7 @@ use dm_space::Space;
 /// 42h: sets BX to the number of pages that can still be allocated, DX to that of all pages.
 #[tactic(auto, unfolding(crate::specs::expanded::Functions::call))]
 pub(crate) fn tell_pages(cpu: &mut Cpu, ems: &Ems, space: &Space)
-    ensures { caller cpu.new ems.now space.now.memory ≡ call (caller cpu.old ems.now space.now.memory) 0x42 }
+    ensures { caller cpu.new ems.now space.now.memory ≡ call (caller cpu.old ems.now space.now.memory) PageCounts }
 {
     cpu.bx = ems.unallocated(space);
     cpu.dx = ems.total();
@@ -25,7 +26,7 @@ pub(crate) fn tell_pages(cpu: &mut Cpu, ems: &Ems, space: &Space)
 /// 43h: allocates a new handle with BX pages of zeros, and sets DX to its number.
 #[tactic(auto, unfolding(crate::specs::expanded::Functions::call))]
 pub(crate) fn allocate(cpu: &mut Cpu, ems: &mut Ems, space: &mut Space)
-    ensures { caller cpu.new ems.new space.new.memory ≡ call (caller cpu.old ems.old space.old.memory) 0x43 }
+    ensures { caller cpu.new ems.new space.new.memory ≡ call (caller cpu.old ems.old space.old.memory) Allocate }
 {
     let res = ems.allocate(space, cpu.bx);
     settle_dx(cpu, res);
@@ -35,7 +36,7 @@ pub(crate) fn allocate(cpu: &mut Cpu, ems: &mut Ems, space: &mut Space)
 #[tactic(auto, unfolding(crate::specs::expanded::Functions::call))]
 pub(crate) fn deallocate(cpu: &mut Cpu, ems: &mut Ems, space: &mut Space)
     requires { IsConsistent (expanded ems.old space.old.memory) }
-    ensures { caller cpu.new ems.new space.new.memory ≡ call (caller cpu.old ems.old space.old.memory) 0x45 }
+    ensures { caller cpu.new ems.new space.new.memory ≡ call (caller cpu.old ems.old space.old.memory) Deallocate }
 {
     let res = ems.deallocate(space, cpu.dx);
     settle(cpu, res);
@@ -44,7 +45,7 @@ pub(crate) fn deallocate(cpu: &mut Cpu, ems: &mut Ems, space: &mut Space)
 /// 4Bh: sets BX to the number of handles in use, handle 0 among them.
 #[tactic(auto, unfolding(crate::specs::expanded::Functions::call))]
 pub(crate) fn count_handles(cpu: &mut Cpu, ems: &Ems, space: &Space)
-    ensures { caller cpu.new ems.now space.now.memory ≡ call (caller cpu.old ems.now space.now.memory) 0x4B }
+    ensures { caller cpu.new ems.now space.now.memory ≡ call (caller cpu.old ems.now space.now.memory) CountHandles }
 {
     cpu.bx = ems.in_use();
     succeed(cpu);
@@ -53,7 +54,7 @@ pub(crate) fn count_handles(cpu: &mut Cpu, ems: &Ems, space: &Space)
 /// 4Ch: sets BX to the number of pages of the handle in DX.
 #[tactic(auto, unfolding(crate::specs::expanded::Functions::call))]
 pub(crate) fn count_pages(cpu: &mut Cpu, ems: &Ems, space: &Space)
-    ensures { caller cpu.new ems.now space.now.memory ≡ call (caller cpu.old ems.now space.now.memory) 0x4C }
+    ensures { caller cpu.new ems.now space.now.memory ≡ call (caller cpu.old ems.now space.now.memory) CountPages }
 {
     let res = ems.count_pages(space, cpu.dx);
     settle_bx(cpu, res);
@@ -63,7 +64,7 @@ pub(crate) fn count_pages(cpu: &mut Cpu, ems: &Ems, space: &Space)
 /// Sets BX to the number of handles in use.
 #[tactic(auto, unfolding(crate::specs::expanded::Functions::call))]
 pub(crate) fn list_pages(cpu: &mut Cpu, ems: &Ems, space: &mut Space)
-    ensures { caller cpu.new ems.now space.new.memory ≡ call (caller cpu.old ems.now space.old.memory) 0x4D }
+    ensures { caller cpu.new ems.now space.new.memory ≡ call (caller cpu.old ems.now space.old.memory) ListPages }
 {
     cpu.bx = ems.list_pages(space, cpu.es, cpu.di);
     succeed(cpu);
@@ -74,7 +75,7 @@ pub(crate) fn list_pages(cpu: &mut Cpu, ems: &Ems, space: &mut Space)
 #[tactic(auto, unfolding(crate::specs::expanded::Functions::call))]
 pub(crate) fn reallocate(cpu: &mut Cpu, ems: &mut Ems, space: &mut Space)
     requires { IsConsistent (expanded ems.old space.old.memory) }
-    ensures { caller cpu.new ems.new space.new.memory ≡ call (caller cpu.old ems.old space.old.memory) 0x51 }
+    ensures { caller cpu.new ems.new space.new.memory ≡ call (caller cpu.old ems.old space.old.memory) Reallocate }
 {
     let res = dm_ems_move::reallocate(ems, space, cpu.dx, cpu.bx);
     settle_pages(cpu, res);

@@ -9,4 +9,4 @@ mod names;
 mod regions;
 mod windows;
 
-pub use functions::expanded_memory_call;
+pub use functions::{Function, expanded_memory_call, function_of};

@@ -2,6 +2,7 @@
 //! each sets AH to the status, 0 for success; an error sets AH alone, and leaves tables and memory as they are. Other
 //! registers than those named stay.
 ghost use Rattle.std.specs.Prelude.{◌≡◌};
+ghost use Rattle.dm_drivers.specs.declared.expanded.functions.Function.TheVariants.{Directory, HandleName};
 ghost use Rattle.dm_drivers.specs.expanded.Caller.{caller, succeeded};
 ghost use Rattle.dm_drivers.specs.expanded.Functions.{call, directory, handle_name};
 
@@ -36,7 +37,7 @@ fn set_name(cpu: &mut Cpu, ems: &mut Ems, space: &Space)
 /// another value.
 #[tactic(auto, unfolding(crate::specs::expanded::Functions::call, crate::specs::expanded::Functions::handle_name))]
 pub(crate) fn handle_name(cpu: &mut Cpu, ems: &mut Ems, space: &mut Space)
-    ensures { caller cpu.new ems.new space.new.memory ≡ call (caller cpu.old ems.old space.old.memory) 0x53 }
+    ensures { caller cpu.new ems.new space.new.memory ≡ call (caller cpu.old ems.old space.old.memory) HandleName }
 {
     match cpu.byte(ByteRegister::Al) {
         0 => get_name(cpu, ems, space),
@@ -78,7 +79,7 @@ fn tell_handles(cpu: &mut Cpu)
 /// all handles (2); status 8Fh for another value.
 #[tactic(auto, unfolding(crate::specs::expanded::Functions::call, crate::specs::expanded::Functions::directory))]
 pub(crate) fn directory(cpu: &mut Cpu, ems: &Ems, space: &mut Space)
-    ensures { caller cpu.new ems.now space.new.memory ≡ call (caller cpu.old ems.now space.old.memory) 0x54 }
+    ensures { caller cpu.new ems.now space.new.memory ≡ call (caller cpu.old ems.now space.old.memory) Directory }
 {
     match cpu.byte(ByteRegister::Al) {
         0 => list_names(cpu, ems, space),

@@ -4,6 +4,7 @@
 ghost use Rattle.std.specs.Prelude.{◌≡◌};
 ghost use Rattle.dm_ems.specs.Tables.{expanded};
 ghost use Rattle.dm_ems.specs.Consistent.{IsConsistent};
+ghost use Rattle.dm_drivers.specs.declared.expanded.functions.Function.TheVariants.{Regions};
 ghost use Rattle.dm_drivers.specs.expanded.Caller.{caller};
 ghost use Rattle.dm_drivers.specs.expanded.Functions.{call, regions};
 
@@ -39,7 +40,7 @@ fn exchange_region(cpu: &mut Cpu, ems: &Ems, space: &mut Space)
 #[tactic(auto, unfolding(crate::specs::expanded::Functions::call, crate::specs::expanded::Functions::regions))]
 pub(crate) fn move_or_exchange(cpu: &mut Cpu, ems: &Ems, space: &mut Space)
     requires { IsConsistent (expanded ems.now space.old.memory) }
-    ensures { caller cpu.new ems.now space.new.memory ≡ call (caller cpu.old ems.now space.old.memory) 0x57 }
+    ensures { caller cpu.new ems.now space.new.memory ≡ call (caller cpu.old ems.now space.old.memory) Regions }
 {
     match cpu.byte(ByteRegister::Al) {
         0 => move_region(cpu, ems, space),

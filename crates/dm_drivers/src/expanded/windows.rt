@@ -4,6 +4,7 @@
 ghost use Rattle.std.specs.Prelude.{◌≡◌};
 ghost use Rattle.dm_ems.specs.Tables.{expanded};
 ghost use Rattle.dm_ems.specs.Consistent.{IsConsistent};
+ghost use Rattle.dm_drivers.specs.declared.expanded.functions.Function.TheVariants.{MapMany, MapPage, RestoreMap, SaveMap, WholeMap};
 ghost use Rattle.dm_drivers.specs.expanded.Caller.{caller};
 ghost use Rattle.dm_drivers.specs.expanded.Functions.{call};
 
@@ -17,7 +18,7 @@ use dm_space::Space;
 #[tactic(auto, unfolding(crate::specs::expanded::Functions::call))]
 pub(crate) fn map_page(cpu: &mut Cpu, ems: &Ems, space: &mut Space)
     requires { IsConsistent (expanded ems.now space.old.memory) }
-    ensures { caller cpu.new ems.now space.new.memory ≡ call (caller cpu.old ems.now space.old.memory) 0x44 }
+    ensures { caller cpu.new ems.now space.new.memory ≡ call (caller cpu.old ems.now space.old.memory) MapPage }
 {
     let res = ems.map_page(space, cpu.byte(ByteRegister::Al), cpu.bx, cpu.dx);
     settle(cpu, res);
@@ -26,7 +27,7 @@ pub(crate) fn map_page(cpu: &mut Cpu, ems: &Ems, space: &mut Space)
 /// 47h: saves, under the handle in DX, what the four windows show.
 #[tactic(auto, unfolding(crate::specs::expanded::Functions::call))]
 pub(crate) fn save_map(cpu: &mut Cpu, ems: &mut Ems, space: &Space)
-    ensures { caller cpu.new ems.new space.now.memory ≡ call (caller cpu.old ems.old space.now.memory) 0x47 }
+    ensures { caller cpu.new ems.new space.now.memory ≡ call (caller cpu.old ems.old space.now.memory) SaveMap }
 {
     let res = ems.save_map(space, cpu.dx);
     settle(cpu, res);
@@ -36,7 +37,7 @@ pub(crate) fn save_map(cpu: &mut Cpu, ems: &mut Ems, space: &Space)
 #[tactic(auto, unfolding(crate::specs::expanded::Functions::call))]
 pub(crate) fn restore_map(cpu: &mut Cpu, ems: &mut Ems, space: &mut Space)
     requires { IsConsistent (expanded ems.old space.old.memory) }
-    ensures { caller cpu.new ems.new space.new.memory ≡ call (caller cpu.old ems.old space.old.memory) 0x48 }
+    ensures { caller cpu.new ems.new space.new.memory ≡ call (caller cpu.old ems.old space.old.memory) RestoreMap }
 {
     let res = ems.restore_map(space, cpu.dx);
     settle(cpu, res);
@@ -48,7 +49,7 @@ pub(crate) fn restore_map(cpu: &mut Cpu, ems: &mut Ems, space: &mut Space)
 #[tactic(auto, unfolding(crate::specs::expanded::Functions::call))]
 pub(crate) fn whole_map(cpu: &mut Cpu, ems: &Ems, space: &mut Space)
     requires { IsConsistent (expanded ems.now space.old.memory) }
-    ensures { caller cpu.new ems.now space.new.memory ≡ call (caller cpu.old ems.now space.old.memory) 0x4E }
+    ensures { caller cpu.new ems.now space.new.memory ≡ call (caller cpu.old ems.now space.old.memory) WholeMap }
 {
     let mode = cpu.byte(ByteRegister::Al);
     let res = dm_ems_move::whole_map(ems, space, mode, cpu.es, cpu.di, cpu.ds, cpu.si);
@@ -60,7 +61,7 @@ pub(crate) fn whole_map(cpu: &mut Cpu, ems: &Ems, space: &mut Space)
 #[tactic(auto, unfolding(crate::specs::expanded::Functions::call))]
 pub(crate) fn map_many(cpu: &mut Cpu, ems: &Ems, space: &mut Space)
     requires { IsConsistent (expanded ems.now space.old.memory) }
-    ensures { caller cpu.new ems.now space.new.memory ≡ call (caller cpu.old ems.now space.old.memory) 0x50 }
+    ensures { caller cpu.new ems.now space.new.memory ≡ call (caller cpu.old ems.now space.old.memory) MapMany }
 {
     let mode = cpu.byte(ByteRegister::Al);
     let res = dm_ems_move::map_many(ems, space, mode, cpu.dx, cpu.cx, cpu.ds, cpu.si);

@@ -1,6 +1,7 @@
 //! The driver's version and the high memory area (XMS 3.0, functions 00h to 02h). Registers that are not named stay.
 //! (`call false` in their contracts: `upper` matters to 10h to 12h alone.)
 ghost use Rattle.std.specs.Prelude.{◌≡◌, false};
+ghost use Rattle.dm_drivers.specs.declared.extended.functions.Function.TheVariants.{ReleaseArea, TakeArea};
 ghost use Rattle.dm_drivers.specs.extended.Caller.{caller};
 ghost use Rattle.dm_drivers.specs.extended.Functions.{call};
 
@@ -27,7 +28,7 @@ pub(crate) fn tell_version(cpu: &mut Cpu)
 /// 01h: takes the high memory area, and sets AX to 1; if it is taken already, AX to 0 and BL to 91h.
 #[tactic(auto, unfolding(crate::specs::extended::Functions::call))]
 pub(crate) fn take_area(cpu: &mut Cpu, xms: &mut Xms, space: &Space)
-    ensures { caller cpu.new xms.new space.now.memory ≡ call false (caller cpu.old xms.old space.now.memory) 0x01 }
+    ensures { caller cpu.new xms.new space.now.memory ≡ call false (caller cpu.old xms.old space.now.memory) TakeArea }
 {
     let res = xms.take_area();
     settle(cpu, res);
@@ -36,7 +37,7 @@ pub(crate) fn take_area(cpu: &mut Cpu, xms: &mut Xms, space: &Space)
 /// 02h: releases the high memory area, and sets AX to 1; if it is not taken, AX to 0 and BL to 93h.
 #[tactic(auto, unfolding(crate::specs::extended::Functions::call))]
 pub(crate) fn release_area(cpu: &mut Cpu, xms: &mut Xms, space: &Space)
-    ensures { caller cpu.new xms.new space.now.memory ≡ call false (caller cpu.old xms.old space.now.memory) 0x02 }
+    ensures { caller cpu.new xms.new space.now.memory ≡ call false (caller cpu.old xms.old space.now.memory) ReleaseArea }
 {
     let res = xms.release_area();
     settle(cpu, res);

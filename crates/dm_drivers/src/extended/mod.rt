@@ -10,4 +10,4 @@ mod line;
 mod uppers;
 
 pub use at_once::extended_memory_call_at_once;
-pub use functions::extended_memory_call;
+pub use functions::{Function, extended_memory_call, function_of};

@@ -2,6 +2,7 @@
 //! driver has none: 10h fails with B1h and sets DX to 0, 11h and 12h fail with B2h. Each function sets AX to 1, or
 //! after an error AX to 0 and BL to its code, and then the tables stay. Memory, and registers that are not named, stay.
 ghost use Rattle.std.specs.Prelude.{◌≡◌};
+ghost use Rattle.dm_drivers.specs.declared.extended.functions.Function.TheVariants.{ReleaseUpper, RequestUpper, ResizeUpper};
 ghost use Rattle.dm_drivers.specs.extended.Caller.{caller};
 ghost use Rattle.dm_drivers.specs.extended.Functions.{call};
 
@@ -14,7 +15,7 @@ use dm_xms::{UpperRefusal, Xms};
 /// B0h DX is the number of paragraphs of the largest gap, after B1h 0.
 #[tactic(auto, unfolding(crate::specs::extended::Functions::call))]
 pub(crate) fn request(cpu: &mut Cpu, xms: &mut Xms, space: &Space, upper: bool)
-    ensures { caller cpu.new xms.new space.now.memory ≡ call upper (caller cpu.old xms.old space.now.memory) 0x10 }
+    ensures { caller cpu.new xms.new space.now.memory ≡ call upper (caller cpu.old xms.old space.now.memory) RequestUpper }
 {
     let res = if upper {
         Err(UpperRefusal::NoneFree)
@@ -27,7 +28,7 @@ pub(crate) fn request(cpu: &mut Cpu, xms: &mut Xms, space: &Space, upper: bool)
 /// 11h: frees the block that begins at segment DX.
 #[tactic(auto, unfolding(crate::specs::extended::Functions::call))]
 pub(crate) fn release(cpu: &mut Cpu, xms: &mut Xms, space: &Space, upper: bool)
-    ensures { caller cpu.new xms.new space.now.memory ≡ call upper (caller cpu.old xms.old space.now.memory) 0x11 }
+    ensures { caller cpu.new xms.new space.now.memory ≡ call upper (caller cpu.old xms.old space.now.memory) ReleaseUpper }
 {
     let res = if upper {
         Err(UpperRefusal::Unknown)
@@ -41,7 +42,7 @@ pub(crate) fn release(cpu: &mut Cpu, xms: &mut Xms, space: &Space, upper: bool)
 /// B0h) the block stays, and DX is the number of paragraphs that it can have there.
 #[tactic(auto, unfolding(crate::specs::extended::Functions::call))]
 pub(crate) fn resize(cpu: &mut Cpu, xms: &mut Xms, space: &Space, upper: bool)
-    ensures { caller cpu.new xms.new space.now.memory ≡ call upper (caller cpu.old xms.old space.now.memory) 0x12 }
+    ensures { caller cpu.new xms.new space.now.memory ≡ call upper (caller cpu.old xms.old space.now.memory) ResizeUpper }
 {
     let res = if upper {
         Err(UpperRefusal::Unknown)

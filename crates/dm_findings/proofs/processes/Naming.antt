@@ -4,26 +4,26 @@ use Rattle.std.specs.Prelude.{◌==◌, not}
 use Rattle.std.proofs.lemmas.Bool.Decides.{nat_tests}
 use Rattle.dm_space.specs.Memory.{Memory, peek16}
 use Rattle.dm_space.specs.EightBytes.{byte_after}
-use Rattle.dm_findings.specs.processes.Processes.{bytes_after, zero_word}
+use Rattle.dm_findings.specs.processes.Processes.{bytes_after, first_zero_word}
 
 -- ---- the end of the variables
 
-pub zero_here : (m : Memory) (segment at n : ℕ) → 0 < n → peek16 m segment at ≡ 0 → zero_word m segment at n ≡ at
-unfolding zero_word
+pub zero_here : (m : Memory) (segment at n : ℕ) → 0 < n → peek16 m segment at ≡ 0 → first_zero_word m segment at n ≡ at
+unfolding first_zero_word
 zero_here m segment at zero some e = absurd (omega arith)
 zero_here m segment at (suc n) some e = rw e refl
 
-next_by : (m : Memory) (segment at n : ℕ) → (peek16 m segment at == 0) ≡ false → zero_word m segment at (suc n) ≡ zero_word m segment (at + 1) n
-unfolding zero_word
+next_by : (m : Memory) (segment at n : ℕ) → (peek16 m segment at == 0) ≡ false → first_zero_word m segment at (suc n) ≡ first_zero_word m segment (at + 1) n
+unfolding first_zero_word
 next_by m segment at n e = rw e refl
 
-pub zero_later : (m : Memory) (segment at n k : ℕ) → n ≡ suc k → (peek16 m segment at ≡ 0 → ⊥) → zero_word m segment at n ≡ zero_word m segment (at + 1) k
+pub zero_later : (m : Memory) (segment at n k : ℕ) → n ≡ suc k → (peek16 m segment at ≡ 0 → ⊥) → first_zero_word m segment at n ≡ first_zero_word m segment (at + 1) k
 zero_later m segment at n k e other =
     let not_zero : (peek16 m segment at == 0) ≡ false = grind (arith, nat_tests, other) in
-    ap (λ (i : ℕ). zero_word m segment at i) e ∙ next_by m segment at k not_zero
+    ap (λ (i : ℕ). first_zero_word m segment at i) e ∙ next_by m segment at k not_zero
 
-pub zero_nowhere : (m : Memory) (segment at : ℕ) → zero_word m segment at 0 ≡ at
-unfolding zero_word
+pub zero_nowhere : (m : Memory) (segment at : ℕ) → first_zero_word m segment at 0 ≡ at
+unfolding first_zero_word
 zero_nowhere m segment at = refl
 
 -- ---- the bytes of the name

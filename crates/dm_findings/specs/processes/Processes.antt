@@ -10,13 +10,13 @@ use Rattle.dm_findings.specs.declared.processes.process.Process.{Process}
 -- ---- names
 
 -- the first of n offsets from `at` on where the word is zero; the offset behind them if there is none
-unfoldable pub zero_word : Memory → ℕ → ℕ → ℕ → ℕ
-zero_word m segment at zero = at
-zero_word m segment at (suc n) = if peek16 m segment at == 0 then at else zero_word m segment (at + 1) n
+unfoldable pub first_zero_word : Memory → ℕ → ℕ → ℕ → ℕ
+first_zero_word m segment at zero = at
+first_zero_word m segment at (suc n) = if peek16 m segment at == 0 then at else first_zero_word m segment (at + 1) n
 
 -- the offset of the two zeros behind the variables of the environment at a segment, at most 8000h
 abbrev pub end_of_variables : Memory → ℕ → ℕ
-end_of_variables m segment = zero_word m segment 0 0x8000
+end_of_variables m segment = first_zero_word m segment 0 0x8000
 
 -- the first n bytes from segment:offset on
 unfoldable pub bytes_after : Memory → ℕ → ℕ → ℕ → List ℕ

@@ -2,7 +2,7 @@
 use Rattle.std.specs.Prelude.{◌≡◌, ℕ, ◌+◌, ◌≤◌, nat_le, ◌&&◌, Bool, List, [], ◌∷◌, ◌++◌, length, take, drop, All}
 use Rattle.dm_services.specs.state.State.{HasProgram}
 use Rattle.dm_history.specs.declared.copies.Kept.{Kept}
-use Rattle.dm_history.specs.Becomes.{Becomes}
+use Rattle.dm_history.specs.Becomes.{BecomesBy}
 use Rattle.dm_history.specs.Pasts.{Past}
 
 -- whether the copy was made at a step or before it, with at most `count` edits
@@ -12,7 +12,7 @@ is_no_later step count c = nat_le c.machine.steps step && nat_le c.edits count
 -- the history has been in the copy's state, when the first edits had been made and the others were to come
 pub record IsOnTheWay (p : Past) (c : Kept) : Type 0 where
   pub made : c.edits ≤ length p.edits
-  pub becomes : Becomes p.origin (take c.edits p.edits) c.machine
+  pub becomes : BecomesBy p.origin (take c.edits p.edits) c.machine
   pub next : All (λ e. c.machine.steps ≤ e.step) (drop c.edits p.edits)
   pub before : c.machine.steps ≤ p.machine.steps
   pub loaded : HasProgram c.machine
@@ -29,7 +29,7 @@ pub data MayGain (old : List Kept) (copy : Kept) (new : List Kept) : Type 0 wher
 
 -- the machine's state is the one that the origin becomes, and each copy is on the way
 pub record IsHistory (p : Past) (copies : List Kept) : Type 0 where
-  pub becomes : Becomes p.origin p.edits p.machine
+  pub becomes : BecomesBy p.origin p.edits p.machine
   pub origin : HasProgram p.origin
   pub loaded : HasProgram p.machine
   pub ways : All (IsOnTheWay p) copies

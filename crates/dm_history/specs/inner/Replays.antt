@@ -6,7 +6,7 @@ use Rattle.dm_services.specs.state.State.{State, HasProgram}
 use Rattle.dm_machine.specs.Run.{IsRun}
 use Rattle.dm_history.specs.declared.change.Edit.{Edit}
 use Rattle.dm_history.specs.Edits.{edits_to}
-use Rattle.dm_history.specs.Becomes.{Becomes}
+use Rattle.dm_history.specs.Becomes.{BecomesBy}
 use Rattle.dm_history.specs.Pasts.{Past}
 
 -- a run from s up to a count of steps, in which no allocation fails, leaves t
@@ -26,18 +26,18 @@ pub record LeadsBeyond (s : State) (es : List Edit) (step : ℕ) : Type 0 where
   pub others : List Edit
   pub after : AreAfter step others
   pub present : State
-  pub becomes : Becomes s (es ++ others) present
+  pub becomes : BecomesBy s (es ++ others) present
   pub later : step < present.steps
 
 -- from s, by these edits, t is reached after so many steps
 pub record IsReplayed (s : State) (es : List Edit) (step : ℕ) (t : State) : Type 0 where
-  pub becomes : Becomes s es t
+  pub becomes : BecomesBy s es t
   pub steps : t.steps ≡ step
 
 -- s is a state of the history p, with its first `made` edits done and the others to come, no later than a step
 pub record IsBase (p : Past) (step : ℕ) (s : State) (made : ℕ) : Type 0 where
   pub some : made ≤ length (edits_to step p.edits)
   pub before : s.steps ≤ step
-  pub leads : Becomes p.origin (take made p.edits) s
-  pub on : Becomes s (drop made p.edits) p.machine
+  pub leads : BecomesBy p.origin (take made p.edits) s
+  pub on : BecomesBy s (drop made p.edits) p.machine
   pub loaded : HasProgram s

@@ -27,7 +27,7 @@ use Rattle.dm_ins.specs.declared.table.OperandKind.{OperandKind}
 use Rattle.dm_ins.specs.declared.table.OperandKind.TheVariants as is
 use Rattle.dm_ins.specs.declared.table.OpcodeEntry.{OpcodeEntry}
 use Rattle.dm_ins.specs.declared.table.OpcodeEntry.TheVariants.{Unlisted, Plain, Group, Second}
-use Rattle.dm_ins.specs.Registers.{word_number, byte_number, segment_number}
+use Rattle.dm_ins.specs.Registers.{word_number, byte_register_number, segment_number}
 use Rattle.dm_ins.specs.Table.{entry_of, member_of}
 use Rattle.dm_ins.specs.Spelling.{word_bytes, sign_extended}
 use Rattle.dm_ins.specs.Order.{before}
@@ -59,7 +59,7 @@ same_width _ _ = false
 
 -- the number of the register that an operand is, None if it is no register of the width
 abbrev pub numbered : Width → Operand → Option ℕ
-numbered Byte (operand.ByteRegister r) = Some (byte_number r)
+numbered Byte (operand.ByteRegister r) = Some (byte_register_number r)
 numbered Word (operand.WordRegister r) = Some (word_number r)
 numbered _ _ = None
 
@@ -109,7 +109,7 @@ demand_of is.Far (operand.FarTarget n s) = Some (asks_data (data_is.Words n s))
 demand_of is.Far _ = None
 demand_of (is.Escape r) (operand.ByteValue n) = if n / 8 == r % 8 then Some (asks_register (n % 8)) else None
 demand_of (is.Escape r) _ = None
-demand_of (is.Byte r) (operand.ByteRegister s) = if byte_number r == byte_number s then Some (asks_data data_is.Nothing) else None
+demand_of (is.Byte r) (operand.ByteRegister s) = if byte_register_number r == byte_register_number s then Some (asks_data data_is.Nothing) else None
 demand_of (is.Byte r) _ = None
 demand_of (is.Word r) (operand.WordRegister s) = if word_number r == word_number s then Some (asks_data data_is.Nothing) else None
 demand_of (is.Word r) _ = None

@@ -13,7 +13,7 @@ use Rattle.dm_arena.proofs.Allocating.{fits_size, in_middle}
 use Rattle.dm_arena.specs.declared.fit.Fit.TheVariants.{First}
 use Rattle.dm_laws.proofs.arena.Runs.{absorb-cover, absorb-segment, all_free, paragraphs-absorb}
 use Rattle.dm_laws.specs.arena.Conservation.{Allocated, AllocationConservesBlocks, FreeingConservesBlocks, Resized, ResizingConservesBlocks}
-use Rattle.dm_laws.specs.arena.Paragraphs.{paragraphs}
+use Rattle.dm_laws.specs.arena.Paragraphs.{paragraphs_taken}
 use Rattle.dm_laws.proofs.arena.Within.{in_either, in_left, in_replaced, in_right, paragraphs-replaced}
 use Rattle.dm_laws.proofs.arena.Joins.{and-left, free_in_join, kept_in_join, not-both, owned_in_join, paragraphs-join, part-of}
 use Rattle.dm_laws.proofs.arena.Cuts.{IsCut, cut-is, cut-others, cut-paragraphs, cut-there, cut-within, taken}
@@ -39,7 +39,7 @@ module _ (up : Bool) (S T : Memory) (st : Strategy) (n owner : ℕ) (t : Taking 
         block = new;
         spelled = t.arena;
         becomes = becomes_arena S T (with_cut t owner) b;
-        end = paragraphs-replaced t.before C (t.block ∷ []) t.after (cut-paragraphs n owner t.block new C cut) ∙ ap paragraphs (sym t.joined) ∙ paragraphs-join up t.list;
+        end = paragraphs-replaced t.before C (t.block ∷ []) t.after (cut-paragraphs n owner t.block new C cut) ∙ ap paragraphs_taken (sym t.joined) ∙ paragraphs-join up t.list;
         there = in_right t.before (C ++ t.after) new (in_left C t.after new (cut-there n owner t.block new C cut));
         at = sym e;
         owned = refl;
@@ -80,7 +80,7 @@ freeing_conserves up S T segment x =
       block = f.block;
       spelled = f.arena;
       becomes = becomes_arena S T _ x.1;
-      end = paragraphs-replaced f.before (freed f.block ∷ []) (f.block ∷ []) f.after refl ∙ ap paragraphs (sym f.is);
+      end = paragraphs-replaced f.before (freed f.block ∷ []) (f.block ∷ []) f.after refl ∙ ap paragraphs_taken (sym f.is);
       there = subst (F f.block) (sym f.is) (in_middle f.before f.block f.after);
       at = f.at;
       free = in_middle f.before (freed f.block) f.after;
@@ -112,7 +112,7 @@ module _ (up : Bool) (S T : Memory) (segment n : ℕ) (r : BlockRunAt up S first
         block = r.block;
         spelled = r.arena;
         becomes = becomes_arena S T (resized r n) b;
-        end = paragraphs-replaced r.before C (r.block ∷ r.run) r.after (cut-paragraphs n r.block.owner whole new C resized_cut ∙ paragraphs-absorb r.block r.run) ∙ ap paragraphs (sym r.is);
+        end = paragraphs-replaced r.before C (r.block ∷ r.run) r.after (cut-paragraphs n r.block.owner whole new C resized_cut ∙ paragraphs-absorb r.block r.run) ∙ ap paragraphs_taken (sym r.is);
         there = subst (F r.block) (sym r.is) (in_middle r.before r.block (r.run ++ r.after));
         at = r.at;
         sized = subst G same (in_right r.before (C ++ r.after) new (in_left C r.after new (cut-there n r.block.owner whole new C resized_cut)));

@@ -5,7 +5,7 @@ use Rattle.dm_blocks.specs.declared.header.Header.{Header}
 use Rattle.dm_arena.specs.declared.fit.Fit.{Fit}
 use Rattle.dm_arena.specs.declared.fit.Fit.TheVariants.{First, Best, Last}
 use Rattle.dm_arena.specs.Blocks.{IsIn, cut_block, cut_high, cut_low, taken_segment}
-use Rattle.dm_laws.specs.arena.Paragraphs.{IsPartOf, paragraphs}
+use Rattle.dm_laws.specs.arena.Paragraphs.{IsPartOf, paragraphs_taken}
 
 -- the headers C are those of b cut: `new` with n paragraphs, alone, below or above the free rest of b
 pub record IsCut (n owner : ℕ) (b new : Header) (C : List Header) : Type 0 where
@@ -80,12 +80,12 @@ module _ (n owner : ℕ) (b new : Header) (C : List Header) (c : IsCut n owner b
         ]
       ]
 
-  pub cut-paragraphs : paragraphs C ≡ paragraphs (b ∷ [])
+  pub cut-paragraphs : paragraphs_taken C ≡ paragraphs_taken (b ∷ [])
   cut-paragraphs =
       let s = c.sized in
       elim c.shape [
-        | inl x ↦ ap paragraphs x.0 ∙ (let z = x.2 in omega arith)
-        | inr y ↦ elim y [ inl x ↦ ap paragraphs x.1 ∙ (let z = x.5 in omega arith) | inr x ↦ ap paragraphs x.1 ∙ (let z = x.5 in omega arith) ]
+        | inl x ↦ ap paragraphs_taken x.0 ∙ (let z = x.2 in omega arith)
+        | inr y ↦ elim y [ inl x ↦ ap paragraphs_taken x.1 ∙ (let z = x.5 in omega arith) | inr x ↦ ap paragraphs_taken x.1 ∙ (let z = x.5 in omega arith) ]
       ]
 
   pub cut-within : (p : ℕ) → IsPartOf p new → IsPartOf p b

@@ -7,7 +7,7 @@ use Rattle.dm_blocks.specs.Chain.{Spells, is_free, is_link, next}
 use Rattle.dm_arena.specs.Blocks.{IsIn, join, join_after, merge}
 use Rattle.dm_arena.specs.inner.Walks.{Fills}
 use Rattle.dm_arena.proofs.Ends.{bool_cases, fills_of, join_after-cond}
-use Rattle.dm_laws.specs.arena.Paragraphs.{IsInFree, IsPartOf, paragraphs}
+use Rattle.dm_laws.specs.arena.Paragraphs.{IsInFree, IsPartOf, paragraphs_taken}
 use Rattle.dm_laws.proofs.arena.Within.{below_or}
 
 pub and-left : (x y : Bool) → x && y ≡ true → x ≡ true
@@ -31,14 +31,14 @@ module _ (up : Bool) where
   free-same : (b c : Header) → b ≡ c → is_free up b ≡ is_free up c
   free-same b c e = ap (is_free up) e
 
-  pub paragraphs-join_after : (b : Header) (L : List Header) → paragraphs (join_after up b L) ≡ paragraphs (b ∷ L)
+  pub paragraphs-join_after : (b : Header) (L : List Header) → paragraphs_taken (join_after up b L) ≡ paragraphs_taken (b ∷ L)
   paragraphs-join_after b [] = refl
   paragraphs-join_after b (c ∷ L) = elim (bool_cases (is_free up b && is_free up c)) [
-    | inl e ↦ ap paragraphs (join_after-cond up b c L true e) ∙ (let x = paragraphs-join_after (merge b c) L in omega arith)
-    | inr e ↦ ap paragraphs (join_after-cond up b c L false e) ∙ (let x = paragraphs-join_after c L in omega arith)
+    | inl e ↦ ap paragraphs_taken (join_after-cond up b c L true e) ∙ (let x = paragraphs-join_after (merge b c) L in omega arith)
+    | inr e ↦ ap paragraphs_taken (join_after-cond up b c L false e) ∙ (let x = paragraphs-join_after c L in omega arith)
   ]
 
-  pub paragraphs-join : (L : List Header) → paragraphs (join up L) ≡ paragraphs L
+  pub paragraphs-join : (L : List Header) → paragraphs_taken (join up L) ≡ paragraphs_taken L
   paragraphs-join [] = refl
   paragraphs-join (b ∷ L) = paragraphs-join_after b L
 

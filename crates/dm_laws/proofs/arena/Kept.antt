@@ -9,10 +9,10 @@ use Rattle.dm_arena.specs.Blocks.{IsIn}
 use Rattle.dm_arena.specs.inner.Walks.{Fills}
 use Rattle.dm_arena.proofs.Ends.{fills_above, fills_below, fills_ends, fills_of}
 use Rattle.dm_laws.specs.arena.Contents.{CallsKeepContents, KeepsContents}
-use Rattle.dm_laws.specs.arena.Paragraphs.{paragraphs}
+use Rattle.dm_laws.specs.arena.Paragraphs.{paragraphs_taken}
 use Rattle.dm_laws.proofs.arena.Conserved.{becomes_arena}
 
-pub fills-length : (h t : ℕ) (L : List Header) → Fills h L t → h + paragraphs L ≡ t
+pub fills-length : (h t : ℕ) (L : List Header) → Fills h L t → h + paragraphs_taken L ≡ t
 fills-length h t [] f = (let e : h ≡ t = f in omega arith)
 fills-length h t (b ∷ L) f = (let e = f.0 in let x = fills-length (next b) t L f.1 in omega arith)
 
@@ -34,7 +34,7 @@ within h t [] f b i = absurd i
 within h t (c ∷ L) f b (inl e) = (let x = ap next e in let y = fills_ends (next c) t L f.1 in omega arith)
 within h t (c ∷ L) f b (inr i) = within (next c) t L f.1 b i
 
-becomes-keeps : (S T : Memory) (L : List Header) → Becomes S first_header L T → first_header + paragraphs L ≤ 0xA000 → KeepsContents L S T
+becomes-keeps : (S T : Memory) (L : List Header) → Becomes S first_header L T → first_header + paragraphs_taken L ≤ 0xA000 → KeepsContents L S T
 becomes-keeps S T L x low b a i from to =
     let r = fills_of T first_header L x.chain.1 in
     let t = fills-length first_header r.0 L r.1 in
@@ -46,7 +46,7 @@ becomes-keeps S T L x low b a i from to =
     ) in
     peek-place T a ∙ ap (byte_at T) (place-shaped S T x.differs.shape a) ∙ x.differs.kept (place S a) apart ∙ sym (peek-place S a)
 
-keeps-at : (S T : Memory) (L new : List Header) → Becomes S first_header L T → IsArena T first_header new → first_header + paragraphs new ≤ 0xA000 → KeepsContents new S T
+keeps-at : (S T : Memory) (L new : List Header) → Becomes S first_header L T → IsArena T first_header new → first_header + paragraphs_taken new ≤ 0xA000 → KeepsContents new S T
 keeps-at S T L new x a low =
     let F : List Header → Type 0 = λ X. Becomes S first_header X T in
     becomes-keeps S T new (subst F (arena_unique T first_header L new (becomes_arena S T L x) a) x) low

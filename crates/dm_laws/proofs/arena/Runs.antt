@@ -5,18 +5,18 @@ use Rattle.dm_blocks.specs.declared.header.Header.{Header}
 use Rattle.dm_blocks.specs.Chain.{Spells, is_free, next}
 use Rattle.dm_arena.specs.Blocks.{IsIn, merge}
 use Rattle.dm_arena.specs.Owned.{AllFree, absorb}
-use Rattle.dm_laws.specs.arena.Paragraphs.{IsInFree, IsPartOf, paragraphs}
+use Rattle.dm_laws.specs.arena.Paragraphs.{IsInFree, IsPartOf, paragraphs_taken}
 use Rattle.dm_laws.proofs.arena.Within.{below_or}
 
 pub absorb-segment : (b : Header) (R : List Header) → (absorb b R).segment ≡ b.segment
 absorb-segment b [] = refl
 absorb-segment b (c ∷ R) = absorb-segment (merge b c) R
 
-absorb-size : (b : Header) (R : List Header) → (absorb b R).size ≡ b.size + paragraphs R
+absorb-size : (b : Header) (R : List Header) → (absorb b R).size ≡ b.size + paragraphs_taken R
 absorb-size b [] = omega arith
 absorb-size b (c ∷ R) = let x = absorb-size (merge b c) R in omega arith
 
-pub paragraphs-absorb : (b : Header) (R : List Header) → paragraphs (absorb b R ∷ []) ≡ paragraphs (b ∷ R)
+pub paragraphs-absorb : (b : Header) (R : List Header) → paragraphs_taken (absorb b R ∷ []) ≡ paragraphs_taken (b ∷ R)
 paragraphs-absorb b R = let x = absorb-size b R in omega arith
 
 pub all_free : (up : Bool) (R : List Header) (d : Header) → AllFree up R → IsIn d R → is_free up d ≡ true

@@ -2,7 +2,7 @@
 use Rattle.std.proofs.Common.{◌≡◌, ℕ, ◌+◌, ◌<◌, ◌≤◌, List, [], ◌∷◌, ◌++◌, ◌⊎◌, inl, inr, arith}
 use Rattle.dm_blocks.specs.declared.header.Header.{Header}
 use Rattle.dm_arena.specs.Blocks.{IsIn}
-use Rattle.dm_laws.specs.arena.Paragraphs.{paragraphs}
+use Rattle.dm_laws.specs.arena.Paragraphs.{paragraphs_taken}
 
 pub in_left : (P Q : List Header) (b : Header) → IsIn b P → IsIn b (P ++ Q)
 in_left [] Q b i = absurd i
@@ -25,11 +25,11 @@ in_replaced P B C Q b f i = elim (in_either P (C ++ Q) b i) [
   | inr r ↦ elim (in_either C Q b r) [ inl c ↦ in_right P (B ++ Q) b (in_left B Q b (f c)) | inr q ↦ in_right P (B ++ Q) b (in_right B Q b q) ]
 ]
 
-pub paragraphs-append : (P Q : List Header) → paragraphs (P ++ Q) ≡ paragraphs P + paragraphs Q
+pub paragraphs-append : (P Q : List Header) → paragraphs_taken (P ++ Q) ≡ paragraphs_taken P + paragraphs_taken Q
 paragraphs-append [] Q = omega arith
 paragraphs-append (p ∷ P) Q = let x = paragraphs-append P Q in omega arith
 
-pub paragraphs-replaced : (P B C Q : List Header) → paragraphs B ≡ paragraphs C → paragraphs (P ++ (B ++ Q)) ≡ paragraphs (P ++ (C ++ Q))
+pub paragraphs-replaced : (P B C Q : List Header) → paragraphs_taken B ≡ paragraphs_taken C → paragraphs_taken (P ++ (B ++ Q)) ≡ paragraphs_taken (P ++ (C ++ Q))
 paragraphs-replaced P B C Q e =
     let x = paragraphs-append P (B ++ Q) in
     let y = paragraphs-append P (C ++ Q) in

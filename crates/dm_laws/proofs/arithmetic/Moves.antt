@@ -7,10 +7,10 @@ use Rattle.dm_alu.specs.declared.shifts.ShiftOperation.{ShiftOperation}
 use Rattle.dm_alu.specs.declared.shifts.ShiftOperation.TheVariants.{ArithmeticRight, Left, LogicalRight, RotateLeft, RotateRight, RotateThroughCarryLeft, RotateThroughCarryRight}
 use Rattle.dm_alu.specs.declared.width.Width.{Width}
 use Rattle.dm_alu.specs.Shifts.{flags_after_shift, flags_of_move, moves, one_move, overflow_after_move, shift_value}
-use Rattle.dm_laws.specs.arithmetic.Shifts.{Operand, ShiftsAddUp, turned, without_overflow}
+use Rattle.dm_laws.specs.arithmetic.Shifts.{Shiftable, ShiftsAddUp, turned, without_overflow}
 
 -- what a shift starts from
-abbrev pub start : Operand → Shifted
+abbrev pub start : Shiftable → Shifted
 start x = record { value = x.value; carry = x.flags.carry }
 
 pub moves-add : (op : ShiftOperation) (w : Width) (a b : ℕ) (m : Shifted) → moves op w (a + b) m ≡ moves op w b (moves op w a m)
@@ -32,12 +32,12 @@ pub moves-first : (op : ShiftOperation) (w : Width) (k : ℕ) (m : Shifted) → 
 moves-first op w zero m = moves-last op w 0 m ∙ ap (one_move op w) (moves-zero op w m) ∙ sym (moves-zero op w (one_move op w m))
 moves-first op w (suc k) m = moves-last op w (suc k) m ∙ ap (one_move op w) (moves-first op w k m) ∙ sym (moves-last op w k (one_move op w m))
 
-pub value-is : (op : ShiftOperation) (w : Width) (count : ℕ) (x : Operand) → (turned op w count x).value ≡ (moves op w count (start x)).value
+pub value-is : (op : ShiftOperation) (w : Width) (count : ℕ) (x : Shiftable) → (turned op w count x).value ≡ (moves op w count (start x)).value
 unfolding shift_value
 value-is op w count x = refl
 
 -- no bit at all
-pub turned-zero : (op : ShiftOperation) (w : Width) (x : Operand) → turned op w 0 x ≡ x
+pub turned-zero : (op : ShiftOperation) (w : Width) (x : Shiftable) → turned op w 0 x ≡ x
 unfolding shift_value flags_after_shift moves
 turned-zero op w x = refl
 
@@ -52,18 +52,18 @@ some-flags : (op : ShiftOperation) (w : Width) (m : Shifted) (f : Flags) (o : Bo
 some-flags op w m f o true e = absurd (let z = e in cc)
 some-flags op w m f o false e = refl
 
-pub turned-some : (op : ShiftOperation) (w : Width) (k : ℕ) (x : Operand) → without_overflow (turned op w (suc k) x) ≡ record { value = (moves op w (suc k) (start x)).value; flags = moved_flags op w (moves op w (suc k) (start x)) x.flags }
+pub turned-some : (op : ShiftOperation) (w : Width) (k : ℕ) (x : Shiftable) → without_overflow (turned op w (suc k) x) ≡ record { value = (moves op w (suc k) (start x)).value; flags = moved_flags op w (moves op w (suc k) (start x)) x.flags }
 unfolding shift_value flags_after_shift
 turned-some op w k x =
     ap (λ (f : Flags). record { value = (moves op w (suc k) (start x)).value; flags = f })
     (some-flags op w (moves op w (suc k) (start x)) x.flags (if nat_eq (suc k) 1 then overflow_after_move op w x.value (moves op w (suc k) (start x)) else x.flags.overflow) (nat_eq (suc k) 0) (not-zero k))
 
 -- the carry that a shift leaves
-pub carry-is : (op : ShiftOperation) (w : Width) (k : ℕ) (x : Operand) → (turned op w k x).flags.carry ≡ (moves op w k (start x)).carry
+pub carry-is : (op : ShiftOperation) (w : Width) (k : ℕ) (x : Shiftable) → (turned op w k x).flags.carry ≡ (moves op w k (start x)).carry
 carry-is op w zero x = ap (λ z. z.flags.carry) (turned-zero op w x) ∙ sym (ap (λ z. z.carry) (moves-zero op w (start x)))
 carry-is op w (suc k) x = ap (λ z. z.flags.carry) (turned-some op w k x)
 
-pub start-is : (op : ShiftOperation) (w : Width) (k : ℕ) (x : Operand) → start (turned op w k x) ≡ moves op w k (start x)
+pub start-is : (op : ShiftOperation) (w : Width) (k : ℕ) (x : Shiftable) → start (turned op w k x) ≡ moves op w k (start x)
 start-is op w k x = (λ i. record { value = value-is op w k x i; carry = carry-is op w k x i })
 
 -- the flags of the last shift hide those of the first

@@ -4,7 +4,7 @@ use Rattle.std.proofs.Math.Nat.{pow-suc}
 use Rattle.std.specs.Int.{from_bool}
 use Rattle.dm_alu.specs.Adjustments.{low}
 use Rattle.dm_laws.specs.arithmetic.Decimal.{Accumulator, IsPacked, packed}
-use Rattle.dm_laws.specs.arithmetic.Numbers.{ArePacked, NumbersAddAndSubtract, Places, after_difference, after_sum, difference_bytes, first_number, loaded, number, place_added, place_subtracted, second_number, sum_bytes}
+use Rattle.dm_laws.specs.arithmetic.Numbers.{ArePacked, NumbersAddAndSubtract, Places, after_difference, after_sum, difference_bytes, first_number, loaded, packed_number, place_added, place_subtracted, second_number, sum_bytes}
 use Rattle.dm_laws.proofs.arithmetic.Packed.{packed_add, packed_subtract}
 
 loaded-is : (x : Accumulator) (d : ℕ) → IsPacked d → low (loaded x d).ax ≡ d
@@ -30,18 +30,18 @@ sum-more d n s q t c a b e f h k = omega arith
 difference-more : (d n s q t c a b e f : ℕ) → d + (b + c) ≡ a + 100 * e → n + (f + e) ≡ t + s * q → d + 100 * n + (b + 100 * f + c) ≡ a + 100 * t + s * 100 * q
 difference-more d n s q t c a b e f h k = omega arith
 
-sums : (x : Accumulator) (L : List Places) → ArePacked L → number (sum_bytes x L) + 100 ^ length L * from_bool (after_sum x L).flags.carry ≡ first_number L + second_number L + from_bool x.flags.carry
+sums : (x : Accumulator) (L : List Places) → ArePacked L → packed_number (sum_bytes x L) + 100 ^ length L * from_bool (after_sum x L).flags.carry ≡ first_number L + second_number L + from_bool x.flags.carry
 sums x [] h = omega arith
 sums x (p ∷ L) h =
     let y = place_added x p in
-    ap (λ z. number (sum_bytes x (p ∷ L)) + z * from_bool (after_sum x (p ∷ L)).flags.carry) (pow-suc 100 (length L))
-    ∙ sum-more (packed (low y.ax)) (number (sum_bytes y L)) (100 ^ length L) (from_bool (after_sum y L).flags.carry) (first_number L) (from_bool x.flags.carry) (packed p.a) (packed p.b) (from_bool y.flags.carry) (second_number L) (sum-place x p h.0 h.1) (sums y L h.2)
+    ap (λ z. packed_number (sum_bytes x (p ∷ L)) + z * from_bool (after_sum x (p ∷ L)).flags.carry) (pow-suc 100 (length L))
+    ∙ sum-more (packed (low y.ax)) (packed_number (sum_bytes y L)) (100 ^ length L) (from_bool (after_sum y L).flags.carry) (first_number L) (from_bool x.flags.carry) (packed p.a) (packed p.b) (from_bool y.flags.carry) (second_number L) (sum-place x p h.0 h.1) (sums y L h.2)
 
-differences : (x : Accumulator) (L : List Places) → ArePacked L → number (difference_bytes x L) + (second_number L + from_bool x.flags.carry) ≡ first_number L + 100 ^ length L * from_bool (after_difference x L).flags.carry
+differences : (x : Accumulator) (L : List Places) → ArePacked L → packed_number (difference_bytes x L) + (second_number L + from_bool x.flags.carry) ≡ first_number L + 100 ^ length L * from_bool (after_difference x L).flags.carry
 differences x [] h = omega arith
 differences x (p ∷ L) h =
     let y = place_subtracted x p in
-    difference-more (packed (low y.ax)) (number (difference_bytes y L)) (100 ^ length L) (from_bool (after_difference y L).flags.carry) (first_number L) (from_bool x.flags.carry) (packed p.a) (packed p.b) (from_bool y.flags.carry) (second_number L) (difference-place x p h.0 h.1) (differences y L h.2)
+    difference-more (packed (low y.ax)) (packed_number (difference_bytes y L)) (100 ^ length L) (from_bool (after_difference y L).flags.carry) (first_number L) (from_bool x.flags.carry) (packed p.a) (packed p.b) (from_bool y.flags.carry) (second_number L) (difference-place x p h.0 h.1) (differences y L h.2)
     ∙ ap (λ z. first_number (p ∷ L) + z * from_bool (after_difference x (p ∷ L)).flags.carry) (sym (pow-suc 100 (length L)))
 
 pub numbers : NumbersAddAndSubtract

@@ -10,7 +10,7 @@ use Rattle.dm_alu.specs.declared.width.Width.TheVariants.{Byte, Word}
 use Rattle.dm_alu.specs.Shifts.{moves, one_move}
 use Rattle.dm_alu.specs.Width.{size}
 use Rattle.dm_alu.proofs.Rotations.{through_left, through_right, turned_left, turned_right}
-use Rattle.dm_laws.specs.arithmetic.Shifts.{Operand, RotatesBack, RotatingComesBack, bits, turned}
+use Rattle.dm_laws.specs.arithmetic.Shifts.{Shiftable, RotatesBack, RotatingComesBack, bits, turned}
 use Rattle.dm_laws.proofs.arithmetic.Moves.{moves-first, moves-last, moves-zero, start, start-is, value-is}
 use Rattle.dm_laws.proofs.arithmetic.Tests.{test_le}
 
@@ -181,7 +181,7 @@ through_back op undo keep undoes w (suc k) m h =
     moves-first undo w k _ ∙ ap (λ x. moves undo w k (one_move undo w x)) (moves-last op w k m)
     ∙ ap (moves undo w k) (undoes w (moves op w k m) (kept op keep w k m h)) ∙ through_back op undo keep undoes w k m h
 
-module _ (w : Width) (k : ℕ) (x : Operand) (h : x.value < size w) where
+module _ (w : Width) (k : ℕ) (x : Shiftable) (h : x.value < size w) where
   value_back : (op undo : ShiftOperation) → Keeps op → UndoesValue op undo → (turned undo w k (turned op w k x)).value ≡ x.value
   value_back op undo keep undoes =
       let y = turned op w k x in

@@ -25,7 +25,7 @@ use Rattle.dm_operations.specs.Shifts.{shifted}
 use Rattle.dm_operations.specs.Products.{with_double, multiplied}
 use Rattle.dm_exec.specs.Moves.{moved, exchanged, pointer_loaded, translated, input}
 use Rattle.dm_touches.specs.declared.elements.Element.TheVariants as element
-use Rattle.dm_touches.specs.Elements.{bytes_of, one, two}
+use Rattle.dm_touches.specs.Elements.{bytes_of, one_element, two_elements}
 use Rattle.dm_touches.specs.Touches.{element_of, word_behind}
 use Rattle.dm_laws.proofs.footprints.Values.{Same, in_first, in_second, same_byte, same_value, same_value_in, same_segment}
 use Rattle.dm_laws.proofs.footprints.Stores.{Done, done_registers, done_with, done_then, done_one, done_two, done_operand, done_from, done_result}
@@ -33,24 +33,24 @@ use Rattle.dm_laws.proofs.footprints.Stores.{Done, done_registers, done_with, do
 module _ (c : Cpu) (m n : Memory) (override : Option SegmentRegister) where
   -- an operand is read
   abbrev pub Reads : Operand → Type 0
-  Reads a = All (Same m n) (bytes_of (one (element_of c override a)))
+  Reads a = All (Same m n) (bytes_of (one_element (element_of c override a)))
 
   -- two operands are read
   abbrev pub ReadsBoth : Operand → Operand → Type 0
-  ReadsBoth a b = All (Same m n) (bytes_of (two (element_of c override a) (element_of c override b)))
+  ReadsBoth a b = All (Same m n) (bytes_of (two_elements (element_of c override a) (element_of c override b)))
 
   -- an operand is written
   abbrev pub Writes : Operand → (Guest → Guest) → Type 0
-  Writes a f = Done m n (f (guest c m)) (f (guest c n)) (bytes_of (one (element_of c override a)))
+  Writes a f = Done m n (f (guest c m)) (f (guest c n)) (bytes_of (one_element (element_of c override a)))
 
   only : (a : Operand) → Reads a → value_of (guest c n) override a ≡ value_of (guest c m) override a
-  only a r = same_value c m n override a (in_first (Same m n) (one (element_of c override a)) r)
+  only a r = same_value c m n override a (in_first (Same m n) (one_element (element_of c override a)) r)
 
   left : (w : Width) (a b : Operand) → ReadsBoth a b → value_in w (guest c n) override a ≡ value_in w (guest c m) override a
-  left w a b r = same_value_in w c m n override a (in_first (Same m n) (two (element_of c override a) (element_of c override b)) r)
+  left w a b r = same_value_in w c m n override a (in_first (Same m n) (two_elements (element_of c override a) (element_of c override b)) r)
 
   right : (w : Width) (a b : Operand) → ReadsBoth a b → value_in w (guest c n) override b ≡ value_in w (guest c m) override b
-  right w a b r = same_value_in w c m n override b (in_second (Same m n) (two (element_of c override a) (element_of c override b)) r)
+  right w a b r = same_value_in w c m n override b (in_second (Same m n) (two_elements (element_of c override a) (element_of c override b)) r)
 
   -- ---- moves
 
@@ -65,30 +65,30 @@ module _ (c : Cpu) (m n : Memory) (override : Option SegmentRegister) where
   unfolding input
   done_input a = done_one m n _ _ (element_of c override a) (done_operand c m n override a _ _ refl)
 
-  pub done_exchange : (a b : Operand) → ReadsBoth a b → Done m n (exchanged (guest c m) override a b) (exchanged (guest c n) override a b) (bytes_of (two (element_of c override a) (element_of (with_operand (guest c m) override a (value_of (guest c m) override b)).cpu override b)))
+  pub done_exchange : (a b : Operand) → ReadsBoth a b → Done m n (exchanged (guest c m) override a b) (exchanged (guest c n) override a b) (bytes_of (two_elements (element_of c override a) (element_of (with_operand (guest c m) override a (value_of (guest c m) override b)).cpu override b)))
   unfolding exchanged
   done_exchange a b r =
-      let e = two (element_of c override a) (element_of c override b) in
+      let e = two_elements (element_of c override a) (element_of c override b) in
       let x = same_value c m n override a (in_first (Same m n) e r) in
       let y = same_value c m n override b (in_second (Same m n) e r) in
       let d = done_operand c m n override a (value_of (guest c m) override b) (value_of (guest c n) override b) y in
       done_two m n _ _ (element_of c override a) _ (done_then m n _ _ _ _ _ _ d (done_from _ _ override b _ _ d.registers x))
 
-  pub done_pointer : (register : SegmentRegister) (a b : Operand) → All (Same m n) (bytes_of (two (element_of c override b) (word_behind c override b))) → Writes a (λ g. pointer_loaded g override register a b)
+  pub done_pointer : (register : SegmentRegister) (a b : Operand) → All (Same m n) (bytes_of (two_elements (element_of c override b) (word_behind c override b))) → Writes a (λ g. pointer_loaded g override register a b)
   unfolding pointer_loaded
   done_pointer register a b r =
-      let e = two (element_of c override b) (word_behind c override b) in
+      let e = two_elements (element_of c override b) (word_behind c override b) in
       let x = same_value c m n override b (in_first (Same m n) e r) in
       let y = same_segment c m n override b (in_second (Same m n) e r) in
       let d = done_operand c m n override a (value_of (guest c m) override b) (value_of (guest c n) override b) x in
       done_one m n _ _ (element_of c override a) (done_with m n _ _ _ _ _ (ap₂ (λ (k : Cpu) (s : ℕ). with_segment k register s) d.registers y) d)
 
-  pub same_translated : All (Same m n) (bytes_of (one (Some (element.Byte (data_segment c override c.ds) (up c.bx (byte_of c Al)))))) → translated (guest c n) override ≡ translated (guest c m) override
+  pub same_translated : All (Same m n) (bytes_of (one_element (Some (element.Byte (data_segment c override c.ds) (up c.bx (byte_of c Al)))))) → translated (guest c n) override ≡ translated (guest c m) override
   unfolding translated
   same_translated r =
       let s = data_segment c override c.ds in
       let o = up c.bx (byte_of c Al) in
-      ap (λ (v : ℕ). with_byte c Al v) (same_byte m n s o (in_first (Same m n) (one (Some (element.Byte s o))) r))
+      ap (λ (v : ℕ). with_byte c Al v) (same_byte m n s o (in_first (Same m n) (one_element (Some (element.Byte s o))) r))
 
   -- ---- arithmetic
 
@@ -150,7 +150,7 @@ module _ (c : Cpu) (m n : Memory) (override : Option SegmentRegister) where
   unfolding shifted
   done_shift operation a b r =
       let w = width_of a in
-      let y = ap (λ (v : ℕ). v % 256) (same_value c m n override b (in_second (Same m n) (two (element_of c override a) (element_of c override b)) r)) in
+      let y = ap (λ (v : ℕ). v % 256) (same_value c m n override b (in_second (Same m n) (two_elements (element_of c override a) (element_of c override b)) r)) in
       done_result c m n override a _ _ _ _ (ap₂ (λ (v k : ℕ). shift_value operation w v k c.flags) (left w a b r) y) (ap₂ (λ (v k : ℕ). flags_after_shift operation w v k c.flags) (left w a b r) y)
 
   -- ---- products
@@ -160,4 +160,4 @@ module _ (c : Cpu) (m n : Memory) (override : Option SegmentRegister) where
   done_product sign a r =
       let w = width_of a in
       let x = accumulator w c in
-      done_registers m n _ _ (ap (λ (y : ℕ). record (with_double w c (product_value sign w x y)) { flags = flags_after_product sign w x y c.flags }) (same_value_in w c m n override a (in_first (Same m n) (one (element_of c override a)) r)))
+      done_registers m n _ _ (ap (λ (y : ℕ). record (with_double w c (product_value sign w x y)) { flags = flags_after_product sign w x y c.flags }) (same_value_in w c m n override a (in_first (Same m n) (one_element (element_of c override a)) r)))

@@ -13,9 +13,9 @@ use Rattle.dm_exec.specs.Effect.{effect}
 use Rattle.dm_touches.specs.declared.access.Access.{Access}
 use Rattle.dm_touches.specs.declared.access.Access.TheVariants.{Exchange, Divide, Interrupt}
 use Rattle.dm_touches.specs.declared.elements.FarAddress.{FarAddress}
-use Rattle.dm_touches.specs.Elements.{bytes_of, two}
+use Rattle.dm_touches.specs.Elements.{bytes_of, two_elements}
 use Rattle.dm_touches.specs.Access.{access_of}
-use Rattle.dm_touches.specs.Touches.{element_of, with_vector, reads_dividing, writes_dividing, reads_by, writes_by, reads, writes}
+use Rattle.dm_touches.specs.Touches.{element_of, operand_and_vector, reads_dividing, writes_dividing, reads_by, writes_by, reads, writes}
 use Rattle.dm_laws.specs.footprints.Footprints.{seen, IsAmong, stored, DoesTheSame, EffectsDependOnReads, AgreementIsKept}
 use Rattle.dm_laws.proofs.footprints.Memories.{seen_agrees, seen_stored}
 use Rattle.dm_laws.proofs.footprints.Values.{Same, in_first, in_second, same_value}
@@ -32,17 +32,17 @@ module _ (c : Cpu) (m n : Memory) (p : Prefixes) where
   same_reads (Divide sign) a b r = ap (λ (d : Option Division). reads_dividing (element_of c p.segment a) d) (same_quotient c m n p.segment sign a r)
   same_reads Interrupt a b r =
       let e = element_of c p.segment a in
-      ap (λ (v : ℕ). with_vector e (v % 256)) (same_value c m n p.segment a (in_first (Same m n) (with_vector e (value_of (guest c m) p.segment a % 256)) r))
+      ap (λ (v : ℕ). operand_and_vector e (v % 256)) (same_value c m n p.segment a (in_first (Same m n) (operand_and_vector e (value_of (guest c m) p.segment a % 256)) r))
   same_reads _ a b r = refl
 
   same_writes : (x : Access) (a b : Operand) → All (Same m n) (bytes_of (reads_by (guest c m) p x a b)) → writes_by (guest c n) p x a b ≡ writes_by (guest c m) p x a b
   unfolding reads_by writes_by
   same_writes (Divide sign) a b r = ap (λ (d : Option Division). writes_dividing c d) (same_quotient c m n p.segment sign a r)
   same_writes Exchange a b r =
-      let e = two (element_of c p.segment a) (element_of c p.segment b) in
+      let e = two_elements (element_of c p.segment a) (element_of c p.segment b) in
       let second = same_value c m n p.segment b (in_second (Same m n) e r) in
       let first = done_operand c m n p.segment a _ _ second in
-      ap (λ (k : Cpu). two (element_of c p.segment a) (element_of k p.segment b)) first.registers
+      ap (λ (k : Cpu). two_elements (element_of c p.segment a) (element_of k p.segment b)) first.registers
   same_writes _ a b r = refl
 
 -- ---- the laws

@@ -20,7 +20,7 @@ use Rattle.dm_exec.specs.Operation.{operation_of}
 use Rattle.dm_exec.specs.Moves.{move_effect}
 use Rattle.dm_exec.specs.Jumps.{jumped_if, looped, transferred}
 use Rattle.dm_exec.specs.Effect.{act}
-use Rattle.dm_touches.specs.Elements.{bytes_of, one}
+use Rattle.dm_touches.specs.Elements.{bytes_of, one_element}
 use Rattle.dm_touches.specs.Access.{access_of}
 use Rattle.dm_touches.specs.Touches.{element_of, reads_by, writes_by}
 use Rattle.dm_laws.specs.footprints.Footprints.{HasMapOf}
@@ -103,7 +103,7 @@ module _ (c : Cpu) (m n : Memory) (p : Prefixes) (start : ℕ) where
   act_done op.Loopne a b h = done_jump_where _ m n p.segment _ a h.target
   act_done op.Jcxz a b h = done_jump_where _ m n p.segment _ a h.target
   -- transfers
-  act_done op.Jmp a b h = done_jump c m n p.segment a (in_first (Same m n) (one (element_of c p.segment a)) h.bytes)
+  act_done op.Jmp a b h = done_jump c m n p.segment a (in_first (Same m n) (one_element (element_of c p.segment a)) h.bytes)
   act_done op.JmpShort a b h = done_jump c m n p.segment a (reads_none c m n p.segment a h.target)
   act_done op.JmpFar a b h = done_far_jump c m n p.segment a h.bytes
   act_done op.Call a b h = done_call c m n p.segment a h.bytes

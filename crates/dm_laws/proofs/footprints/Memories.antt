@@ -9,8 +9,8 @@ use Rattle.dm_space.specs.declared.place.Place.TheVariants.{Low, Page, Rom, Noth
 use Rattle.dm_space.specs.Memory.{Memory, place, peek, poke, shown, byte_at, with_byte, page_bytes}
 use Rattle.dm_space.proofs.Places.{place-windows, poke-shaped}
 use Rattle.dm_touches.specs.declared.elements.FarAddress.{FarAddress}
-use Rattle.dm_touches.specs.Elements.{linear_of, place_of}
-use Rattle.dm_laws.specs.footprints.Footprints.{seen, Store, stored, HasMapOf}
+use Rattle.dm_touches.specs.Elements.{linear_of, byte_place}
+use Rattle.dm_laws.specs.footprints.Footprints.{seen, StoredByte, stored, HasMapOf}
 
 -- ---- lists of bytes, and lists of pages
 
@@ -107,68 +107,68 @@ map_poked m n a b v w h =
       page_sizes = λ k. subst (λ (windows : List (Option ℕ)). IfSome (slice_index_or windows k None) Q) (sym s.windows) (weaker P Q from (slice_index_or m.windows k None) (h.page_sizes k));
     }
 
-pub place_same : (m n : Memory) → HasMapOf m n → (f : FarAddress) → place_of n f ≡ place_of m f
+pub place_same : (m n : Memory) → HasMapOf m n → (f : FarAddress) → byte_place n f ≡ byte_place m f
 place_same m n h f = place-windows m n (linear_of n.a20 f) h.windows ∙ ap (λ (b : Bool). place m (linear_of b f)) h.a20
 
 -- ---- a store at an address
 
 poke_agrees : (m n : Memory) (f : FarAddress) (v : ℕ) (q : Place) → HasMapOf m n → byte_at n q ≡ byte_at m q → byte_at (poke n (linear_of n.a20 f) v) q ≡ byte_at (poke m (linear_of m.a20 f) v) q
 unfolding poke
-poke_agrees m n f v q h e = ap (λ (p : Place). byte_at (with_byte n p v) q) (place_same m n h f) ∙ byte_agrees m n (place_of m f) q v (sized_place m n h (linear_of m.a20 f)) e
+poke_agrees m n f v q h e = ap (λ (p : Place). byte_at (with_byte n p v) q) (place_same m n h f) ∙ byte_agrees m n (byte_place m f) q v (sized_place m n h (linear_of m.a20 f)) e
 
-poke_set : (m n : Memory) (f : FarAddress) (v : ℕ) (q : Place) → HasMapOf m n → place_of m f ≡ q → byte_at (poke n (linear_of n.a20 f) v) q ≡ byte_at (poke m (linear_of m.a20 f) v) q
+poke_set : (m n : Memory) (f : FarAddress) (v : ℕ) (q : Place) → HasMapOf m n → byte_place m f ≡ q → byte_at (poke n (linear_of n.a20 f) v) q ≡ byte_at (poke m (linear_of m.a20 f) v) q
 unfolding poke
 poke_set m n f v q h e =
-    let F : Place → Type 0 = λ p. byte_at (with_byte n p v) q ≡ byte_at (with_byte m (place_of m f) v) q in
-    let G : Place → Type 0 = λ p. byte_at (with_byte n (place_of m f) v) p ≡ byte_at (with_byte m (place_of m f) v) p in
-    subst F (sym (place_same m n h f)) (subst G e (byte_set m n (place_of m f) v (sized_place m n h (linear_of m.a20 f))))
+    let F : Place → Type 0 = λ p. byte_at (with_byte n p v) q ≡ byte_at (with_byte m (byte_place m f) v) q in
+    let G : Place → Type 0 = λ p. byte_at (with_byte n (byte_place m f) v) p ≡ byte_at (with_byte m (byte_place m f) v) p in
+    subst F (sym (place_same m n h f)) (subst G e (byte_set m n (byte_place m f) v (sized_place m n h (linear_of m.a20 f))))
 
 -- ---- stores
 
-pub map_stored : (ss : List Store) (m n : Memory) → HasMapOf m n → HasMapOf (stored m ss) (stored n ss)
+pub map_stored : (ss : List StoredByte) (m n : Memory) → HasMapOf m n → HasMapOf (stored m ss) (stored n ss)
 map_stored [] m n h = h
 map_stored (s ∷ ss) m n h = map_stored ss _ _ (map_poked m n (linear_of m.a20 s.address) (linear_of n.a20 s.address) s.byte s.byte h)
 
-stored_agrees : (ss : List Store) (m n : Memory) (q : Place) → HasMapOf m n → byte_at n q ≡ byte_at m q → byte_at (stored n ss) q ≡ byte_at (stored m ss) q
+stored_agrees : (ss : List StoredByte) (m n : Memory) (q : Place) → HasMapOf m n → byte_at n q ≡ byte_at m q → byte_at (stored n ss) q ≡ byte_at (stored m ss) q
 stored_agrees [] m n q h e = e
 stored_agrees (s ∷ ss) m n q h e = stored_agrees ss _ _ q (map_poked m n (linear_of m.a20 s.address) (linear_of n.a20 s.address) s.byte s.byte h) (poke_agrees m n s.address s.byte q h e)
 
-poked_place : (m : Memory) (a v : ℕ) (f : FarAddress) → place_of (poke m a v) f ≡ place_of m f
+poked_place : (m : Memory) (a v : ℕ) (f : FarAddress) → byte_place (poke m a v) f ≡ byte_place m f
 poked_place m a v f =
     let s = poke-shaped m a v in
     place-windows m (poke m a v) (linear_of (poke m a v).a20 f) s.windows ∙ ap (λ (b : Bool). place m (linear_of b f)) s.a20
 
-stored_sets : (ss : List Store) (m n : Memory) (P : FarAddress → Place) (q : Place) → HasMapOf m n → ((f : FarAddress) → place_of m f ≡ P f) → Contains (map P (map (λ (s : Store). s.address) ss)) q → byte_at (stored n ss) q ≡ byte_at (stored m ss) q
+stored_sets : (ss : List StoredByte) (m n : Memory) (P : FarAddress → Place) (q : Place) → HasMapOf m n → ((f : FarAddress) → byte_place m f ≡ P f) → Contains (map P (map (λ (s : StoredByte). s.address) ss)) q → byte_at (stored n ss) q ≡ byte_at (stored m ss) q
 stored_sets [] m n P q h places (k, lt, e) = absurd (omega arith)
 stored_sets (s ∷ ss) m n P q h places (zero, lt, e) = stored_agrees ss _ _ q (map_poked m n (linear_of m.a20 s.address) (linear_of n.a20 s.address) s.byte s.byte h) (poke_set m n s.address s.byte q h (places s.address ∙ e))
 stored_sets (s ∷ ss) m n P q h places (suc k, lt, e) =
-    let moved : (f : FarAddress) → place_of (poke m (linear_of m.a20 s.address) s.byte) f ≡ P f = λ f. poked_place m (linear_of m.a20 s.address) s.byte f ∙ places f in
+    let moved : (f : FarAddress) → byte_place (poke m (linear_of m.a20 s.address) s.byte) f ≡ P f = λ f. poked_place m (linear_of m.a20 s.address) s.byte f ∙ places f in
     stored_sets ss _ _ P q (map_poked m n (linear_of m.a20 s.address) (linear_of n.a20 s.address) s.byte s.byte h) moved (k, omega arith, e)
 
 -- ---- as a program reads
 
 -- stores leave an address at its place
-stored_place : (ss : List Store) (m : Memory) (f : FarAddress) → place_of (stored m ss) f ≡ place_of m f
+stored_place : (ss : List StoredByte) (m : Memory) (f : FarAddress) → byte_place (stored m ss) f ≡ byte_place m f
 stored_place [] m f = refl
 stored_place (s ∷ ss) m f = stored_place ss (poke m (linear_of m.a20 s.address) s.byte) f ∙ poked_place m (linear_of m.a20 s.address) s.byte f
 
 -- both read one byte where both have one at the place
-read_at : (ss : List Store) (m n : Memory) (f : FarAddress) → HasMapOf m n → byte_at (stored n ss) (place_of m f) ≡ byte_at (stored m ss) (place_of m f) → seen (stored n ss) f ≡ seen (stored m ss) f
+read_at : (ss : List StoredByte) (m n : Memory) (f : FarAddress) → HasMapOf m n → byte_at (stored n ss) (byte_place m f) ≡ byte_at (stored m ss) (byte_place m f) → seen (stored n ss) f ≡ seen (stored m ss) f
 unfolding peek
 read_at ss m n f h e =
     ap (byte_at (stored n ss)) (stored_place ss n f ∙ place_same m n h f) ∙ e ∙ sym (ap (byte_at (stored m ss)) (stored_place ss m f))
 
 -- what both read before, both read after the stores
-pub seen_agrees : (ss : List Store) (m n : Memory) (f : FarAddress) → HasMapOf m n → seen n f ≡ seen m f → seen (stored n ss) f ≡ seen (stored m ss) f
+pub seen_agrees : (ss : List StoredByte) (m n : Memory) (f : FarAddress) → HasMapOf m n → seen n f ≡ seen m f → seen (stored n ss) f ≡ seen (stored m ss) f
 unfolding peek
-seen_agrees ss m n f h e = read_at ss m n f h (stored_agrees ss m n (place_of m f) h (sym (ap (byte_at n) (place_same m n h f)) ∙ e))
+seen_agrees ss m n f h e = read_at ss m n f h (stored_agrees ss m n (byte_place m f) h (sym (ap (byte_at n) (place_same m n h f)) ∙ e))
 
 -- both read one byte where one was stored
-pub seen_stored : (ss : List Store) (m n : Memory) (f : FarAddress) → HasMapOf m n → Contains (map (place_of m) (map (λ (s : Store). s.address) ss)) (place_of m f) → seen (stored n ss) f ≡ seen (stored m ss) f
-seen_stored ss m n f h c = read_at ss m n f h (stored_sets ss m n (place_of m) (place_of m f) h (λ g. refl) c)
+pub seen_stored : (ss : List StoredByte) (m n : Memory) (f : FarAddress) → HasMapOf m n → Contains (map (byte_place m) (map (λ (s : StoredByte). s.address) ss)) (byte_place m f) → seen (stored n ss) f ≡ seen (stored m ss) f
+seen_stored ss m n f h c = read_at ss m n f h (stored_sets ss m n (byte_place m) (byte_place m f) h (λ g. refl) c)
 
 -- both read one byte at an address whose place is that of one at which they do
-pub seen_among : (m n : Memory) (f : FarAddress) → HasMapOf m n → (fs : List FarAddress) → All (λ (g : FarAddress). seen n g ≡ seen m g) fs → Contains (map (place_of m) fs) (place_of m f) → seen n f ≡ seen m f
+pub seen_among : (m n : Memory) (f : FarAddress) → HasMapOf m n → (fs : List FarAddress) → All (λ (g : FarAddress). seen n g ≡ seen m g) fs → Contains (map (byte_place m) fs) (byte_place m f) → seen n f ≡ seen m f
 unfolding peek
 seen_among m n f h [] a (k, lt, e) = absurd (omega arith)
 seen_among m n f h (g ∷ fs) a (zero, lt, e) =

@@ -16,10 +16,10 @@ use Rattle.dm_cpu.specs.Guest.{Guest, up}
 use Rattle.dm_exec.specs.Effect.{effect}
 use Rattle.dm_touches.specs.declared.elements.FarAddress.{FarAddress}
 use Rattle.dm_touches.specs.declared.elements.Elements.{Elements}
-use Rattle.dm_touches.specs.Elements.{far, place_of, bytes_of}
+use Rattle.dm_touches.specs.Elements.{far, byte_place, bytes_of}
 use Rattle.dm_touches.specs.Touches.{reads, writes}
-use Rattle.dm_laws.specs.footprints.Footprints.{seen, IsAmong, Store, stored, HasMapOf, DoesTheSame}
-use Rattle.dm_laws.specs.footprints.Runs.{own, Runs, RunsTheSame, RunsDependOnInputs}
+use Rattle.dm_laws.specs.footprints.Footprints.{seen, IsAmong, StoredByte, stored, HasMapOf, DoesTheSame}
+use Rattle.dm_laws.specs.footprints.Runs.{own, LeadsWriting, RunsTheSame, RunsDependOnInputs}
 use Rattle.dm_laws.proofs.footprints.Memories.{map_stored, place_same, seen_agrees, seen_among, seen_stored}
 use Rattle.dm_laws.proofs.footprints.Values.{Same, front_of, back_of}
 use Rattle.dm_laws.proofs.footprints.Stores.{stored_append}
@@ -51,7 +51,7 @@ IsKnown m inputs written f = IsAmong m inputs f ⊎ IsAmong m written f
 -- addresses that share a place in one memory share one in another with the same map
 still_among : (m n : Memory) (fs : List FarAddress) → HasMapOf m n → (f : FarAddress) → IsAmong m fs f → IsAmong n fs f
 still_among m n fs h f c =
-    let e : place_of n ≡ place_of m = λ i g. place_same m n h g i in
+    let e : byte_place n ≡ byte_place m = λ i g. place_same m n h g i in
     subst (λ (place : FarAddress → Place). Contains (map place fs) (place f)) (sym e) c
 
 still_known : (m n : Memory) (inputs written : List FarAddress) → HasMapOf m n → (f : FarAddress) → IsKnown m inputs written f → IsKnown n inputs written f
@@ -87,13 +87,13 @@ module _ (g h k : Guest) (inputs written : List FarAddress) (m : HasMapOf g.memo
       let B : Cpu → Type 0 = λ c. BeginsWith (sixteen_after l.memory c.cs c.ip) i length in
       let W : Cpu → Type 0 = λ c. c.sp < 65536 in
       let K : List FarAddress → Type 0 = λ fs. All (IsKnown h.memory inputs written) fs in
-      let R : Elements → Type 0 = λ e. Runs h inputs (written ++ bytes_of e) (effect l i length) in
+      let R : Elements → Type 0 = λ e. LeadsWriting h inputs (written ++ bytes_of e) (effect l i length) in
       let there : K (fetched ++ read) = All-weaker (IsKnown g.memory inputs written) (IsKnown h.memory inputs written) (still_known g.memory h.memory inputs written m) (fetched ++ read) known in
       let same : fetched ++ read ≡ own l.cpu length ++ bytes_of (reads l i length) = sym (ap₂ (λ (c : Cpu) (e : Elements). own c length ++ bytes_of e) t.registers d.same_reads) in
-      let address : Store → FarAddress = λ s. s.address in
+      let address : StoredByte → FarAddress = λ s. s.address in
       record {
         end = effect l i length;
-        run = subst R d.same_writes (Runs.one_more written l i length t.run (subst B (sym t.registers) begins) (subst W (sym t.registers) small) (subst K same there));
+        run = subst R d.same_writes (LeadsWriting.one_more written l i length t.run (subst B (sym t.registers) begins) (subst W (sym t.registers) small) (subst K same there));
         registers = d.registers;
         stores = t.stores ++ d.stores;
         addresses = map-append address t.stores d.stores ∙ ap₂ (λ (x y : List FarAddress). x ++ y) t.addresses d.addresses;
@@ -101,9 +101,9 @@ module _ (g h k : Guest) (inputs written : List FarAddress) (m : HasMapOf g.memo
         in_h = d.in_h ∙ ap (λ (x : Memory). stored x d.stores) t.in_h ∙ stored_append t.stores d.stores h.memory;
       }
 
-run_from : (g h : Guest) (inputs : List FarAddress) → h.cpu ≡ g.cpu → HasMapOf g.memory h.memory → All (Same g.memory h.memory) inputs → (written : List FarAddress) (k : Guest) → Runs g inputs written k → RunsTheSame g h k inputs written
-run_from g h inputs e m a written k Runs.no_instruction = record { end = h; run = Runs.no_instruction; registers = e; stores = []; addresses = refl; in_g = refl; in_h = refl }
-run_from g h inputs e m a written k (Runs.one_more before l i length run b small known) = further g h l inputs before m a (run_from g h inputs e m a before l run) i length b small known
+run_from : (g h : Guest) (inputs : List FarAddress) → h.cpu ≡ g.cpu → HasMapOf g.memory h.memory → All (Same g.memory h.memory) inputs → (written : List FarAddress) (k : Guest) → LeadsWriting g inputs written k → RunsTheSame g h k inputs written
+run_from g h inputs e m a written k LeadsWriting.no_instruction = record { end = h; run = LeadsWriting.no_instruction; registers = e; stores = []; addresses = refl; in_g = refl; in_h = refl }
+run_from g h inputs e m a written k (LeadsWriting.one_more before l i length run b small known) = further g h l inputs before m a (run_from g h inputs e m a before l run) i length b small known
 
 pub runs_depend : RunsDependOnInputs
 runs_depend g h k inputs written run e m a = run_from g h inputs e m a written k run

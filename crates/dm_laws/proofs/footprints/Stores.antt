@@ -24,9 +24,9 @@ use Rattle.dm_cpu.specs.Values.{written_in}
 use Rattle.dm_touches.specs.declared.elements.FarAddress.{FarAddress}
 use Rattle.dm_touches.specs.declared.elements.Element.{Element}
 use Rattle.dm_touches.specs.declared.elements.Element.TheVariants as element
-use Rattle.dm_touches.specs.Elements.{far, bytes_in, bytes_if, bytes_of, one, two}
+use Rattle.dm_touches.specs.Elements.{far, bytes_in, bytes_if, bytes_of, one_element, two_elements}
 use Rattle.dm_touches.specs.Touches.{element_at, element_of, pushed}
-use Rattle.dm_laws.specs.footprints.Footprints.{Store, stored}
+use Rattle.dm_laws.specs.footprints.Footprints.{StoredByte, stored}
 
 -- ---- the same done in two memories
 
@@ -34,7 +34,7 @@ use Rattle.dm_laws.specs.footprints.Footprints.{Store, stored}
 -- are the same
 pub record Done (m n : Memory) (a b : Guest) (fs : List FarAddress) : Type 0 where
   pub registers : b.cpu ≡ a.cpu
-  pub stores : List Store
+  pub stores : List StoredByte
   pub addresses : map (λ s. s.address) stores ≡ fs
   pub in_m : a.memory ≡ stored m stores
   pub in_n : b.memory ≡ stored n stores
@@ -50,14 +50,14 @@ done_as m n a b fs gs e d = record { registers = d.registers; stores = d.stores;
 pub done_with : (m n : Memory) (a b : Guest) (fs : List FarAddress) (c d : Cpu) → d ≡ c → Done m n a b fs → Done m n (guest c a.memory) (guest d b.memory) fs
 done_with m n a b fs c d e k = record { registers = e; stores = k.stores; addresses = k.addresses; in_m = k.in_m; in_n = k.in_n }
 
-pub stored_append : (ss ts : List Store) (m : Memory) → stored (stored m ss) ts ≡ stored m (ss ++ ts)
+pub stored_append : (ss ts : List StoredByte) (m : Memory) → stored (stored m ss) ts ≡ stored m (ss ++ ts)
 stored_append [] ts m = refl
 stored_append (s ∷ ss) ts m = stored_append ss ts _
 
 -- one after the other
 pub done_then : (m n : Memory) (a b c d : Guest) (fs gs : List FarAddress) → Done m n a b fs → Done a.memory b.memory c d gs → Done m n c d (fs ++ gs)
 done_then m n a b c d fs gs k l =
-    let address : Store → FarAddress = λ s. s.address in
+    let address : StoredByte → FarAddress = λ s. s.address in
     record {
       registers = l.registers;
       stores = k.stores ++ l.stores;
@@ -66,30 +66,30 @@ done_then m n a b c d fs gs k l =
       in_n = l.in_n ∙ ap (λ (x : Memory). stored x l.stores) k.in_n ∙ stored_append k.stores l.stores n;
     }
 
-pub done_one : (m n : Memory) (a b : Guest) (e : Option Element) → Done m n a b (bytes_if e) → Done m n a b (bytes_of (one e))
+pub done_one : (m n : Memory) (a b : Guest) (e : Option Element) → Done m n a b (bytes_if e) → Done m n a b (bytes_of (one_element e))
 done_one m n a b e d = done_as m n a b _ _ (sym (append-nil (bytes_if e ++ []) ∙ append-nil (bytes_if e))) d
 
-pub done_two : (m n : Memory) (a b : Guest) (e f : Option Element) → Done m n a b (bytes_if e ++ bytes_if f) → Done m n a b (bytes_of (two e f))
+pub done_two : (m n : Memory) (a b : Guest) (e f : Option Element) → Done m n a b (bytes_if e ++ bytes_if f) → Done m n a b (bytes_of (two_elements e f))
 done_two m n a b e f d = done_as m n a b _ _ (sym (append-nil (bytes_if e ++ bytes_if f))) d
 
 -- ---- elements
 
-abbrev store : ℕ → ℕ → ℕ → Store
+abbrev store : ℕ → ℕ → ℕ → StoredByte
 store segment offset byte = record { address = far segment offset; byte = byte }
 
-abbrev stores_in : Element → ℕ → List Store
+abbrev stores_in : Element → ℕ → List StoredByte
 stores_in (element.Byte s o) v = store s o (v % 256) ∷ []
 stores_in (element.Word s o) v = store s o (v % 256) ∷ store s (up o 1) (v / 256) ∷ []
 
-abbrev stores_if : Option Element → ℕ → List Store
+abbrev stores_if : Option Element → ℕ → List StoredByte
 stores_if None v = []
 stores_if (Some e) v = stores_in e v
 
-addresses_in : (e : Element) (v : ℕ) → map (λ (s : Store). s.address) (stores_in e v) ≡ bytes_in e
+addresses_in : (e : Element) (v : ℕ) → map (λ (s : StoredByte). s.address) (stores_in e v) ≡ bytes_in e
 addresses_in (element.Byte s o) v = refl
 addresses_in (element.Word s o) v = refl
 
-addresses_if : (e : Option Element) (v : ℕ) → map (λ (s : Store). s.address) (stores_if e v) ≡ bytes_if e
+addresses_if : (e : Option Element) (v : ℕ) → map (λ (s : StoredByte). s.address) (stores_if e v) ≡ bytes_if e
 addresses_if None v = refl
 addresses_if (Some e) v = addresses_in e v
 
@@ -153,14 +153,14 @@ changed_element c sp f override (operand.Memory memory.Word a) = ap₂ (λ (s b 
 changed_element c sp f override _ = refl
 
 -- an operand that takes a value when SP and the flags have changed
-pub done_changed : (c : Cpu) (m n : Memory) (override : Option SegmentRegister) (o : Operand) (sp : ℕ) (f g : Flags) (v w : ℕ) → w ≡ v → g ≡ f → Done m n (with_operand (guest (changed c sp f) m) override o v) (with_operand (guest (changed c sp g) n) override o w) (bytes_of (one (element_of c override o)))
+pub done_changed : (c : Cpu) (m n : Memory) (override : Option SegmentRegister) (o : Operand) (sp : ℕ) (f g : Flags) (v w : ℕ) → w ≡ v → g ≡ f → Done m n (with_operand (guest (changed c sp f) m) override o v) (with_operand (guest (changed c sp g) n) override o w) (bytes_of (one_element (element_of c override o)))
 done_changed c m n override o sp f g v w e k =
     let a : Guest = with_operand (guest (changed c sp f) m) override o v in
-    let F : Flags → Type 0 = λ x. Done m n a (with_operand (guest (changed c sp x) n) override o w) (bytes_of (one (element_of c override o))) in
+    let F : Flags → Type 0 = λ x. Done m n a (with_operand (guest (changed c sp x) n) override o w) (bytes_of (one_element (element_of c override o))) in
     subst F (sym k) (done_one m n a _ (element_of c override o) (done_as m n a _ _ _ (ap bytes_if (changed_element c sp f override o)) (done_operand (changed c sp f) m n override o v w e)))
 
 -- a result and its flags
-pub done_result : (c : Cpu) (m n : Memory) (override : Option SegmentRegister) (o : Operand) (v w : ℕ) (f g : Flags) → w ≡ v → g ≡ f → Done m n (with_result (guest c m) override o v f) (with_result (guest c n) override o w g) (bytes_of (one (element_of c override o)))
+pub done_result : (c : Cpu) (m n : Memory) (override : Option SegmentRegister) (o : Operand) (v w : ℕ) (f g : Flags) → w ≡ v → g ≡ f → Done m n (with_result (guest c m) override o v f) (with_result (guest c n) override o w g) (bytes_of (one_element (element_of c override o)))
 done_result c m n override o v w f g e k = done_changed c m n override o c.sp f g v w e k
 
 -- ---- the stack, and strings

@@ -11,7 +11,7 @@ use Rattle.dm_alu.specs.declared.width.Width.TheVariants.{Byte}
 use Rattle.dm_alu.specs.Adjustments.{high, low, word_of_halves}
 use Rattle.dm_alu.specs.Products.{flags_after_product, product_value}
 use Rattle.dm_alu.specs.Sums.{difference_value, flags_after_difference, flags_after_sum, sum_value}
-use Rattle.dm_laws.specs.arithmetic.Decimal.{Accumulator, HasDigits, HasPackedDifference, HasPackedSum, HasUnpackedDifference, HasUnpackedSum, added, adjusted as adjusted_in, multiplied as multiplied_in, packed, subtracted, unpacked}
+use Rattle.dm_laws.specs.arithmetic.Decimal.{Accumulator, HasDigits, HasPackedDifference, HasPackedSum, HasUnpackedDifference, HasUnpackedSum, by_addition, by_adjustment as adjusted_in, by_multiplication as multiplied_in, packed, subtracted, unpacked}
 use Rattle.dm_laws.proofs.arithmetic.Packed.{packed_add, packed_subtract}
 use Rattle.dm_laws.proofs.arithmetic.Unpacked.{unpacked_add, unpacked_multiply, unpacked_subtract}
 use Rattle.dm_ins.specs.declared.ins.Ins.{Ins}
@@ -116,7 +116,7 @@ al-result : (g : Guest) (override : Option SegmentRegister) (v : ℕ) (f : Flags
 unfolding with_operand with_byte
 al-result g override v f h = ap (λ (z : ℕ). record { ax = z; flags = f }) (omega arith)
 
-summed : (g : Guest) (ip : ℕ) (override : Option SegmentRegister) (o : Operand) (c : Bool) → g.cpu.ax < 65536 → accumulator_of (sum_in Byte (at_ip g ip) c override (operand.ByteRegister Al) override o) ≡ added (accumulator_of g) (value_in Byte g override o) c
+summed : (g : Guest) (ip : ℕ) (override : Option SegmentRegister) (o : Operand) (c : Bool) → g.cpu.ax < 65536 → accumulator_of (sum_in Byte (at_ip g ip) c override (operand.ByteRegister Al) override o) ≡ by_addition (accumulator_of g) (value_in Byte g override o) c
 summed g ip override o c h =
     al-result (at_ip g ip) override _ _ h
     ∙ ap₂ (λ a b. record { ax = word_of_halves (high g.cpu.ax) (sum_value Byte a b c); flags = flags_after_sum Byte a b c g.cpu.flags }) (al-value (at_ip g ip) override) (byte-in-same g ip override o)
@@ -141,7 +141,7 @@ unfolding operation_of
 difference-operation true = refl
 difference-operation false = refl
 
-sum-act : (g : Guest) (ip : ℕ) (override : Option SegmentRegister) (first o : Operand) (c : Bool) → first ≡ operand.ByteRegister Al → g.cpu.ax < 65536 → accumulator_of (arithmetic (at_ip g ip) override (if c then AddWithCarry else Add) first o) ≡ added (accumulator_of g) (value_in Byte g override o) (carry_in c g)
+sum-act : (g : Guest) (ip : ℕ) (override : Option SegmentRegister) (first o : Operand) (c : Bool) → first ≡ operand.ByteRegister Al → g.cpu.ax < 65536 → accumulator_of (arithmetic (at_ip g ip) override (if c then AddWithCarry else Add) first o) ≡ by_addition (accumulator_of g) (value_in Byte g override o) (carry_in c g)
 unfolding arithmetic sum_into width_of
 sum-act g ip override first o true e h = ap (λ f. accumulator_of (sum_in (width_of f) (at_ip g ip) g.cpu.flags.carry override f override o)) e ∙ summed g ip override o g.cpu.flags.carry h
 sum-act g ip override first o false e h = ap (λ f. accumulator_of (sum_in (width_of f) (at_ip g ip) false override f override o)) e ∙ summed g ip override o false h
@@ -151,7 +151,7 @@ unfolding arithmetic difference_into width_of
 difference-act g ip override first o true e h = ap (λ f. accumulator_of (difference_in (width_of f) (at_ip g ip) g.cpu.flags.carry override f override o)) e ∙ taken g ip override o g.cpu.flags.carry h
 difference-act g ip override first o false e h = ap (λ f. accumulator_of (difference_in (width_of f) (at_ip g ip) false override f override o)) e ∙ taken g ip override o false h
 
-sum-is : (g : Guest) (i : Ins) (k : ℕ) (c : Bool) → IsOnAl i (sum_mnemonic c) → g.cpu.ax < 65536 → accumulator_of (effect g i k) ≡ added (accumulator_of g) (second_byte g i) (carry_in c g)
+sum-is : (g : Guest) (i : Ins) (k : ℕ) (c : Bool) → IsOnAl i (sum_mnemonic c) → g.cpu.ax < 65536 → accumulator_of (effect g i k) ≡ by_addition (accumulator_of g) (second_byte g i) (carry_in c g)
 sum-is g i k c s h =
     ap accumulator_of (effect-as g i k _ (ap operation_of s.mnemonic_is ∙ sum-operation c))
     ∙ sum-act g (up g.cpu.ip k) i.prefixes.segment i.action.first i.action.second c s.first_is h

@@ -51,7 +51,7 @@ use Rattle.dm_operations.specs.Adjustments.{adjusted}
 use Rattle.dm_exec.specs.Jumps.{jumped, jumped_where, jumped_if, counted_down, looped, far_jumped, called, far_called, returned, target_of, transferred}
 use Rattle.dm_exec.specs.Strings.{counted, destination_passed, ends, once, onward, source, source_passed, string_effect, with_comparison}
 use Rattle.dm_exec.specs.Effect.{act, effect}
-use Rattle.dm_laws.specs.instructions.WellFormed.{AreWords, IsWellFormed}
+use Rattle.dm_laws.specs.instructions.WellFormed.{HasWords, IsWellFormed}
 use Rattle.dm_laws.proofs.instructions.Values.{adjusted-below, complement-below, difference-below, flags-below, logic-below, product-below, quotient-below, shift-below, size-word, sum-below}
 use Rattle.dm_laws.proofs.instructions.Operands.{AreValues, accumulated, accumulator-below, address-below, byte-below, far_segment-below, peek-below, peek16-below, poke16-below, read-below, stored, value-below, value_in-below, with_byte-words, with_segment-words, written-bytes}
 
@@ -199,7 +199,7 @@ shift_kept : (g : Guest) (override : Option SegmentRegister) (x : ShiftOperation
 unfolding shifted
 shift_kept g override x a b w = result g override a _ _ (size-word (width_of a) _ (shift-below x (width_of a) _ _ _ (value_in-below (width_of a) g override a))) w
 
-doubled : (w : Width) (c : Cpu) (n : ℕ) → n < size w * size w → AreWords c → AreWords (with_double w c n)
+doubled : (w : Width) (c : Cpu) (n : ℕ) → n < size w * size w → HasWords c → HasWords (with_double w c n)
 unfolding with_double
 doubled Byte c n h w = omega arith
 doubled Word c n h w = omega arith
@@ -212,7 +212,7 @@ product_kept g override s a w =
     let r = doubled x g.cpu _ p w.registers in
     flagged (on_cpu g (with_double x g.cpu (product_value s x (accumulator x g.cpu) (value_in x g override a)))) _ (record { registers = r; memory = w.memory })
 
-parted : (w : Width) (c : Cpu) (d : Division) → (d.quotient < size w) × (d.remainder < size w) → AreWords c → AreWords (with_division w c d)
+parted : (w : Width) (c : Cpu) (d : Division) → (d.quotient < size w) × (d.remainder < size w) → HasWords c → HasWords (with_division w c d)
 unfolding with_division
 parted Byte c d h w = (let q = h.0 in let r = h.1 in omega arith)
 parted Word c d h w = (let q = h.0 in let r = h.1 in omega arith)
@@ -254,7 +254,7 @@ jump_if_kept : (g : Guest) (override : Option SegmentRegister) (x : Condition) (
 unfolding jumped_if
 jump_if_kept g override x b o w v = jump_where_kept _ g override o w v
 
-count_kept : (x : LoopOperation) (c : Cpu) → AreWords c → AreWords (counted_down x c)
+count_kept : (x : LoopOperation) (c : Cpu) → HasWords c → HasWords (counted_down x c)
 unfolding counted_down
 count_kept Always c w = omega arith
 count_kept WhileEqual c w = omega arith
@@ -291,15 +291,15 @@ transfer_kept g override transfer.FarReturn o w v =
 onward-below : (w : Width) (f : Flags) (o : ℕ) → onward w f o < 65536
 onward-below w f o = choice-below f.direction _ _ (omega arith) (omega arith)
 
-source-passed : (w : Width) (c : Cpu) → AreWords c → AreWords (source_passed w c)
+source-passed : (w : Width) (c : Cpu) → HasWords c → HasWords (source_passed w c)
 unfolding source_passed
 source-passed w c h = (let x = onward-below w c.flags c.si in omega arith)
 
-destination-passed : (w : Width) (c : Cpu) → AreWords c → AreWords (destination_passed w c)
+destination-passed : (w : Width) (c : Cpu) → HasWords c → HasWords (destination_passed w c)
 unfolding destination_passed
 destination-passed w c h = (let x = onward-below w c.flags c.di in omega arith)
 
-compared-words : (w : Width) (c : Cpu) (a b : ℕ) → AreWords c → AreWords (with_comparison w c a b)
+compared-words : (w : Width) (c : Cpu) (a b : ℕ) → HasWords c → HasWords (with_comparison w c a b)
 compared-words w c a b h = omega arith
 
 source-below : (w : Width) (g : Guest) (override : Option SegmentRegister) → IsWellFormed g → source w g override < size w
@@ -320,7 +320,7 @@ once_kept w g override string.Store f = record {
 once_kept w g override string.Load f = record { registers = source-passed w _ (accumulated w g.cpu _ (source-below w g override f) f.registers); memory = f.memory }
 once_kept w g override string.Scan f = record { registers = destination-passed w _ (compared-words w g.cpu _ _ f.registers); memory = f.memory }
 
-counted_kept : (r : Repeat) (x : StringOperation) (start : ℕ) (c : Cpu) → start < 65536 → AreWords c → AreWords (counted r x start c)
+counted_kept : (r : Repeat) (x : StringOperation) (start : ℕ) (c : Cpu) → start < 65536 → HasWords c → HasWords (counted r x start c)
 unfolding counted
 counted_kept r x start c h w = (let i = choice-below ((down c.cx 1 == 0) || ends r x c.flags) c.ip start w.ip h in omega arith)
 

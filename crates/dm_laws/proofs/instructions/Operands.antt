@@ -20,7 +20,7 @@ use Rattle.dm_cpu.specs.Cpu.{byte_of, segment_of, with_byte, with_segment, with_
 use Rattle.dm_cpu.specs.Guest.{Guest}
 use Rattle.dm_cpu.specs.Operands.{address_of, far_segment_of, value_of, with_operand}
 use Rattle.dm_cpu.specs.Values.{accumulator, read_in, value_in, with_accumulator, written_in}
-use Rattle.dm_laws.specs.instructions.WellFormed.{AreBytes, AreWords, IsWellFormed}
+use Rattle.dm_laws.specs.instructions.WellFormed.{HasBytes, HasWords, IsWellFormed}
 use Rattle.dm_laws.proofs.instructions.Values.{mod-below}
 
 -- the values that an operand itself has are values of its kind
@@ -51,7 +51,7 @@ page_set-below (xs ∷ pages) zero i v (suc q) k h l = l (suc q) k
 page_set-below (xs ∷ pages) (suc p) i v zero k h l = l 0 k
 page_set-below (xs ∷ pages) (suc p) i v (suc q) k h l = page_set-below pages p i v q k h (λ q k. l (suc q) k)
 
-place-below : (m : Memory) (p : Place) (v : ℕ) → v < 256 → AreBytes m → AreBytes (with_place m p v)
+place-below : (m : Memory) (p : Place) (v : ℕ) → v < 256 → HasBytes m → HasBytes (with_place m p v)
 place-below m (Low a) v h b (Low c) = set-below m.low a v c h (b (Low c))
 place-below m (Low a) v h b (Page q k) = b (Page q k)
 place-below m (Low a) v h b (Rom k) = b (Rom k)
@@ -63,25 +63,25 @@ place-below m (Page p i) v h b Nothing = b Nothing
 place-below m (Rom i) v h b q = b q
 place-below m Nothing v h b q = b q
 
-pub poke-below : (m : Memory) (a v : ℕ) → v < 256 → AreBytes m → AreBytes (poke m a v)
+pub poke-below : (m : Memory) (a v : ℕ) → v < 256 → HasBytes m → HasBytes (poke m a v)
 unfolding poke
 poke-below m a v h b = place-below m (place m a) v h b
 
-pub poke16-below : (m : Memory) (s o v : ℕ) → v < 65536 → AreBytes m → AreBytes (poke16 m s o v)
+pub poke16-below : (m : Memory) (s o v : ℕ) → v < 65536 → HasBytes m → HasBytes (poke16 m s o v)
 poke16-below m s o v h b = poke-below _ _ (v / 256) (omega arith) (poke-below m _ (v % 256) (omega arith) b)
 
-pub peek-below : (m : Memory) (a : ℕ) → AreBytes m → peek m a < 256
+pub peek-below : (m : Memory) (a : ℕ) → HasBytes m → peek m a < 256
 unfolding peek
 peek-below m a b = b (place m a)
 
-pub peek16-below : (m : Memory) (s o : ℕ) → AreBytes m → peek16 m s o < 65536
+pub peek16-below : (m : Memory) (s o : ℕ) → HasBytes m → peek16 m s o < 65536
 peek16-below m s o b =
     let x = peek-below m (linear m.a20 s o) b in
     let y = peek-below m (linear m.a20 s ((o + 1) % 65536)) b in
     omega arith
 
 -- registers
-pub word-below : (c : Cpu) (r : WordRegister) → AreWords c → word_of c r < 65536
+pub word-below : (c : Cpu) (r : WordRegister) → HasWords c → word_of c r < 65536
 unfolding word_of
 word-below c Ax w = w.ax
 word-below c Cx w = w.cx
@@ -92,7 +92,7 @@ word-below c Bp w = w.bp
 word-below c Si w = w.si
 word-below c Di w = w.di
 
-pub byte-below : (c : Cpu) (r : ByteRegister) → AreWords c → byte_of c r < 256
+pub byte-below : (c : Cpu) (r : ByteRegister) → HasWords c → byte_of c r < 256
 unfolding byte_of
 byte-below c Al w = omega arith
 byte-below c Cl w = omega arith
@@ -103,14 +103,14 @@ byte-below c Ch w = (let x = w.cx in omega arith)
 byte-below c Dh w = (let x = w.dx in omega arith)
 byte-below c Bh w = (let x = w.bx in omega arith)
 
-pub segment-below : (c : Cpu) (r : SegmentRegister) → AreWords c → segment_of c r < 65536
+pub segment-below : (c : Cpu) (r : SegmentRegister) → HasWords c → segment_of c r < 65536
 unfolding segment_of
 segment-below c Es w = w.es
 segment-below c Cs w = w.cs
 segment-below c Ss w = w.ss
 segment-below c Ds w = w.ds
 
-pub with_word-words : (c : Cpu) (r : WordRegister) (v : ℕ) → v < 65536 → AreWords c → AreWords (with_word c r v)
+pub with_word-words : (c : Cpu) (r : WordRegister) (v : ℕ) → v < 65536 → HasWords c → HasWords (with_word c r v)
 unfolding with_word
 with_word-words c Ax v h w = omega arith
 with_word-words c Cx v h w = omega arith
@@ -121,7 +121,7 @@ with_word-words c Bp v h w = omega arith
 with_word-words c Si v h w = omega arith
 with_word-words c Di v h w = omega arith
 
-pub with_byte-words : (c : Cpu) (r : ByteRegister) (v : ℕ) → v < 256 → AreWords c → AreWords (with_byte c r v)
+pub with_byte-words : (c : Cpu) (r : ByteRegister) (v : ℕ) → v < 256 → HasWords c → HasWords (with_byte c r v)
 unfolding with_byte
 with_byte-words c Al v h w = omega arith
 with_byte-words c Cl v h w = omega arith
@@ -132,7 +132,7 @@ with_byte-words c Ch v h w = omega arith
 with_byte-words c Dh v h w = omega arith
 with_byte-words c Bh v h w = omega arith
 
-pub with_segment-words : (c : Cpu) (r : SegmentRegister) (v : ℕ) → v < 65536 → AreWords c → AreWords (with_segment c r v)
+pub with_segment-words : (c : Cpu) (r : SegmentRegister) (v : ℕ) → v < 65536 → HasWords c → HasWords (with_segment c r v)
 unfolding with_segment
 with_segment-words c Es v h w = omega arith
 with_segment-words c Cs v h w = omega arith
@@ -202,22 +202,22 @@ stored g override (operand.Target n) v h f = f
 stored g override (operand.FarTarget n s) v h f = f
 
 -- values by width
-pub accumulator-below : (w : Width) (c : Cpu) → AreWords c → accumulator w c < size w
+pub accumulator-below : (w : Width) (c : Cpu) → HasWords c → accumulator w c < size w
 unfolding accumulator
 accumulator-below Byte c h = byte-below c Al h
 accumulator-below Word c h = word-below c Ax h
 
-pub read-below : (w : Width) (m : Memory) (s o : ℕ) → AreBytes m → read_in w m s o < size w
+pub read-below : (w : Width) (m : Memory) (s o : ℕ) → HasBytes m → read_in w m s o < size w
 unfolding read_in
 read-below Byte m s o b = peek-below m _ b
 read-below Word m s o b = peek16-below m s o b
 
-pub written-bytes : (w : Width) (m : Memory) (s o v : ℕ) → v < size w → AreBytes m → AreBytes (written_in w m s o v)
+pub written-bytes : (w : Width) (m : Memory) (s o v : ℕ) → v < size w → HasBytes m → HasBytes (written_in w m s o v)
 unfolding written_in
 written-bytes Byte m s o v h b = poke-below m _ (v % 256) (omega arith) b
 written-bytes Word m s o v h b = poke16-below m s o v h b
 
-pub accumulated : (w : Width) (c : Cpu) (v : ℕ) → v < size w → AreWords c → AreWords (with_accumulator w c v)
+pub accumulated : (w : Width) (c : Cpu) (v : ℕ) → v < size w → HasWords c → HasWords (with_accumulator w c v)
 unfolding with_accumulator
 accumulated Byte c v h w = with_byte-words c Al (v % 256) (omega arith) w
 accumulated Word c v h w = with_word-words c Ax v h w

@@ -10,7 +10,7 @@ use Rattle.dm_arena.specs.declared.fit.Strategy.{Strategy}
 use Rattle.dm_arena.specs.Allocation.{Allocates}
 use Rattle.dm_arena.specs.Blocks.{IsIn, join}
 use Rattle.dm_arena.specs.Owned.{Frees, Resizes, freed}
-use Rattle.dm_laws.specs.arena.Paragraphs.{IsInFree, IsPartOf, paragraphs}
+use Rattle.dm_laws.specs.arena.Paragraphs.{IsInFree, IsPartOf, paragraphs_taken}
 
 -- the new list has a block of the wanted size and owner at the returned segment, whose paragraphs all were free; each
 -- used block is kept, and every block with an owner was there before or is the new one. (A block counts as used if it
@@ -21,7 +21,7 @@ pub record Allocated (upper : Bool) (S T : Memory) (n owner segment : ℕ) : Typ
   pub block : Header
   pub spelled : IsArena S first_header old
   pub becomes : IsArena T first_header new
-  pub end : paragraphs new ≡ paragraphs old
+  pub end : paragraphs_taken new ≡ paragraphs_taken old
   pub there : IsIn block new
   pub at : block.segment + 1 ≡ segment
   pub owned : block.owner ≡ owner
@@ -42,7 +42,7 @@ pub record Freed (S T : Memory) (segment : ℕ) : Type 0 where
   pub block : Header
   pub spelled : IsArena S first_header old
   pub becomes : IsArena T first_header new
-  pub end : paragraphs new ≡ paragraphs old
+  pub end : paragraphs_taken new ≡ paragraphs_taken old
   pub there : IsIn block old
   pub at : block.segment + 1 ≡ segment
   pub free : IsIn (freed block) new
@@ -61,7 +61,7 @@ pub record Resized (upper : Bool) (S T : Memory) (segment n : ℕ) : Type 0 wher
   pub block : Header
   pub spelled : IsArena S first_header old
   pub becomes : IsArena T first_header new
-  pub end : paragraphs new ≡ paragraphs old
+  pub end : paragraphs_taken new ≡ paragraphs_taken old
   pub there : IsIn block old
   pub at : block.segment + 1 ≡ segment
   pub sized : IsIn (record block { size = n }) new

@@ -8,7 +8,7 @@ use Rattle.dm_arena.specs.declared.fit.Strategy.{Strategy}
 use Rattle.dm_arena.specs.Allocation.{Allocates}
 use Rattle.dm_arena.specs.Blocks.{IsIn}
 use Rattle.dm_arena.specs.Owned.{Frees, Resizes}
-use Rattle.dm_laws.specs.arena.Paragraphs.{paragraphs}
+use Rattle.dm_laws.specs.arena.Paragraphs.{paragraphs_taken}
 
 -- a successful 48h, 49h or 4Ah leads from memory S to memory T
 abbrev pub Succeeds : Bool → Memory → Memory → Type 0
@@ -24,5 +24,5 @@ KeepsContents L S T = (b : Header) (a : ℕ) → IsIn b L → 16 * (b.segment + 
 -- memory, which ends at A000h. (Elsewhere a window can show a block's bytes where a header is)
 abbrev pub CallsKeepContents : Type 0
 CallsKeepContents =
-    (upper : Bool) (S T : Memory) (new : List Header) → Succeeds upper S T → IsArena T first_header new → first_header + paragraphs new ≤ 0xA000
+    (upper : Bool) (S T : Memory) (new : List Header) → Succeeds upper S T → IsArena T first_header new → first_header + paragraphs_taken new ≤ 0xA000
     → KeepsContents new S T

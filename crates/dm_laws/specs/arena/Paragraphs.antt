@@ -7,9 +7,9 @@ use Rattle.dm_arena.specs.Blocks.{IsIn}
 
 -- how many paragraphs the blocks of the list take, each with its header: as the headers lie end to end, the list ends
 -- so far above its first header
-abbrev pub paragraphs : List Header → ℕ
-paragraphs [] = 0
-paragraphs (b ∷ L) = 1 + b.size + paragraphs L
+abbrev pub paragraphs_taken : List Header → ℕ
+paragraphs_taken [] = 0
+paragraphs_taken (b ∷ L) = 1 + b.size + paragraphs_taken L
 
 -- the paragraph at segment p is one of the block's, or its header
 abbrev pub IsPartOf : ℕ → Header → Type 0

@@ -18,8 +18,8 @@ pub record Accumulator : Type 0 where
   pub flags : Flags
 
 -- a byte and a carry or borrow are added to AL: ADD with the carry `false`, ADC with CF
-abbrev pub added : Accumulator → ℕ → Bool → Accumulator
-added x b carry = record {
+abbrev pub by_addition : Accumulator → ℕ → Bool → Accumulator
+by_addition x b carry = record {
   ax = word_of_halves (high x.ax) (sum_value Byte (low x.ax) b carry);
   flags = flags_after_sum Byte (low x.ax) b carry x.flags;
 }
@@ -32,15 +32,15 @@ subtracted x b borrow = record {
 }
 
 -- AX becomes AL times a byte: MUL
-abbrev pub multiplied : Accumulator → ℕ → Accumulator
-multiplied x b = record {
+abbrev pub by_multiplication : Accumulator → ℕ → Accumulator
+by_multiplication x b = record {
   ax = product_value Unsigned Byte (low x.ax) b;
   flags = flags_after_product Unsigned Byte (low x.ax) b x.flags;
 }
 
 -- DAA, DAS, AAA, AAS, AAM or AAD
-abbrev pub adjusted : Adjustment → Accumulator → Accumulator
-adjusted adjustment x = record {
+abbrev pub by_adjustment : Adjustment → Accumulator → Accumulator
+by_adjustment adjustment x = record {
   ax = adjusted_value adjustment x.ax x.flags;
   flags = flags_after_adjustment adjustment x.ax x.flags;
 }
@@ -64,7 +64,7 @@ pub record HasPackedSum (y : Accumulator) (number h : ℕ) : Type 0 where
 abbrev pub PackedDigitsAdd : Type 0
 PackedDigitsAdd =
     (x : Accumulator) (b : ℕ) (carry : Bool) → x.ax < 65536 → IsPacked (low x.ax) → IsPacked b
-    → HasPackedSum (adjusted DecimalAddition (added x b carry)) (packed (low x.ax) + packed b + from_bool carry) (high x.ax)
+    → HasPackedSum (by_adjustment DecimalAddition (by_addition x b carry)) (packed (low x.ax) + packed b + from_bool carry) (high x.ax)
 
 -- AL has the digits of a difference: with what is taken away it makes the number, and 100 for the carry flag, which is
 -- the borrow; AH is h
@@ -77,7 +77,7 @@ pub record HasPackedDifference (y : Accumulator) (taken number h : ℕ) : Type 0
 abbrev pub PackedDigitsSubtract : Type 0
 PackedDigitsSubtract =
     (x : Accumulator) (b : ℕ) (borrow : Bool) → x.ax < 65536 → IsPacked (low x.ax) → IsPacked b
-    → HasPackedDifference (adjusted DecimalSubtraction (subtracted x b borrow)) (packed b + from_bool borrow) (packed (low x.ax)) (high x.ax)
+    → HasPackedDifference (by_adjustment DecimalSubtraction (subtracted x b borrow)) (packed b + from_bool borrow) (packed (low x.ax)) (high x.ax)
 
 -- a byte with an unpacked digit, which is its low half; the high half is anything, as the 3 of an ASCII digit
 pub record IsUnpacked (n : ℕ) : Type 0 where
@@ -98,7 +98,7 @@ pub record HasUnpackedSum (y : Accumulator) (number h : ℕ) : Type 0 where
 abbrev pub UnpackedDigitsAdd : Type 0
 UnpackedDigitsAdd =
     (x : Accumulator) (b : ℕ) (carry : Bool) → x.ax < 65536 → IsUnpacked (low x.ax) → IsUnpacked b
-    → HasUnpackedSum (adjusted AsciiAddition (added x b carry)) (unpacked (low x.ax) + unpacked b + from_bool carry) (high x.ax)
+    → HasUnpackedSum (by_adjustment AsciiAddition (by_addition x b carry)) (unpacked (low x.ax) + unpacked b + from_bool carry) (high x.ax)
 
 -- AL is the digit of a difference: with what is taken away it makes the number, and 10 for the carry flag, which is the
 -- borrow; AH, which was h, has given it, modulo 256
@@ -111,7 +111,7 @@ pub record HasUnpackedDifference (y : Accumulator) (taken number h : ℕ) : Type
 abbrev pub UnpackedDigitsSubtract : Type 0
 UnpackedDigitsSubtract =
     (x : Accumulator) (b : ℕ) (borrow : Bool) → x.ax < 65536 → IsUnpacked (low x.ax) → IsUnpacked b
-    → HasUnpackedDifference (adjusted AsciiSubtraction (subtracted x b borrow)) (unpacked b + from_bool borrow) (unpacked (low x.ax)) (high x.ax)
+    → HasUnpackedDifference (by_adjustment AsciiSubtraction (subtracted x b borrow)) (unpacked b + from_bool borrow) (unpacked (low x.ax)) (high x.ax)
 
 -- AH and AL have the digits of the number
 pub record HasDigits (y : Accumulator) (number : ℕ) : Type 0 where
@@ -122,14 +122,14 @@ pub record HasDigits (y : Accumulator) (number : ℕ) : Type 0 where
 -- MUL of two digits, and AAM
 abbrev pub UnpackedDigitsMultiply : Type 0
 UnpackedDigitsMultiply =
-    (x : Accumulator) (b : ℕ) → low x.ax < 10 → b < 10 → HasDigits (adjusted AsciiMultiplication (multiplied x b)) (low x.ax * b)
+    (x : Accumulator) (b : ℕ) → low x.ax < 10 → b < 10 → HasDigits (by_adjustment AsciiMultiplication (by_multiplication x b)) (low x.ax * b)
 
 -- AAD, and DIV by a digit: AX is the number that the digits in AH and AL spell, which is the quotient times the divisor
 -- and the remainder, below the divisor
 pub record IsDividedByDigit (x : Accumulator) (d : ℕ) : Type 0 where
   pub quotient : ℕ
   pub remainder : ℕ
-  pub divided : quotient_of Unsigned Byte (adjusted AsciiDivision x).ax d ≡ Some (record { quotient = quotient; remainder = remainder })
+  pub divided : quotient_of Unsigned Byte (by_adjustment AsciiDivision x).ax d ≡ Some (record { quotient = quotient; remainder = remainder })
   pub number : quotient * d + remainder ≡ 10 * high x.ax + low x.ax
   pub less : remainder < d
 

@@ -4,7 +4,7 @@ use Rattle.std.specs.Prelude.{List, [], length, ℕ, ◌*◌, ◌+◌, ◌^◌, 
 use Rattle.std.specs.Int.{from_bool}
 use Rattle.dm_alu.specs.declared.adjustments.Adjustment.TheVariants.{DecimalAddition, DecimalSubtraction}
 use Rattle.dm_alu.specs.Adjustments.{high, low, word_of_halves}
-use Rattle.dm_laws.specs.arithmetic.Decimal.{Accumulator, IsPacked, added, adjusted, packed, subtracted}
+use Rattle.dm_laws.specs.arithmetic.Decimal.{Accumulator, IsPacked, by_addition, by_adjustment, packed, subtracted}
 
 -- a byte of each of two numbers, at one place
 pub record Places : Type 0 where
@@ -12,9 +12,9 @@ pub record Places : Type 0 where
   pub b : ℕ
 
 -- the number that packed bytes spell, the lowest first
-abbrev pub number : List ℕ → ℕ
-number [] = 0
-number (d ∷ L) = packed d + 100 * number L
+abbrev pub packed_number : List ℕ → ℕ
+packed_number [] = 0
+packed_number (d ∷ L) = packed d + 100 * packed_number L
 
 -- the first number, and the second
 abbrev pub first_number : List Places → ℕ
@@ -37,10 +37,10 @@ loaded x d = record x { ax = word_of_halves (high x.ax) d }
 -- one place of a sum: AL takes the first byte, ADC adds the second one, DAA adjusts; and one of a difference, by SBB and
 -- DAS
 abbrev pub place_added : Accumulator → Places → Accumulator
-place_added x p = adjusted DecimalAddition (added (loaded x p.a) p.b x.flags.carry)
+place_added x p = by_adjustment DecimalAddition (by_addition (loaded x p.a) p.b x.flags.carry)
 
 abbrev pub place_subtracted : Accumulator → Places → Accumulator
-place_subtracted x p = adjusted DecimalSubtraction (subtracted (loaded x p.a) p.b x.flags.carry)
+place_subtracted x p = by_adjustment DecimalSubtraction (subtracted (loaded x p.a) p.b x.flags.carry)
 
 -- the bytes of the sum, which AL has after each place, and the accumulator after the last one
 abbrev pub sum_bytes : Accumulator → List Places → List ℕ
@@ -64,9 +64,9 @@ after_difference x (p ∷ L) = after_difference (place_subtracted x p) L
 -- number and the first borrow they spell the first number, where the last borrow counts as much as a further place
 pub record NumbersComputed (x : Accumulator) (L : List Places) : Type 0 where
   pub sum :
-      number (sum_bytes x L) + 100 ^ length L * from_bool (after_sum x L).flags.carry ≡ first_number L + second_number L + from_bool x.flags.carry
+      packed_number (sum_bytes x L) + 100 ^ length L * from_bool (after_sum x L).flags.carry ≡ first_number L + second_number L + from_bool x.flags.carry
   pub difference :
-      number (difference_bytes x L) + (second_number L + from_bool x.flags.carry) ≡ first_number L + 100 ^ length L * from_bool (after_difference x L).flags.carry
+      packed_number (difference_bytes x L) + (second_number L + from_bool x.flags.carry) ≡ first_number L + 100 ^ length L * from_bool (after_difference x L).flags.carry
 
 -- decimal numbers of any length are added and subtracted
 abbrev pub NumbersAddAndSubtract : Type 0

@@ -6,7 +6,7 @@ use Rattle.dm_ins.specs.declared.ins.Ins.{Ins}
 use Rattle.dm_cpu.specs.Guest.{Guest}
 use Rattle.dm_exec.specs.Effect.{effect}
 use Rattle.dm_touches.specs.declared.elements.FarAddress.{FarAddress}
-use Rattle.dm_touches.specs.Elements.{linear_of, place_of, bytes_of}
+use Rattle.dm_touches.specs.Elements.{linear_of, byte_place, bytes_of}
 use Rattle.dm_touches.specs.Touches.{reads, writes}
 
 -- ---- bytes and their addresses
@@ -17,15 +17,15 @@ seen m f = peek m (linear_of m.a20 f)
 
 -- the place of an address is that of one of these addresses (two windows, or two spellings of one address, may show one byte)
 abbrev pub IsAmong : Memory → List FarAddress → FarAddress → Type 0
-IsAmong m fs f = Contains (map (place_of m) fs) (place_of m f)
+IsAmong m fs f = Contains (map (byte_place m) fs) (byte_place m f)
 
 -- a byte that is stored, and its address
-pub record Store : Type 0 where
+pub record StoredByte : Type 0 where
   pub address : FarAddress
   pub byte : ℕ
 
 -- the memory after these bytes are stored, in their order
-abbrev pub stored : Memory → List Store → Memory
+abbrev pub stored : Memory → List StoredByte → Memory
 stored m [] = m
 stored m (s ∷ rest) = stored (poke m (linear_of m.a20 s.address) s.byte) rest
 
@@ -54,7 +54,7 @@ pub record DoesTheSame (g h : Guest) (i : Ins) (length : ℕ) : Type 0 where
   pub same_reads : reads h i length ≡ reads g i length
   pub same_writes : writes h i length ≡ writes g i length
   pub registers : (effect h i length).cpu ≡ (effect g i length).cpu
-  pub stores : List Store
+  pub stores : List StoredByte
   pub addresses : map (λ s. s.address) stores ≡ bytes_of (writes g i length)
   pub in_g : (effect g i length).memory ≡ stored g.memory stores
   pub in_h : (effect h i length).memory ≡ stored h.memory stores

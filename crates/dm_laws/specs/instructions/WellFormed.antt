@@ -10,7 +10,7 @@ use Rattle.dm_cpu.specs.Guest.{Guest}
 use Rattle.dm_exec.specs.Effect.{effect}
 
 -- each register is below 2^16
-pub record AreWords (c : Cpu) : Type 0 where
+pub record HasWords (c : Cpu) : Type 0 where
   pub ax : c.ax < 65536
   pub cx : c.cx < 65536
   pub dx : c.dx < 65536
@@ -27,13 +27,13 @@ pub record AreWords (c : Cpu) : Type 0 where
 
 -- each byte that memory keeps is below 256: in RAM, in the blocks of the pool, also where no window shows them, and in
 -- the ROM
-abbrev pub AreBytes : Memory → Type 0
-AreBytes m = (p : Place) → byte_at m p < 256
+abbrev pub HasBytes : Memory → Type 0
+HasBytes m = (p : Place) → byte_at m p < 256
 
 -- registers are words, and memory keeps bytes
 pub record IsWellFormed (g : Guest) : Type 0 where
-  pub registers : AreWords g.cpu
-  pub memory : AreBytes g.memory
+  pub registers : HasWords g.cpu
+  pub memory : HasBytes g.memory
 
 -- an instruction that some bytes spell leaves a well-formed guest well-formed; `len` is its length, as far as IP goes on
 abbrev pub InstructionsKeepWellFormed : Type 0

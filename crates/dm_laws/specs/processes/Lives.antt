@@ -7,7 +7,7 @@ use Rattle.dm_blocks.specs.Chain.{IsArena, first_header, is_linked}
 use Rattle.dm_arena.specs.declared.fit.Strategy.{Strategy}
 use Rattle.dm_arena.specs.Blocks.{join}
 use Rattle.dm_laws.specs.arena.Pairs.{OwnsNone}
-use Rattle.dm_laws.specs.arena.Paragraphs.{paragraphs}
+use Rattle.dm_laws.specs.arena.Paragraphs.{paragraphs_taken}
 use Rattle.dm_cpu.specs.declared.cpu.Cpu.{Cpu}
 use Rattle.dm_proc.specs.declared.parent.Ending.{Ending}
 use Rattle.dm_proc.specs.declared.parent.Ending.TheVariants.{Returned}
@@ -75,5 +75,5 @@ abbrev pub VectorsAreBack : Type 0
 VectorsAreBack =
     (upper : Bool) (ps rs : Processes) (c r : Cpu) (m f : Memory) (store : List (List ℕ × List ℕ)) (strategy : Strategy) (code : ℕ)
     (l : Lives upper ps c m store strategy code rs r f) (taken : List Header) → LeavesBlocks taken l → Fits m
-    → first_header + paragraphs taken ≤ 0xA000 → saved_vectors l.last l.started.present ≡ saved_vectors l.first l.started.present
+    → first_header + paragraphs_taken taken ≤ 0xA000 → saved_vectors l.last l.started.present ≡ saved_vectors l.first l.started.present
     → vectors f ≡ vectors m

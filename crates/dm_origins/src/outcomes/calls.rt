@@ -3,13 +3,15 @@
 //! its findings to `out`; an `Err` is a failed allocation.
 
 ghost use Rattle.std.specs.Prelude.{◌≡◌, ◌++◌, OnOk};
-ghost use Rattle.dm_origins.specs.outcomes.Calls.{allocates, frees, resizes, arranges_lists, is_arena, ends, keeps, is_ending, is_starting, arranges, stays, refusal, refused_by_dos, refused_by_status, refused_by_error, may_be_refused, call_findings};
+ghost use Rattle.dm_origins.specs.outcomes.Calls.{allocates, frees, resizes, arranges_lists, is_arena_function, ends_for_good, keeps, is_ending, is_starting, arranges, stays, refusal, refused_by_dos, refused_by_status, refused_by_error, may_be_refused, call_findings, is_stray_handle, is_stray_extended};
 
 use crate::outcomes::appending::put;
 use dm_cpu::Cpu;
+use dm_drivers::{expanded, extended};
 use dm_findings::{Call, Finding};
 use dm_ins::ByteRegister;
 use dm_services::{Function, function_of};
+use dm_xms::UpperRefusal;
 use std::alloc::AllocError;
 
 /// Whether a function of INT 21h allocates a block.
@@ -54,14 +56,14 @@ fn arranges_lists(function: Function) -> bool
 
 /// Whether a function of INT 21h is one of the arena.
 fn is_arena(function: Function) -> bool
-    ensures { result ≡ is_arena function }
+    ensures { result ≡ is_arena_function function }
 {
     allocates(function) || frees(function) || resizes(function) || arranges_lists(function)
 }
 
 /// Whether a function of INT 21h ends a process, which does not stay.
 fn ends(function: Function) -> bool
-    ensures { result ≡ ends function }
+    ensures { result ≡ ends_for_good function }
 {
     match function {
         Function::Terminate | Function::Exit => true,
@@ -155,26 +157,55 @@ fn put_refused_by_dos(
     put(out, refusal(stray, code))
 }
 
+/// Whether the status of a failed function of INT 67h says that the handle whose pages are to be freed is not in use.
+fn is_stray_handle(function: expanded::Function, status: u8) -> bool
+    ensures { result ≡ is_stray_handle function status }
+{
+    match function {
+        expanded::Function::Deallocate => status == dm_ems::Status::UnknownHandle.code(),
+        _ => false,
+    }
+}
+
 /// Appends that a call of INT 67h failed, if its status (AH) says so: 00h is success, and with 92h a move of
-/// overlapping regions was done. A handle that is not in use is an error for 45h.
-fn put_refused_by_status(out: &mut Vec<Finding>, number: u8, status: u8) -> Result<(), AllocError>
-    ensures { OnOk result (out.new.items ≡ out.old.items ++ refused_by_status number status) }
+/// overlapping regions was done. A handle that is not in use is an error where it is to be freed.
+fn put_refused_by_status(
+    out: &mut Vec<Finding>,
+    function: expanded::Function,
+    status: u8,
+) -> Result<(), AllocError>
+    ensures { OnOk result (out.new.items ≡ out.old.items ++ refused_by_status function status) }
 {
     if status == 0 || status == 0x92 {
         return Ok(());
     }
-    put(out, refusal(number == 0x45 && status == 0x83, status))
+    put(out, refusal(is_stray_handle(function, status), status))
+}
+
+/// Whether the code of a failed function of the extended memory driver says that there is no block to be freed: no
+/// handle with this number, or no upper memory block at this segment.
+fn is_stray_extended(function: extended::Function, code: u8) -> bool
+    ensures { result ≡ is_stray_extended function code }
+{
+    match function {
+        extended::Function::Deallocate => code == dm_xms::Status::UnknownHandle.code(),
+        extended::Function::ReleaseUpper => code == UpperRefusal::Unknown.code(),
+        _ => false,
+    }
 }
 
 /// Appends that a call of the extended memory driver failed, if AX is 0 after it and BL, the error code, is not. A
-/// handle that is not in use is an error for 0Ah, and a segment that is no upper memory block's for 11h.
-fn put_refused_by_error(out: &mut Vec<Finding>, number: u8, after: &Cpu) -> Result<(), AllocError>
-    ensures { OnOk result (out.new.items ≡ out.old.items ++ refused_by_error number after.now) }
+/// handle that is not in use, or a segment that is no upper memory block's, is an error where the block is to be freed.
+fn put_refused_by_error(
+    out: &mut Vec<Finding>,
+    function: extended::Function,
+    after: &Cpu,
+) -> Result<(), AllocError>
+    ensures { OnOk result (out.new.items ≡ out.old.items ++ refused_by_error function after.now) }
 {
     let code = after.byte(ByteRegister::Bl);
     if after.ax == 0 && code != 0 {
-        let stray = number == 0x0A && code == 0xA2 || number == 0x11 && code == 0xB2;
-        return put(out, refusal(stray, code));
+        return put(out, refusal(is_stray_extended(function, code), code));
     }
     Ok(())
 }
@@ -211,9 +242,12 @@ pub fn put_of_call(
             }
         }
         Some(Call::ExpandedMemory(number)) => {
-            put_refused_by_status(out, number, after.byte(ByteRegister::Ah))
+            let function = expanded::function_of(number);
+            put_refused_by_status(out, function, after.byte(ByteRegister::Ah))
         }
-        Some(Call::ExtendedMemory(number)) => put_refused_by_error(out, number, after),
+        Some(Call::ExtendedMemory(number)) => {
+            put_refused_by_error(out, extended::function_of(number), after)
+        }
         Some(Call::Interrupt(_)) => put(out, Finding::NotServed),
         _ => Ok(()),
     }

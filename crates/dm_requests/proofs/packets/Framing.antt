@@ -11,8 +11,8 @@ use Rattle.dm_requests.specs.declared.packets.received.Received.TheVariants.{Pac
 use Rattle.dm_requests.specs.packets.Checks.{checksum_of, is_checked}
 use Rattle.dm_requests.specs.packets.Escapes.{escaped}
 use Rattle.dm_requests.specs.packets.Frames.{frame_of}
-use Rattle.dm_requests.specs.packets.Reading.{Reading, between, within, checked, one_more, after, after_other, received, whole_packet}
-use Rattle.dm_requests.specs.packets.Streams.{IsInside, read_from, after_all}
+use Rattle.dm_requests.specs.packets.Reading.{Reading, between, within, checked, one_more, after_byte, after_other, received, whole_packet}
+use Rattle.dm_requests.specs.packets.Streams.{IsContent, read_from, after_all}
 use Rattle.dm_requests.proofs.packets.Escaping.{escapes_undone, escaped_inside}
 
 -- a stream that stands at r reads this of the text, and then stands at t
@@ -21,31 +21,31 @@ record Leads (r : Reading) (text : List ℕ) (told : List Received) (t : Reading
   pub stands : after_all r text ≡ t
 
 -- a byte of a content completes nothing
-inside_none : (content : Option (List ℕ)) (b : ℕ) → IsInside b → received (within content) b ≡ None
+inside_none : (content : Option (List ℕ)) (b : ℕ) → IsContent b → received (within content) b ≡ None
 inside_none content b here = ap (λ (d : Bool). if d then None else None) (ne_eqb b 36 here.0)
 
 -- a byte of a content that has room for it
-inside_after : (front : List ℕ) (b : ℕ) → IsInside b → length front ≢ 0x4000 → after (within (Some front)) b ≡ within (Some (front ++ b ∷ []))
+inside_after : (front : List ℕ) (b : ℕ) → IsContent b → length front ≢ 0x4000 → after_byte (within (Some front)) b ≡ within (Some (front ++ b ∷ []))
 inside_after front b here few =
     ap (λ (d : Bool). if d then within (Some []) else after_other (within (Some front)) b) (ne_eqb b 36 here.0)
     ∙ ap (λ (d : Bool). if d then checked (Some front) else within (one_more (Some front) b)) (ne_eqb b 35 here.1)
     ∙ ap (λ (d : Bool). within (if d then None else Some (front ++ b ∷ []))) (ne_eqb (length front) 0x4000 few)
 
 -- a content of at most 4000h bytes, and what follows it
-content_read : (front content text : List ℕ) (told : List Received) (t : Reading) → All IsInside content → length (front ++ content) ≤ 0x4000
+content_read : (front content text : List ℕ) (told : List Received) (t : Reading) → All IsContent content → length (front ++ content) ≤ 0x4000
     → Leads (within (Some (front ++ content))) text told t → Leads (within (Some front)) (content ++ text) told t
 content_read front [] text told t all short next = subst (λ (xs : List ℕ). Leads (within (Some xs)) text told t) (append-nil front) next
 content_read front (b ∷ bs) text told t all short next =
-    let here = All-head IsInside b bs all in
+    let here = All-head IsContent b bs all in
     let few : length front ≢ 0x4000 = (let n = length-append front (b ∷ bs) in λ h. absurd (omega (arith, n, h, short))) in
     let same : (front ++ b ∷ []) ++ bs ≡ front ++ b ∷ bs = append_assoc front (b ∷ []) bs in
     let rest : Leads (within (Some (front ++ b ∷ []))) (bs ++ text) told t =
-    content_read (front ++ b ∷ []) bs text told t (All-tail IsInside b bs all)
+    content_read (front ++ b ∷ []) bs text told t (All-tail IsContent b bs all)
     (subst (λ (xs : List ℕ). length xs ≤ 0x4000) (sym same) short)
     (subst (λ (xs : List ℕ). Leads (within (Some xs)) text told t) (sym same) next) in
     record {
       reads =
-          ap (λ (o : Option Received). option_to_list o ++ read_from (after (within (Some front)) b) (bs ++ text)) (inside_none (Some front) b here)
+          ap (λ (o : Option Received). option_to_list o ++ read_from (after_byte (within (Some front)) b) (bs ++ text)) (inside_none (Some front) b here)
           ∙ ap (λ (s : Reading). read_from s (bs ++ text)) (inside_after front b here few) ∙ rest.reads;
       stands = ap (λ (s : Reading). after_all s (bs ++ text)) (inside_after front b here few) ∙ rest.stands;
     }

@@ -4,7 +4,7 @@ use Rattle.std.specs.Prelude.{All, nat_le}
 use Rattle.std.proofs.lemmas.Bool.{eqb-true, eqb-false, leb-true, leb-false, le-leb, lt-leb}
 use Rattle.std.proofs.lemmas.List.Elements.{All-append, All-cons, All-nil}
 use Rattle.dm_requests.specs.packets.Reading.{between, within, checked, half, one_more}
-use Rattle.dm_requests.specs.packets.Streams.{Holds, ended, lone, packet, cut, cut_before_digits, cut_in_digits, IsInside, if_short, read_from}
+use Rattle.dm_requests.specs.packets.Streams.{Holds, ended, lone, packet, cut, cut_before_digits, cut_in_digits, IsContent, if_short, read_from}
 
 -- one byte more of a content that is kept only if it is short
 more_short : (content : List ℕ) (b : ℕ) (p q : Bool) → nat_le (length content) 0x4000 ≡ p → (length content == 0x4000) ≡ q
@@ -29,9 +29,9 @@ one_more_short content b = more_short content b (nat_le (length content) 0x4000)
 -- what is read of this text, wherever the stream stands before it, is what the text holds from the last `$` on
 record IsRead (text : List ℕ) : Type 0 where
   pub outside : Holds text (read_from between text)
-  pub inside : (content : List ℕ) → All IsInside content → Holds (36 ∷ content ++ text) (read_from (within (if_short content)) text)
-  pub digits : (content : List ℕ) → All IsInside content → Holds (36 ∷ content ++ 35 ∷ text) (read_from (checked (if_short content)) text)
-  pub digit : (content : List ℕ) (high : ℕ) → All IsInside content → high ≢ 36 → Holds (36 ∷ content ++ 35 ∷ high ∷ text) (read_from (half (if_short content) high) text)
+  pub inside : (content : List ℕ) → All IsContent content → Holds (36 ∷ content ++ text) (read_from (within (if_short content)) text)
+  pub digits : (content : List ℕ) → All IsContent content → Holds (36 ∷ content ++ 35 ∷ text) (read_from (checked (if_short content)) text)
+  pub digit : (content : List ℕ) (high : ℕ) → All IsContent content → high ≢ 36 → Holds (36 ∷ content ++ 35 ∷ high ∷ text) (read_from (half (if_short content) high) text)
 
 none_read : IsRead []
 none_read = record {
@@ -44,7 +44,7 @@ none_read = record {
 -- a `$`
 dollar_read : (b : ℕ) (text : List ℕ) → IsRead text → b ≡ 36 → IsRead (b ∷ text)
 dollar_read b text rest e =
-    let anew : Holds (36 ∷ text) (read_from (within (Some [])) text) = rest.inside [] (All-nil IsInside) in
+    let anew : Holds (36 ∷ text) (read_from (within (Some [])) text) = rest.inside [] (All-nil IsContent) in
     let P : ℕ → Type 0 = λ c. IsRead (c ∷ text) in
     subst P (sym e) (record {
       outside = anew;
@@ -54,11 +54,11 @@ dollar_read b text rest e =
     })
 
 -- any other byte within a packet, by whether it is `#`
-inside_read : (b : ℕ) (text content : List ℕ) (d : Bool) → IsRead text → b ≢ 36 → (b == 35) ≡ d → All IsInside content
+inside_read : (b : ℕ) (text content : List ℕ) (d : Bool) → IsRead text → b ≢ 36 → (b == 35) ≡ d → All IsContent content
     → Holds (36 ∷ content ++ b ∷ text) (read_from (if d then checked (if_short content) else within (one_more (if_short content) b)) text)
 inside_read b text content true rest other e all = rw (eqb-true b 35 e) (rest.digits content all)
 inside_read b text content false rest other e all =
-    let more : All IsInside (content ++ b ∷ []) = All-append IsInside content (b ∷ []) all (All-cons IsInside b [] (other, eqb-false b 35 e) (All-nil IsInside)) in
+    let more : All IsContent (content ++ b ∷ []) = All-append IsContent content (b ∷ []) all (All-cons IsContent b [] (other, eqb-false b 35 e) (All-nil IsContent)) in
     let holds : Holds (36 ∷ content ++ b ∷ text) (read_from (within (if_short (content ++ b ∷ []))) text) =
     subst (λ (xs : List ℕ). Holds (36 ∷ xs) (read_from (within (if_short (content ++ b ∷ []))) text)) (append_assoc content (b ∷ []) text) (rest.inside (content ++ b ∷ []) more) in
     subst (λ (c : Option (List ℕ)). Holds (36 ∷ content ++ b ∷ text) (read_from (within c) text)) (sym (one_more_short content b)) holds

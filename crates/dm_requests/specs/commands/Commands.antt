@@ -9,7 +9,7 @@ use Rattle.dm_requests.specs.declared.commands.names.CommandName.{CommandName}
 use Rattle.dm_requests.specs.declared.commands.names.CommandName.TheVariants as name
 use Rattle.dm_requests.specs.commands.Words.{words_of}
 use Rattle.dm_requests.specs.commands.Numbers.{◌>>=◌, number_of, up_to, logical_address, bytes_from_digits}
-use Rattle.dm_requests.specs.commands.Names.{name_of}
+use Rattle.dm_requests.specs.commands.Names.{command_word}
 
 -- the command of a line with a name and nothing after it, with defaults for the numbers of G and T; None if the name
 -- needs more
@@ -59,7 +59,7 @@ command_named n _ = None
 abbrev pub of_words : List (List ℕ) → Option Command
 of_words [] = None
 of_words (w ∷ ws) = do
-  n ← name_of w
+  n ← command_word w
   command_named n ws
 
 -- the command that a typed line asks for; None if it is no command

@@ -30,7 +30,7 @@ pair_name a b =
     if a == 66 then (if b == 67 then Some Clear else if b == 76 then Some Breakpoints else None) else None
 
 -- the command that a word names, in either case; None if it names none
-abbrev pub name_of : List ℕ → Option CommandName
-name_of (a ∷ []) = letter_name (uppercase a)
-name_of (a ∷ b ∷ []) = pair_name (uppercase a) (uppercase b)
-name_of _ = None
+abbrev pub command_word : List ℕ → Option CommandName
+command_word (a ∷ []) = letter_name (uppercase a)
+command_word (a ∷ b ∷ []) = pair_name (uppercase a) (uppercase b)
+command_word _ = None

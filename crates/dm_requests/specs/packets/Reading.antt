@@ -52,8 +52,8 @@ received_other (checked content) b = None
 received_other (half content high) b = Some (packet_of content high b)
 
 -- where a stream stands after one more byte: `$` begins a packet wherever it stands
-abbrev pub after : Reading → ℕ → Reading
-after r b = if b == 36 then within (Some []) else after_other r b
+abbrev pub after_byte : Reading → ℕ → Reading
+after_byte r b = if b == 36 then within (Some []) else after_other r b
 
 -- what is complete with one more byte; None if nothing is
 abbrev pub received : Reading → ℕ → Option Received

@@ -3,21 +3,21 @@
 use Rattle.std.specs.Prelude.{◌≡◌, ◌≢◌, ⊤, ℕ, List, [], ◌∷◌, ◌++◌, All, Option, Some, None, nat_le, length, if◌then◌else◌}
 use Rattle.std.specs.Option.{option_to_list}
 use Rattle.dm_requests.specs.declared.packets.received.Received.{Received}
-use Rattle.dm_requests.specs.packets.Reading.{Reading, after, received, lone_byte, packet_of}
+use Rattle.dm_requests.specs.packets.Reading.{Reading, after_byte, received, lone_byte, packet_of}
 
 -- what is read from the rest of a stream that stands at r, byte by byte
 abbrev pub read_from : Reading → List ℕ → List Received
 read_from r [] = []
-read_from r (b ∷ bs) = option_to_list (received r b) ++ read_from (after r b) bs
+read_from r (b ∷ bs) = option_to_list (received r b) ++ read_from (after_byte r b) bs
 
 -- where a stream that stood at r stands after these bytes
 abbrev pub after_all : Reading → List ℕ → Reading
 after_all r [] = r
-after_all r (b ∷ bs) = after_all (after r b) bs
+after_all r (b ∷ bs) = after_all (after_byte r b) bs
 
 -- the byte is part of a packet's content: it is neither `$` nor `#`
-abbrev pub IsInside : ℕ → Type 0
-IsInside b = (b ≢ 36) × (b ≢ 35)
+abbrev pub IsContent : ℕ → Type 0
+IsContent b = (b ≢ 36) × (b ≢ 35)
 
 -- a content of at most 4000h bytes; None if it is longer
 abbrev pub if_short : List ℕ → Option (List ℕ)
@@ -33,10 +33,10 @@ BeginsAnew (b ∷ bs) = b ≡ 36
 pub data Holds : List ℕ → List Received → Type 0 where
   ended : Holds [] []
   lone : (b : ℕ) (text : List ℕ) (told : List Received) → b ≢ 36 → Holds text told → Holds (b ∷ text) (option_to_list (lone_byte b) ++ told)
-  packet : (content text : List ℕ) (high low : ℕ) (told : List Received) → All IsInside content → high ≢ 36 → low ≢ 36 → Holds text told
+  packet : (content text : List ℕ) (high low : ℕ) (told : List Received) → All IsContent content → high ≢ 36 → low ≢ 36 → Holds text told
       → Holds (36 ∷ content ++ 35 ∷ high ∷ low ∷ text) (packet_of (if_short content) high low ∷ told)
-  cut : (content text : List ℕ) (told : List Received) → All IsInside content → BeginsAnew text → Holds text told → Holds (36 ∷ content ++ text) told
-  cut_before_digits : (content text : List ℕ) (told : List Received) → All IsInside content → BeginsAnew text → Holds text told
+  cut : (content text : List ℕ) (told : List Received) → All IsContent content → BeginsAnew text → Holds text told → Holds (36 ∷ content ++ text) told
+  cut_before_digits : (content text : List ℕ) (told : List Received) → All IsContent content → BeginsAnew text → Holds text told
       → Holds (36 ∷ content ++ 35 ∷ text) told
-  cut_in_digits : (content text : List ℕ) (high : ℕ) (told : List Received) → All IsInside content → high ≢ 36 → BeginsAnew text → Holds text told
+  cut_in_digits : (content text : List ℕ) (high : ℕ) (told : List Received) → All IsContent content → high ≢ 36 → BeginsAnew text → Holds text told
       → Holds (36 ∷ content ++ 35 ∷ high ∷ text) told

@@ -1,7 +1,7 @@
 //! The names of debugger commands: one letter or two, in either case.
 
 ghost use Rattle.std.specs.Prelude.{◌≡◌};
-ghost use Rattle.dm_requests.specs.commands.Names.{uppercase, letter_name, pair_name, name_of};
+ghost use Rattle.dm_requests.specs.commands.Names.{uppercase, letter_name, pair_name, command_word};
 
 /// A debugger command, known by its name alone: what follows the name is in `Command`.
 #[derive(Clone, Copy, Debug, PartialEq, Eq)]
@@ -68,7 +68,7 @@ fn of_letters(first: u8, second: u8) -> Option<CommandName>
 
 /// The command that a word names, in either case; None if it names none.
 pub(crate) fn read_name(word: &[u8]) -> Option<CommandName>
-    ensures { result ≡ name_of word.now }
+    ensures { result ≡ command_word word.now }
 {
     match word {
         [letter] => of_letter(upper_byte(*letter)),

@@ -1,7 +1,7 @@
 //! Reads a stream byte by byte.
 
 ghost use Rattle.std.specs.Prelude.{◌≡◌, IfOk, OnOk, OnErr};
-ghost use Rattle.dm_requests.specs.packets.Reading.{between, after, received, lone_byte};
+ghost use Rattle.dm_requests.specs.packets.Reading.{between, after_byte, received, lone_byte};
 
 use crate::packets::content::Content;
 use crate::packets::received::Received;
@@ -73,7 +73,7 @@ impl Receiver {
     /// `AllocError` if there is no memory for the byte or for what the packet carries. Then the byte was not taken.
     pub fn receive(&mut self, byte: u8) -> Result<Option<Received>, AllocError>
         ensures received { IfOk result (λ r. r ≡ received self.old byte) }
-        ensures after { OnOk result (self.new ≡ after self.old byte) }
+        ensures after { OnOk result (self.new ≡ after_byte self.old byte) }
         ensures err { OnErr result (self.new ≡ self.old) }
     {
         if byte == b'$' {

@@ -8,7 +8,7 @@ use Rattle.dm_region.proofs.Written.{twice, written, elsewhere}
 use Rattle.dm_pool.proofs.Blocks.{part_length, set_twice}
 use Rattle.dm_region.proofs.Bytes.{length-with_part}
 use Rattle.dm_space.specs.declared.place.Place.TheVariants.{Page}
-use Rattle.dm_space.specs.Copies.{values, writes, copied_in, copied_out, block_copied_in, block_copied_out}
+use Rattle.dm_space.specs.Copies.{values, bytes_written, copied_in, copied_out, block_copied_in, block_copied_out}
 use Rattle.dm_space.specs.Memory.{Memory, Held, place, peek, poke, byte_at, page_bytes, with_blocks, with_byte}
 use Rattle.dm_space.specs.inner.Runs.{with_run}
 use Rattle.dm_space.proofs.Copies.{length-values, values-more, values-part, part-more, none-written, one-more, same-content}
@@ -37,12 +37,12 @@ poked : (m : Memory) (a v : ℕ) → poke m a v ≡ with_byte m (place m a) v
 unfolding poke
 poked m a v = refl
 
-stored-linear : (vs : List ℕ) (m : Memory) (r : Span) (k : ℕ) → r.kind ≡ Linear → writes m (r.start + k) vs ≡ span_written m r k vs
+stored-linear : (vs : List ℕ) (m : Memory) (r : Span) (k : ℕ) → r.kind ≡ Linear → bytes_written m (r.start + k) vs ≡ span_written m r k vs
 stored-linear [] m r k e = refl
 stored-linear (v ∷ vs) m r k e =
     let next : suc (r.start + k) ≡ r.start + suc k = omega arith in
     let first : poke m (r.start + k) v ≡ with_byte m (place_in m r k) v = poked m (r.start + k) v ∙ ap (λ kind. with_byte m (spot m kind r.blocks (r.start + k)) v) (sym e) in
-    ap (λ (t : Memory). writes t (suc (r.start + k)) vs) first ∙ ap (λ a. writes (with_byte m (place_in m r k) v) a vs) next
+    ap (λ (t : Memory). bytes_written t (suc (r.start + k)) vs) first ∙ ap (λ a. bytes_written (with_byte m (place_in m r k) v) a vs) next
     ∙ stored-linear vs (with_byte m (place_in m r k) v) r (suc k) e
 
 pub write-linear : (h : Held) (r : Span) (k at n : ℕ) → r.kind ≡ Linear → copied_out h at (r.start + k) n ≡ written_out h r k at n

@@ -4,12 +4,12 @@ use Rattle.dm_requests.specs.declared.request.Point.{Point}
 use Rattle.dm_services.specs.declared.state.stop.Stop.TheVariants.{Steps as AllSteps}
 use Rattle.dm_services.specs.state.State.{State}
 use Rattle.dm_machine.specs.Run.{IsRun}
-use Rattle.dm_history.specs.Becomes.{Becomes}
+use Rattle.dm_history.specs.Becomes.{BecomesBy}
 use Rattle.dm_history.specs.Pasts.{Past, Was}
 use Rattle.dm_target.specs.declared.returning.Found.{Found}
 use Rattle.dm_target.specs.Going.{is_among, place_of}
 use Rattle.dm_target.specs.Watching.{Hits}
-use Rattle.dm_target.specs.Returning.{IsClear, AreClear}
+use Rattle.dm_target.specs.Returning.{IsNoHit, AreClear}
 
 -- s is a hit
 pub data IsMet (points : List ℕ) (watches : List Point) (s : State) : Type 0 where
@@ -18,12 +18,12 @@ pub data IsMet (points : List ℕ) (watches : List Point) (s : State) : Type 0 w
 
 -- of the states to which steps lead from o, none from one count of steps up to another is a hit
 abbrev pub ClearTo : List ℕ → List Point → State → ℕ → ℕ → Type 0
-ClearTo points watches o from end = (s : State) → Becomes o [] s → from ≤ s.steps → s.steps < end → IsClear points watches s
+ClearTo points watches o from end = (s : State) → BecomesBy o [] s → from ≤ s.steps → s.steps < end → IsNoHit points watches s
 
 -- steps lead from o to a hit with this count of steps
 pub record MetAt (points : List ℕ) (watches : List Point) (o : State) (k : ℕ) : Type 0 where
   pub at : State
-  pub becomes : Becomes o [] at
+  pub becomes : BecomesBy o [] at
   pub steps : at.steps ≡ k
   pub met : IsMet points watches at
 
@@ -48,7 +48,7 @@ pub data IsStand (points : List ℕ) (m : State) (end : ℕ) (last : Option ℕ)
 abbrev pub IsLookedAt : List ℕ → List Point → State → ℕ → State → Option ℕ → Bool → Type 0
 IsLookedAt points watches o end t found true = Seen points watches o found end
 IsLookedAt points watches o end t None false = ⊥
-IsLookedAt points watches o end t (Some k) false = (t.steps < end) × Becomes o [] t × Stands points watches o t (Some k)
+IsLookedAt points watches o end t (Some k) false = (t.steps < end) × BecomesBy o [] t × Stands points watches o t (Some k)
 
 -- there is something, if some parts were looked at
 abbrev pub IsSomeAfter : ℕ → Option ℕ → Type 0

@@ -6,7 +6,7 @@ use Rattle.std.specs.Prelude.{ℕ, ◌+◌, ◌<◌, ◌≤◌, List, [], ◌∷
 use Rattle.dm_ins.specs.declared.ins.Ins.{Ins}
 use Rattle.dm_ins.specs.Ins.{Spells}
 use Rattle.dm_ins.specs.Preferred.{IsPreferred}
-use Rattle.dm_text.specs.Pieces.{byte_digits}
+use Rattle.dm_text.specs.Pieces.{byte_in_text}
 use Rattle.dm_text.specs.Texts.{text_of}
 
 -- the k bytes of a program from a place on; fewer at the program's end
@@ -22,7 +22,7 @@ pub record StandsInFile (bytes : List ℕ) (at : ℕ) (i : Ins) (k : ℕ) : Type
 -- the word DB and these bytes as numbers, with commas between them
 abbrev pub data_text : List ℕ → List ℕ
 data_text [] = codes "DB "
-data_text (b ∷ bytes) = codes "DB " ++ byte_digits b ++ flat_map (λ c. codes "," ++ byte_digits c) bytes
+data_text (b ∷ bytes) = codes "DB " ++ byte_in_text b ++ flat_map (λ c. codes "," ++ byte_in_text c) bytes
 
 -- the text of an instruction of k bytes at a place; jump targets count from the next instruction
 abbrev pub instruction_text : Ins → ℕ → ℕ → List ℕ

@@ -11,24 +11,24 @@ use Rattle.dm_blocks.specs.Listing.{Walking, Path, Leads, Follows, Closes, IsBeh
 use Rattle.dm_blocks.proofs.Unique.{arena_unique}
 use Rattle.dm_views.specs.declared.inventory.arena.ArenaBlock.{ArenaBlock}
 use Rattle.dm_views.specs.declared.inventory.arena.Walked.TheVariants.{Over, Broken}
-use Rattle.dm_views.specs.inventory.Arena.{block_of, list_rows, front_rows, IsWhole, IsCutShort}
+use Rattle.dm_views.specs.inventory.Arena.{block_record, list_rows, front_rows, IsWhole, IsCutShort}
 use Rattle.dm_views.specs.inventory.inner.Telling.{TellsList}
 
 -- ---- records of more headers
 
-front_more : (k : ℕ) (P : List Header) (b : Header) → front_rows k (P ++ b ∷ []) ≡ front_rows k P ++ block_of k 0x4D b ∷ []
+front_more : (k : ℕ) (P : List Header) (b : Header) → front_rows k (P ++ b ∷ []) ≡ front_rows k P ++ block_record k 0x4D b ∷ []
 front_more k [] b = refl
-front_more k (c ∷ P) b = ap (λ (x : List ArenaBlock). block_of k 0x4D c ∷ x) (front_more k P b)
+front_more k (c ∷ P) b = ap (λ (x : List ArenaBlock). block_record k 0x4D c ∷ x) (front_more k P b)
 
 signed_front : (P : List Header) (b : Header) → signature (P ++ b ∷ []) ≡ 0x4D
 signed_front [] b = refl
 signed_front (c ∷ P) b = refl
 
-list_last : (k : ℕ) (P : List Header) (b : Header) → list_rows k (P ++ b ∷ []) ≡ front_rows k P ++ block_of k 0x5A b ∷ []
+list_last : (k : ℕ) (P : List Header) (b : Header) → list_rows k (P ++ b ∷ []) ≡ front_rows k P ++ block_record k 0x5A b ∷ []
 list_last k [] b = refl
 list_last k (c ∷ P) b =
-    ap (λ (s : ℕ). block_of k s c ∷ list_rows k (P ++ b ∷ [])) (signed_front P b)
-    ∙ ap (λ (x : List ArenaBlock). block_of k 0x4D c ∷ x) (list_last k P b)
+    ap (λ (s : ℕ). block_record k s c ∷ list_rows k (P ++ b ∷ [])) (signed_front P b)
+    ∙ ap (λ (x : List ArenaBlock). block_record k 0x4D c ∷ x) (list_last k P b)
 
 -- ---- the headers before a list
 
@@ -66,15 +66,15 @@ leads_more m F start P t e l f more = record {
 
 -- the record of an entry
 abbrev pub entry_row : ℕ → Entry → ArenaBlock
-entry_row list e = block_of list (signature_byte e.last) e.header
+entry_row list e = block_record list (signature_byte e.last) e.header
 
 told_by : (m : Memory) (F : List Header) (start list : ℕ) (P : List Header) (t : ℕ) (e : Entry) (r : Bool) (at : Option ℕ) (rows : List ArenaBlock) → e.last ≡ r → Leads m F start P t → Follows m F P t e → Closes m F start P e → at ≡ (if e.last then None else Some (next e.header)) → rows ≡ front_rows list P ++ entry_row list e ∷ [] → HasTold m F start list at rows
 told_by m F start list P t e true at rows is l f c next-is same =
     over (P ++ e.header ∷ []) (next-is ∙ ap (λ (b : Bool). if b then None else Some (next e.header)) is)
-    (same ∙ ap (λ (b : Bool). front_rows list P ++ block_of list (signature_byte b) e.header ∷ []) is ∙ sym (list_last list P e.header)) (c is)
+    (same ∙ ap (λ (b : Bool). front_rows list P ++ block_record list (signature_byte b) e.header ∷ []) is ∙ sym (list_last list P e.header)) (c is)
 told_by m F start list P t e false at rows is l f c next-is same =
     on_way (P ++ e.header ∷ []) (next e.header) (next-is ∙ ap (λ (b : Bool). if b then None else Some (next e.header)) is)
-    (same ∙ ap (λ (b : Bool). front_rows list P ++ block_of list (signature_byte b) e.header ∷ []) is ∙ sym (front_more list P e.header)) (leads_more m F start P t e l f is)
+    (same ∙ ap (λ (b : Bool). front_rows list P ++ block_record list (signature_byte b) e.header ∷ []) is ∙ sym (front_more list P e.header)) (leads_more m F start P t e l f is)
 
 at_segment : (m : Memory) (F : List Header) (start : ℕ) (at after : Option ℕ) (s : Step) (t : ℕ) → at ≡ Some t → IsStep m F start at s after → IsStepFrom m F start t s after
 at_segment m F start at after s t e h = subst (λ (o : Option ℕ). IsStep m F start o s after) e h

@@ -9,18 +9,18 @@ use Rattle.dm_blocks.specs.Listing.{Leads, Follows}
 use Rattle.dm_views.specs.declared.inventory.arena.ArenaBlock.{ArenaBlock}
 
 -- the record of a header with this signature byte, of the first list (0) or of the second (1)
-abbrev pub block_of : ℕ → ℕ → Header → ArenaBlock
-block_of list signed b = record { segment = b.segment; owner = b.owner; size = b.size; signature = signed; list = list }
+abbrev pub block_record : ℕ → ℕ → Header → ArenaBlock
+block_record list signed b = record { segment = b.segment; owner = b.owner; size = b.size; signature = signed; list = list }
 
 -- the records of a whole list: the last header has the signature `Z`, the others `M`
 abbrev pub list_rows : ℕ → List Header → List ArenaBlock
 list_rows list [] = []
-list_rows list (b ∷ L) = block_of list (signature L) b ∷ list_rows list L
+list_rows list (b ∷ L) = block_record list (signature L) b ∷ list_rows list L
 
 -- the records of headers after which the list is broken: all have the signature `M`
 abbrev pub front_rows : ℕ → List Header → List ArenaBlock
 front_rows list [] = []
-front_rows list (b ∷ P) = block_of list 0x4D b ∷ front_rows list P
+front_rows list (b ∷ P) = block_record list 0x4D b ∷ front_rows list P
 
 -- memory spells the whole list L from the segment `start` on, where F are the headers of the list before it, if any;
 -- these are its records

@@ -8,11 +8,11 @@ use Rattle.dm_findings.specs.declared.finding.Kept.{Kept}
 use Rattle.dm_findings.specs.declared.finding.Kept.TheVariants as kept
 use Rattle.dm_views.specs.declared.inventory.details.Contents.{Contents}
 use Rattle.dm_views.specs.declared.inventory.details.Details.{Details}
-use Rattle.dm_views.specs.inventory.Pages.{number_of}
+use Rattle.dm_views.specs.inventory.Pages.{truth_number}
 
 -- the contents of a header
-abbrev pub contents_of : found.Contents → Contents
-contents_of c = record { signature = c.signature; owner = c.owner; size = c.size }
+abbrev pub contents_record : found.Contents → Contents
+contents_record c = record { signature = c.signature; owner = c.owner; size = c.size }
 
 -- contents of zeros
 abbrev pub no_contents : Contents
@@ -42,9 +42,9 @@ no_details = record {
 
 -- what a program has allocated at its end
 abbrev pub kept_details : Kept → Details
-kept_details (kept.Handle handle pages saved) = record no_details { handle = handle; pages = pages; saved = number_of saved }
+kept_details (kept.Handle handle pages saved) = record no_details { handle = handle; pages = pages; saved = truth_number saved }
 kept_details (kept.Window window) = record no_details { window = window }
-kept_details (kept.Block handle kib locked) = record no_details { handle = handle; kib = kib; locked = number_of locked }
+kept_details (kept.Block handle kib locked) = record no_details { handle = handle; kib = kib; locked = truth_number locked }
 kept_details (kept.Upper at) = record no_details { block = at }
 kept_details kept.Area = no_details
 kept_details kept.Line = no_details
@@ -53,7 +53,7 @@ kept_details kept.Line = no_details
 -- it; a window, and a byte in it; a byte elsewhere; the code of an error; paragraphs that were wanted and are available;
 -- and what a program has allocated at its end. A failed allocation has the code 8, not enough memory
 abbrev pub details_of : Finding → Details
-details_of (Overwritten at old new) = record no_details { header = at; old_contents = contents_of old; new_contents = contents_of new }
+details_of (Overwritten at old new) = record no_details { header = at; old_contents = contents_record old; new_contents = contents_record new }
 details_of (MappedAway at) = record no_details { header = at }
 details_of (Destroyed at) = record no_details { header = at }
 details_of Whole = no_details

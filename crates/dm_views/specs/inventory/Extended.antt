@@ -5,7 +5,7 @@ use Rattle.dm_xms.specs.declared.tables.Handle.{Handle}
 use Rattle.dm_xms.specs.declared.tables.Upper.{Upper}
 use Rattle.dm_xms.specs.Tables.{Tables}
 use Rattle.dm_xms.specs.Calls.{slot}
-use Rattle.dm_xms.specs.Blocks.{address}
+use Rattle.dm_xms.specs.Blocks.{begin_address}
 use Rattle.dm_views.specs.declared.inventory.extended.ExtendedBlock.{ExtendedBlock}
 use Rattle.dm_views.specs.declared.inventory.extended.UpperBlock.{UpperBlock}
 use Rattle.dm_views.specs.inventory.Rows.{rows_in_turn}
@@ -13,7 +13,7 @@ use Rattle.dm_views.specs.inventory.Rows.{rows_in_turn}
 -- the record of the block of handle `before + 1`; none if the handle is not in use. Handles count from 1
 abbrev pub extended_row : Tables → Memory → ℕ → Option ExtendedBlock
 extended_row xms m before =
-    option_map (λ (h : Handle). record { address = address m h.block; locks = h.locks; handle = before + 1; kib = h.kib }) (slot xms (before + 1))
+    option_map (λ (h : Handle). record { address = begin_address m h.block; locks = h.locks; handle = before + 1; kib = h.kib }) (slot xms (before + 1))
 
 -- the records of the blocks of the handles in use, in rising order
 abbrev pub extended_rows : Tables → Memory → List ExtendedBlock

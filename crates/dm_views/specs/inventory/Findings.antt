@@ -18,7 +18,7 @@ use Rattle.dm_findings.specs.Repeats.{left_kind}
 use Rattle.dm_views.specs.declared.inventory.findings.Act as performed
 use Rattle.dm_views.specs.declared.inventory.findings.Place.{Place}
 use Rattle.dm_views.specs.declared.inventory.findings.FoundRecord.{FoundRecord}
-use Rattle.dm_views.specs.inventory.Pages.{number_of}
+use Rattle.dm_views.specs.inventory.Pages.{truth_number}
 use Rattle.dm_views.specs.inventory.Details.{details_of}
 
 -- ---- kinds
@@ -33,29 +33,29 @@ kind_of f = findings.kind_of f
 
 -- a call: by an interrupt alone (1), by an interrupt and the number of a function (2), or by a far call of the extended
 -- memory driver with that of a function (3)
-abbrev pub call_of : Call → performed.Act
-call_of DivideError = record { how = 1; interrupt = 0; function = 0; next = 0 }
-call_of Terminate = record { how = 1; interrupt = 0x20; function = 0; next = 0 }
-call_of (Dos number) = record { how = 2; interrupt = 0x21; function = number; next = 0 }
-call_of (ExpandedMemory number) = record { how = 2; interrupt = 0x67; function = number; next = 0 }
-call_of Multiplex = record { how = 1; interrupt = 0x2F; function = 0; next = 0 }
-call_of (ExtendedMemory number) = record { how = 3; interrupt = 0; function = number; next = 0 }
-call_of (Interrupt number) = record { how = 1; interrupt = number; function = 0; next = 0 }
+abbrev pub call_record : Call → performed.Act
+call_record DivideError = record { how = 1; interrupt = 0; function = 0; next = 0 }
+call_record Terminate = record { how = 1; interrupt = 0x20; function = 0; next = 0 }
+call_record (Dos number) = record { how = 2; interrupt = 0x21; function = number; next = 0 }
+call_record (ExpandedMemory number) = record { how = 2; interrupt = 0x67; function = number; next = 0 }
+call_record Multiplex = record { how = 1; interrupt = 0x2F; function = 0; next = 0 }
+call_record (ExtendedMemory number) = record { how = 3; interrupt = 0; function = number; next = 0 }
+call_record (Interrupt number) = record { how = 1; interrupt = number; function = 0; next = 0 }
 
 -- what was performed: an instruction (0), with the offset after it, or a call
 abbrev pub act_of : Act → performed.Act
 act_of (act.Instruction ins next) = record { how = 0; interrupt = 0; function = 0; next = next }
-act_of (act.Call call) = call_of call
+act_of (act.Call call) = call_record call
 
 -- a place in the code of a program, and whether the instruction that was performed ends there
-abbrev pub place_of : Site → Place
-place_of (At segment offset) = record { cs = segment; ip = offset; before = 0 }
-place_of (Before segment offset) = record { cs = segment; ip = offset; before = 1 }
+abbrev pub place_record : Site → Place
+place_record (At segment offset) = record { cs = segment; ip = offset; before = 0 }
+place_record (Before segment offset) = record { cs = segment; ip = offset; before = 1 }
 
 -- where something was allocated or freed; zeros where that is not known
 abbrev pub origin_place : Option Origin → Place
 origin_place None = record { cs = 0; ip = 0; before = 0 }
-origin_place (Some o) = place_of o.site
+origin_place (Some o) = place_record o.site
 
 -- the step in which something was allocated or freed; 0 where that is not known
 abbrev pub origin_step : Option Origin → ℕ
@@ -72,8 +72,8 @@ record_of f = record {
   last = f.last;
   origin_step = origin_step f.found.origin;
   kind = kind_of f.found.finding;
-  is_error = number_of (is_error f.found.finding);
-  at = place_of f.found.site;
+  is_error = truth_number (is_error f.found.finding);
+  at = place_record f.found.site;
   origin_at = origin_place f.found.origin;
   act = act_of f.found.act;
   process = f.found.process;

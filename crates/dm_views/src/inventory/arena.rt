@@ -3,7 +3,7 @@ ghost use Rattle.std.specs.Prelude.{◌≡◌, ◌++◌, false, IfOk, List, None
 ghost use Rattle.dm_blocks.specs.declared.header.Header.{Header};
 ghost use Rattle.dm_blocks.specs.Chain.{first_header, link_header, signature_byte, IsArena};
 ghost use Rattle.dm_blocks.specs.Listing.{start_of};
-ghost use Rattle.dm_views.specs.inventory.Arena.{block_of, IsListed, IsListedArena};
+ghost use Rattle.dm_views.specs.inventory.Arena.{block_record, IsListed, IsListedArena};
 ghost use Rattle.dm_views.specs.inventory.inner.Telling.{TellsList, end_of};
 
 use dm_blocks::{Entry, Headers, Step, is_linked, walk};
@@ -39,7 +39,7 @@ pub(crate) enum Walked<'a> {
 
 /// The record of a header.
 fn block_of(entry: Entry, list: u8) -> ArenaBlock
-    ensures { result ≡ block_of list (signature_byte entry.last) entry.header }
+    ensures { result ≡ block_record list (signature_byte entry.last) entry.header }
 {
     ArenaBlock {
         segment: entry.header.segment,

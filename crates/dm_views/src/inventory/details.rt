@@ -1,6 +1,6 @@
 //! What a finding is about, as numbers.
 ghost use Rattle.std.specs.Prelude.{◌≡◌};
-ghost use Rattle.dm_views.specs.inventory.Details.{contents_of, no_details, kept_details, details_of};
+ghost use Rattle.dm_views.specs.inventory.Details.{contents_record, no_details, kept_details, details_of};
 
 use crate::inventory::pages::number_of;
 use dm_findings::{Finding, Kept};
@@ -52,7 +52,7 @@ pub struct Details {
 
 /// The contents of a header.
 fn contents_of(contents: dm_findings::Contents) -> Contents
-    ensures { result ≡ contents_of contents }
+    ensures { result ≡ contents_record contents }
 {
     Contents {
         signature: contents.signature as u16,

@@ -1,7 +1,7 @@
 //! The findings of a checked run as records.
 ghost use Rattle.std.specs.Prelude.{◌≡◌, ◌++◌, map, OnOk};
 ghost use Rattle.dm_findings.specs.Repeats.{left_kind};
-ghost use Rattle.dm_views.specs.inventory.Findings.{kind_of, call_of, act_of, place_of, origin_place, origin_step, record_of};
+ghost use Rattle.dm_views.specs.inventory.Findings.{kind_of, call_record, act_of, place_record, origin_place, origin_step, record_of};
 
 use crate::inventory::details::{Details, details_of};
 use crate::inventory::pages::number_of;
@@ -123,7 +123,7 @@ fn function_of(interrupt: u8, number: u8) -> Act
 
 /// A call.
 fn call_of(call: Call) -> Act
-    ensures { result ≡ call_of call }
+    ensures { result ≡ call_record call }
 {
     match call {
         Call::DivideError => interrupt(0),
@@ -158,7 +158,7 @@ fn act_of(act: &dm_findings::Act) -> Act
 
 /// A place in the code of a program.
 fn place_of(site: Site) -> Place
-    ensures { result ≡ place_of site }
+    ensures { result ≡ place_record site }
 {
     match site {
         Site::At(cs, ip) => Place { cs, ip, before: 0 },

@@ -2,7 +2,7 @@
 //! a failed allocation.
 ghost use Rattle.std.specs.Prelude.{◌≡◌, ◌<◌, ◌++◌, OnOk};
 ghost use Rattle.dm_views.specs.inventory.Rows.{row_of};
-ghost use Rattle.dm_views.specs.inventory.Pages.{number_of, handle_row, handle_rows, window_of, window_rows};
+ghost use Rattle.dm_views.specs.inventory.Pages.{truth_number, handle_row, handle_rows, window_record, window_rows};
 ghost use Rattle.dm_ems.specs.Readers.{page_shown};
 
 use dm_ems::Ems;
@@ -35,7 +35,7 @@ pub struct Window {
 
 /// A truth value as a number.
 pub(crate) fn number_of(b: bool) -> u16
-    ensures { result ≡ number_of b }
+    ensures { result ≡ truth_number b }
 {
     if b { 1 } else { 0 }
 }
@@ -76,7 +76,7 @@ pub fn list_handles(out: &mut Vec<PageHandle>, ems: &Ems) -> Result<(), AllocErr
 /// What a window, 0 to 3, shows.
 fn window_of(ems: &Ems, space: &Space, window: usize) -> Window
     requires { window < 4 }
-    ensures { result ≡ window_of (page_shown ems.now space.now.memory window) }
+    ensures { result ≡ window_record (page_shown ems.now space.now.memory window) }
 {
     match ems.window(space, window) {
         Some((handle, page)) => Window {

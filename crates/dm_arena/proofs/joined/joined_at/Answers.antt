@@ -5,9 +5,9 @@ use Rattle.dm_arena.proofs.joined.joined_at.Goals.{then-entry-via-then-entry, th
 
 pub loop-entry-init : goal.loop-entry-init
 loop-entry-init c = record {
-  there = c.entry_at-entry.ensures.there;
-  fits = c.entry_at-entry.ensures.fits;
-  front = λ L s. joining_start _ _ L _ (c.entry_at-entry.ensures.front L s);
+  there = c.spelled_entry-entry.ensures.there;
+  fits = c.spelled_entry-entry.ensures.fits;
+  front = λ L s. joining_start _ _ L _ (c.spelled_entry-entry.ensures.front L s);
 }
 
 pub returns-then-entry-clause-front : goal.returns-then-entry-clause-front
@@ -20,5 +20,5 @@ pub loop-entry-preserved : goal.loop-entry-preserved
 loop-entry-preserved c = record {
   there = c.loop-entry.invariant.there;
   fits = omega arith;
-  front = λ L s. (let j = c.loop-entry.invariant.front L s in joining_more _ _ L _ c.entry_at-after.result j.0 j.1 c.if-entry.false (search rules) (search rules) (omega arith) _ c.next.ensures c.entry_at-after.ensures.front);
+  front = λ L s. (let j = c.loop-entry.invariant.front L s in joining_more _ _ L _ c.spelled_entry-after.result j.0 j.1 c.if-entry.false (search rules) (search rules) (omega arith) _ c.next.ensures c.spelled_entry-after.ensures.front);
 }

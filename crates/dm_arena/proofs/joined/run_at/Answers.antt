@@ -5,9 +5,9 @@ use Rattle.dm_arena.proofs.joined.run_at.Goals.{then-entry-via-then-entry, then-
 
 pub loop-entry-init : goal.loop-entry-init
 loop-entry-init c = record {
-  there = c.entry_at-entry.ensures.there;
-  fits = c.entry_at-entry.ensures.fits;
-  front = λ L s. open_start _ _ L _ (c.entry_at-entry.ensures.front L s);
+  there = c.spelled_entry-entry.ensures.there;
+  fits = c.spelled_entry-entry.ensures.fits;
+  front = λ L s. open_start _ _ L _ (c.spelled_entry-entry.ensures.front L s);
 }
 
 pub returns-then-entry-clause-front : goal.returns-then-entry-clause-front
@@ -20,5 +20,5 @@ pub loop-entry-preserved : goal.loop-entry-preserved
 loop-entry-preserved c = record {
   there = c.loop-entry.invariant.there;
   fits = omega arith;
-  front = λ L s. (let j = c.loop-entry.invariant.front L s in open_more _ _ L _ c.entry_at-following.result _ j.0 j.1 c.if-entry.false (search rules) (search rules) (omega arith) _ c.next.ensures c.entry_at-following.ensures.front);
+  front = λ L s. (let j = c.loop-entry.invariant.front L s in open_more _ _ L _ c.spelled_entry-following.result _ j.0 j.1 c.if-entry.false (search rules) (search rules) (omega arith) _ c.next.ensures c.spelled_entry-following.ensures.front);
 }

@@ -12,14 +12,14 @@ walk-init c = λ L s. (L, survey_all _ _ L _ _ s)
 pub returns-then-entry : goal.returns-then-entry
 returns-then-entry c = λ L s.
     (let k = c.walk.invariant L s in
-    let f = taken_front _ _ _ _ (search rules) (c.entry_at-entry.ensures.front k.0 k.1.choosing.spelled) in
-    survey_whole _ _ L _ _ _ _ _ _ k.0 k.1 s (record { entry = c.entry_at-entry.result; several = false }) f.0 f.1 _ c.meet-choice.ensures.block c.meet-choice.ensures.largest c.if-entry.true _ refl)
+    let f = taken_front _ _ _ _ (search rules) (c.spelled_entry-entry.ensures.front k.0 k.1.choosing.spelled) in
+    survey_whole _ _ L _ _ _ _ _ _ k.0 k.1 s (record { entry = c.spelled_entry-entry.result; several = false }) f.0 f.1 _ c.meet-choice.ensures.block c.meet-choice.ensures.largest c.if-entry.true _ refl)
 
 pub walk-preserved-then-not-is_free : goal.walk-preserved-then-not-is_free
 walk-preserved-then-not-is_free c = λ L s.
     (let k = c.walk.invariant L s in
-    let f = taken_front _ _ _ _ (search rules) (c.entry_at-entry.ensures.front k.0 k.1.choosing.spelled) in
-    survey_more _ _ L _ _ _ _ _ _ k.0 k.1 s (record { entry = c.entry_at-entry.result; several = false }) f.0 f.1 _ c.meet-choice.ensures.block c.meet-choice.ensures.largest c.if-entry.false _ _ c.walk.several c.next-segment.ensures (or_none _) c.next_from-from.ensures)
+    let f = taken_front _ _ _ _ (search rules) (c.spelled_entry-entry.ensures.front k.0 k.1.choosing.spelled) in
+    survey_more _ _ L _ _ _ _ _ _ k.0 k.1 s (record { entry = c.spelled_entry-entry.result; several = false }) f.0 f.1 _ c.meet-choice.ensures.block c.meet-choice.ensures.largest c.if-entry.false _ _ c.walk.several c.next-segment.ensures (or_none _) c.next_from-from.ensures)
 
 pub returns-then-run : goal.returns-then-run
 returns-then-run c = λ L s.

@@ -2,7 +2,7 @@ use Rattle.std.proofs.Common.{◌∙◌, ℕ, List, Option, None, length, refl, 
 use Rattle.dm_services.specs.declared.state.stop.Stop.{Stop}
 use Rattle.dm_services.specs.state.State.{State}
 use Rattle.dm_findings.specs.declared.report.Listed.{Listed}
-use Rattle.dm_checker.specs.Checking.{GoesOn, HasProcesses, IsUnderWay}
+use Rattle.dm_checker.specs.Checking.{RunGoesOn, HasProcesses, IsUnderWay}
 use Rattle.dm_checker.proofs.Checking.{at_err}
 use Rattle.dm_cli.proofs.Following.{none_listed, first_printed, lines_few, grown_by, lost_with, lost_kept, report_free}
 use Rattle.dm_cli.proofs.checking.follow.Goals as goal
@@ -40,7 +40,7 @@ pub returns-in-Some-clause-ok : goal.returns-in-Some-clause-ok
 returns-in-Some-clause-ok g c s n way =
     let t = c.go_on.new.machine in
     let run = c.go_on.new.self in
-    let goes = subst (λ (o : Option Stop). GoesOn s n o t c.loop-stop.run run) c.in-Some.is (c.in_ok-stop.ensures.ok s n (c.loop-stop.invariant.way s n way)) in
+    let goes = subst (λ (o : Option Stop). RunGoesOn s n o t c.loop-stop.run run) c.in-Some.is (c.in_ok-stop.ensures.ok s n (c.loop-stop.invariant.way s n way)) in
     record {
       processes = subst (λ (o : Option Stop). HasProcesses s n o t run) c.in-Some.is (c.in_ok-stop.ensures.processes s n (c.loop-stop.invariant.way s n way));
       report = report_free s t n c.loop-stop.run.free c.args.run.now.free c.in-Some.stop run.report c.loop-stop.invariant.free goes;
@@ -51,8 +51,8 @@ pub loop-stop-preserved : goal.loop-stop-preserved
 loop-stop-preserved g c =
     let t = c.go_on.new.machine in
     let run = c.go_on.new.self in
-    let goes : (s : State) (n : ℕ) → IsUnderWay s n c.args.machine.now c.args.run.now → GoesOn s n None t c.loop-stop.run run
-    = λ s n way. subst (λ (o : Option Stop). GoesOn s n o t c.loop-stop.run run) c.in_default.is (c.in_ok-stop.ensures.ok s n (c.loop-stop.invariant.way s n way)) in
+    let goes : (s : State) (n : ℕ) → IsUnderWay s n c.args.machine.now c.args.run.now → RunGoesOn s n None t c.loop-stop.run run
+    = λ s n way. subst (λ (o : Option Stop). RunGoesOn s n o t c.loop-stop.run run) c.in_default.is (c.in_ok-stop.ensures.ok s n (c.loop-stop.invariant.way s n way)) in
     record {
       way = λ s n way. (goes s n way).0;
       free = (goes c.requires.way.0 c.requires.way.1 c.requires.way.2).2 ∙ c.loop-stop.invariant.free;
@@ -65,4 +65,4 @@ pub loop-stop-smaller : goal.loop-stop-smaller
 loop-stop-smaller g c =
     let s = c.requires.way.0 in
     let n = c.requires.way.1 in
-    (subst (λ (o : Option Stop). GoesOn s n o c.go_on.new.machine c.loop-stop.run c.go_on.new.self) c.in_default.is (c.in_ok-stop.ensures.ok s n (c.loop-stop.invariant.way s n c.requires.way.2))).1
+    (subst (λ (o : Option Stop). RunGoesOn s n o c.go_on.new.machine c.loop-stop.run c.go_on.new.self) c.in_default.is (c.in_ok-stop.ensures.ok s n (c.loop-stop.invariant.way s n c.requires.way.2))).1

@@ -1,6 +1,6 @@
 use Rattle.dm_findings.specs.Findings.{is_error}
 use Rattle.dm_reports.specs.Texts.{kind_text}
-use Rattle.dm_json.specs.Objects.{closing, found_members, found_object, opening}
+use Rattle.dm_json.specs.Objects.{object_end, found_members, found_object, opening}
 use Rattle.dm_reports.proofs.Puts.{behind, ends_with}
 use Rattle.dm_json.proofs.objects.put_found_object.Goals as goal
 
@@ -10,4 +10,4 @@ returns c =
     let old = c.args.out.now.items in
     let f = c.args.found.now in
     let members = behind old (opening (kind_text (is_error f.finding))) (found_members f) _ _ (rw c.kind_of.ensures at c.in_ok-put_opening.ensures) c.in_ok-put_members.ensures in
-    ends_with c.extend_from_slice.result old _ closing _ _ _ members c.extend_from_slice.ensures.items
+    ends_with c.extend_from_slice.result old _ object_end _ _ _ members c.extend_from_slice.ensures.items

@@ -1,6 +1,6 @@
 use Rattle.std.specs.Prelude.{codes}
 use Rattle.std.specs.List.{flat_map}
-use Rattle.dm_json.specs.Objects.{again_object, closing, number_member, opening, summary_objects, unlisted_object}
+use Rattle.dm_json.specs.Objects.{again_object, object_end, number_member, opening, summary_objects, unlisted_object}
 use Rattle.dm_reports.proofs.Puts.{behind, ends_with}
 use Rattle.dm_json.proofs.objects.put_summary_objects.Goals as goal
 
@@ -13,4 +13,4 @@ returns c =
     let word = behind old _ (opening (codes "summary")) _ _ out c.in_ok-put_opening.ensures in
     let errors = behind old _ (number_member (codes "errors") r.errors) _ _ word (rw c.errors.ensures at c.in_ok-put_number_member.ensures) in
     let notes = behind old _ (number_member (codes "notes") r.notes) _ _ errors (rw c.notes.ensures at c.in_ok-put_number_member-2.ensures) in
-    ends_with c.extend_from_slice.result old _ closing _ _ _ notes c.extend_from_slice.ensures.items
+    ends_with c.extend_from_slice.result old _ object_end _ _ _ notes c.extend_from_slice.ensures.items

@@ -1,6 +1,6 @@
 use Rattle.std.specs.Prelude.{codes}
 use Rattle.dm_findings.specs.processes.Processes.{name_text}
-use Rattle.dm_json.specs.Objects.{closing, number_member, opening, string_member}
+use Rattle.dm_json.specs.Objects.{object_end, number_member, opening, string_member}
 use Rattle.dm_json.specs.Processes.{last_member, process_object}
 use Rattle.dm_reports.proofs.Puts.{behind, ends_with}
 use Rattle.dm_json.proofs.processes.put_process_object.Goals as goal
@@ -15,4 +15,4 @@ returns c =
     let parent = behind old _ (number_member (codes "parent") p.parent) _ _ name c.in_ok-put_number_member-2.ensures in
     let first = behind old _ (number_member (codes "first") p.first) _ _ parent c.in_ok-put_number_member-3.ensures in
     let last = behind old _ (last_member p.last) _ _ first c.in_ok-put_last_member.ensures in
-    ends_with c.extend_from_slice.result old _ closing _ _ _ last c.extend_from_slice.ensures.items
+    ends_with c.extend_from_slice.result old _ object_end _ _ _ last c.extend_from_slice.ensures.items

@@ -4,7 +4,7 @@ use Rattle.dm_findings.specs.declared.processes.process.Process.{Process}
 use Rattle.dm_origins.specs.declared.handles.Since.{Since}
 use Rattle.dm_origins.specs.declared.handles.Since.TheVariants.{Unused}
 use Rattle.dm_origins.specs.declared.uppers.UpperSince.{UpperSince}
-use Rattle.dm_origins.specs.Origins.{Known, known_first, nothing_known, seen}
+use Rattle.dm_origins.specs.Origins.{Known, known_first, nothing_known, seen_handle}
 use Rattle.dm_origins.proofs.origins.Origins.new.Goals as goal
 
 known : List Since → List Since → List (Option UpperSince) → Since → Since → List (Option Origin) → List Process → Known
@@ -16,7 +16,7 @@ returns c =
     let xs = c.look_at_handles.new.known in
     let ys = c.look_at_blocks.new.known in
     let us = c.look_at_uppers.new.known in
-    let area = c.seen-area.ensures ∙ ap (λ (b : Bool). seen b None Unused) c.hma.ensures in
+    let area = c.seen-area.ensures ∙ ap (λ (b : Bool). seen_handle b None Unused) c.hma.ensures in
     let none = nothing_known c.args.present in
     let t = known_first c.args.ems.now c.args.xms.now c.args.on c.args.present in
     let pushed = c.in_ok-push.ensures.items ∙ ap (λ (l : List Process). l ++ c.args.present ∷ []) c.new-processes.ensures.items in

@@ -1,6 +1,6 @@
-use Rattle.std.proofs.Common.{refl, arith}
+use Rattle.std.proofs.Common.{arith}
 use Rattle.dm_arena.proofs.Write.{shape5, kept5, header_written}
-use Rattle.dm_arena.proofs.writing.write_header.Goals as goal
+use Rattle.dm_arena.proofs.writing.write_high_header.Goals as goal
 
 pub returns-clause-memory : goal.returns-clause-memory
 returns-clause-memory c = record {
