@@ -210,7 +210,7 @@ impl Table {
     {
         match self.places[slot] {
             Some(place) => place,
-            None => Extent { base: 0, units: 0 },
+            None => unreachable!(),
         }
     }
 

@@ -23,6 +23,6 @@ returns-in-Some c =
     ap (λ (xs : List ℕ). held (record s.store { blocks = with_content s.store.blocks block (refit old xs) }) s.windows s.a20) c.put_word.ensures
     ∙ ap (λ (xs : List ℕ). held (record s.store { blocks = with_content s.store.blocks block xs }) s.windows s.a20) (word_lent old c.bytes_mut.result.now k (c.args.value % 256) (c.args.value / 256) c.bytes_mut.ensures.value)
     ∙ ap (λ (n : Memory). record { memory = n; scratch = s.store.scratch })
-    (word_put m c.args.segment c.args.offset at block c.args.value (grind (arith, nat_tests)) refl (omega (arith, c.if-at-ge917504.true)) (omega (arith, c.if-at-lt983040.true))
-    (omega (arith, c.if-at.true)) here (page-there m.blocks.contents block 0 (omega (arith, page.1))))
+    (word_put m c.args.segment c.args.offset at block c.args.value (grind (arith, nat_tests)) refl (omega (arith, c.if-at-lt917504.false)) (omega (arith, c.if-at-ge983040.false))
+    (grind (arith, nat_tests)) here (page-there m.blocks.contents block 0 (omega (arith, page.1))))
     ∙ ap (λ (h : Held). record h { memory = poke16 h.memory c.args.segment c.args.offset c.args.value }) c.self.view_is
