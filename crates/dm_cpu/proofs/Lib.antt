@@ -1,5 +1,4 @@
 mod Bytes
-mod Ends
 mod Loaded
 mod Results
 pub mod Unseen

@@ -23,7 +23,7 @@ returns-in-Some c =
     let block = c.in-Some.block in
     let old = get_or s.store.blocks.contents block [] in
     let here = subst (λ (h : Held). place h.memory at ≡ Page block (at % 0x4000)) (sym c.self.view_is) c.in-Some.ensures.place in
-    ap (λ (xs : List ℕ). held (record s.store { blocks = with_content s.store.blocks block xs }) s.windows s.a20) (lent old c.bytes_mut.result.now k c.args.value c.bytes_mut.ensures.value)
+    ap (λ (xs : List ℕ). held (record s.store { blocks = with_content s.store.blocks block xs }) s.windows s.a20) (lent old c.bytes_mut-bytes.result.now k c.args.value c.bytes_mut-bytes.ensures.value)
     ∙ ap (λ (n : Memory). record { memory = n; scratch = s.store.scratch })
     (byte_put m c.args.segment c.args.offset at block c.args.value refl (omega (arith, c.if-at-lt983040.true)) here)
     ∙ ap (λ (h : Held). record h { memory = poke h.memory (linear h.memory.a20 c.args.segment c.args.offset) c.args.value }) c.self.view_is
