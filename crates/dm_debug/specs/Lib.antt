@@ -1,4 +1,5 @@
 pub mod stops
+pub mod Answers
 pub mod Debugged
 pub mod Points
 pub mod Runs

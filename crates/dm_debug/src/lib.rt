@@ -4,6 +4,7 @@
 //! Module `stops` has runs up to events, as hosts ask for them.
 #![tactic(auto)]
 
+mod answer;
 mod input;
 mod laws;
 mod listings;
@@ -13,6 +14,7 @@ mod runs;
 mod session;
 pub mod stops;
 
+pub use answer::Answer;
 pub use laws::runs_have_one_answer;
 pub use points::Points;
 pub use refusal::CommandRefusal;

@@ -1,4 +1,3 @@
 -- Definitions that private contracts and proofs alone name.
-pub mod Texts
 pub mod Monitor
 pub mod Checking

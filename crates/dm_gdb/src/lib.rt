@@ -12,7 +12,6 @@ mod digits;
 mod monitor;
 mod replies;
 mod server;
-mod texts;
 
 pub use connection::Connection;
 pub use replies::{Reply, put_reply};

@@ -3,9 +3,9 @@ ghost use Rattle.std.specs.Prelude.{◌≡◌, OnOk, IfErr};
 ghost use Rattle.dm_host.specs.Commands.{IsCommanded, IsUncommanded};
 ghost use Rattle.dm_host.specs.inner.Answers;
 
-use crate::answer::Answer;
 use crate::host::{Host, Stage};
 use crate::refusal::Refusal;
+use dm_debug::Answer;
 use std::alloc::Global;
 
 /// Why a session refused a line, as a host returns it. A failed write is a failed allocation, since the answer is

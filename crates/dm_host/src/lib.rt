@@ -2,7 +2,6 @@
 //! read. Each call that can fail returns why it did.
 #![tactic(auto)]
 
-mod answer;
 mod by_handle;
 mod checks;
 mod commands;

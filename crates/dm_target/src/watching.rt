@@ -16,7 +16,6 @@ ghost use Rattle.dm_target.specs.inner.Looking.{Looks, all_bytes, pause_at};
 
 use crate::going::Pause;
 use crate::memory::{LAST, byte_at, reads_as};
-use dm_cpu::Cpu;
 use dm_decode::decode;
 use dm_history::History;
 use dm_machine::{Machine, Stop};
@@ -97,39 +96,13 @@ fn first_touched(a20: bool, touched: &Touched, watches: &[Point]) -> Option<Poin
     None
 }
 
-/// The sixteen bytes from CS:IP on; offsets wrap.
-#[tactic(auto, unfolding(dm_space::specs::EightBytes::sixteen_after))]
-fn fetch(cpu: &Cpu, space: &Space) -> [u8; 16]
-    ensures { result ≡ fetched space.now.memory cpu.now }
-{
-    let at = |k: u16| space.peek(cpu.cs, cpu.ip.wrapping_add(k));
-    [
-        at(0),
-        at(1),
-        at(2),
-        at(3),
-        at(4),
-        at(5),
-        at(6),
-        at(7),
-        at(8),
-        at(9),
-        at(10),
-        at(11),
-        at(12),
-        at(13),
-        at(14),
-        at(15),
-    ]
-}
-
 /// The first of these watchpoints that the instruction at CS:IP hits; None also if the bytes there are no instruction.
 pub(crate) fn first_hit(machine: &Machine, watches: &[Point]) -> Option<Point>
     ensures { (i : Ins) (length : ℕ) → BeginsWith (fetched machine.now.memory machine.now.cpu) i length → result ≡ find (is_touched machine.now.memory.a20 (reads (guest machine.now.cpu machine.now.memory) i length) (writes (guest machine.now.cpu machine.now.memory) i length)) watches.now }
 {
     let cpu = machine.cpu();
     let space = machine.space();
-    match decode(&fetch(&cpu, space)) {
+    match decode(&space.sixteen_bytes(cpu.cs, cpu.ip)) {
         Some((ins, length)) => {
             let touched = touched(&ins, length, &cpu, space);
             first_touched(space.a20(), &touched, watches)

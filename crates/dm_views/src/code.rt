@@ -3,7 +3,6 @@
 
 ghost use Rattle.std.specs.Prelude.{◌≡◌, ◌+◌, ◌%◌, ◌++◌, ◌≤◌, List, ℕ, length, take, OnOk, IfOk};
 ghost use Rattle.std.specs.List.{flat_map};
-ghost use Rattle.dm_space.specs.EightBytes.{sixteen_after};
 ghost use Rattle.dm_text.specs.Texts.{text_of};
 ghost use Rattle.dm_views.specs.Digits.{two_digits};
 ghost use Rattle.dm_views.specs.Code.{instruction_line, byte_line, IsLine, IsCode};
@@ -14,32 +13,6 @@ use dm_ins::Ins;
 use dm_space::Space;
 use dm_text::{Line, text};
 use std::alloc::AllocError;
-
-/// The sixteen bytes from segment:offset on, from which an instruction is decoded; offsets wrap.
-#[tactic(auto, unfolding(dm_space::specs::EightBytes::sixteen_after))]
-fn window(space: &Space, segment: u16, offset: u16) -> [u8; 16]
-    ensures { result ≡ sixteen_after space.now.memory segment offset }
-{
-    let at = |k: u16| space.peek(segment, offset.wrapping_add(k));
-    [
-        at(0),
-        at(1),
-        at(2),
-        at(3),
-        at(4),
-        at(5),
-        at(6),
-        at(7),
-        at(8),
-        at(9),
-        at(10),
-        at(11),
-        at(12),
-        at(13),
-        at(14),
-        at(15),
-    ]
-}
 
 /// Appends bytes, those of an instruction or of the name of an expanded memory handle, as pairs of hexadecimal digits
 /// with nothing between them.
@@ -100,7 +73,7 @@ pub(crate) fn put_line(
 ) -> Result<u16, AllocError>
     ensures { IfOk result (λ k. (line : List ℕ) × (out.new.items ≡ out.old.items ++ line) × IsLine space.now.memory segment offset k line) }
 {
-    let bytes = window(space, segment, offset);
+    let bytes = space.sixteen_bytes(segment, offset);
     let Some((ins, len)) = decode(&bytes) else {
         put_unlisted(out, segment, offset, bytes[0])?;
         return Ok(1);

@@ -1,14 +1,8 @@
 -- The answer of a debugger command, as it is written to memory.
-use Rattle.std.specs.Prelude.{ℕ, List}
 use Rattle.dm_debug.specs.declared.refusal.CommandRefusal as session
 use Rattle.dm_debug.specs.declared.refusal.CommandRefusal.TheVariants as why
 use Rattle.dm_host.specs.declared.refusal.Refusal.{Refusal}
 use Rattle.dm_host.specs.declared.refusal.Refusal.TheVariants.{Syntax, Full, Memory}
-
--- a writer into memory: the bytes that it has taken, and how many writes failed
-pub record Kept : Type 0 where
-  pub bytes : List ℕ
-  pub failures : ℕ
 
 -- why a session refused a line, as a host returns it; a failed write is a failed allocation
 abbrev pub refusal_of : session.CommandRefusal → Refusal

@@ -1,4 +1,4 @@
-//! A writer into memory, which takes what a command of the debugger prints.
+//! A writer into memory, which takes what a command prints.
 ghost use Rattle.std.specs.Prelude.{◌≡◌, []};
 
 use dm_machine::{Failed, Out};
@@ -9,44 +9,44 @@ use std::marker::Model;
 ///
 /// A contract sees the bytes, and how many writes failed because an allocation did.
 #[derive(Drop)]
-pub(crate) struct Text {
+pub struct Answer {
     bytes: Vec<u8>,
     failures: u64,
 }
 
-impl Model for Text {
-    ghost use Rattle.dm_gdb.specs.inner.Texts.{Kept};
+impl Model for Answer {
+    ghost use Rattle.dm_debug.specs.Answers.{Collected};
 
-    ghost Value = { Kept };
+    ghost Value = { Collected };
 
-    ghost view = { λ t. record { bytes = t.bytes.items; failures = t.failures } };
+    ghost view = { λ a. record { bytes = a.bytes.items; failures = a.failures } };
 }
 
-impl Text {
+impl Answer {
     /// A writer that has taken no bytes.
-    pub(crate) fn new(alloc: Global) -> Text
+    pub fn new(alloc: Global) -> Answer
         ensures { result ≡ record { bytes = []; failures = 0 } }
     {
-        Text {
+        Answer {
             bytes: Vec::new(alloc),
             failures: 0,
         }
     }
 
     /// The bytes that it has taken.
-    pub(crate) fn into_bytes(self) -> Vec<u8>
+    pub fn into_bytes(self) -> Vec<u8>
         ensures { result.items ≡ self.bytes }
     {
         self.bytes
     }
 }
 
-impl Out for Text {
+impl Out for Answer {
     ghost use Rattle.std.specs.Prelude.{Some};
 
-    ghost taken = { λ t. Some t.bytes };
+    ghost taken = { λ a. Some a.bytes };
 
-    ghost failures = { λ t. t.failures };
+    ghost failures = { λ a. a.failures };
 
     /// Keeps all of `bytes`, and returns how many they are. `Failed` if the allocation for them fails, which is counted
     /// if `bytes` is not empty.
