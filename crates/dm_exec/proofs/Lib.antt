@@ -5,3 +5,4 @@ mod ByWidth
 mod Upwards
 mod Upper
 mod Elements
+mod Runs

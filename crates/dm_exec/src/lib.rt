@@ -8,6 +8,7 @@ mod far;
 mod jumps;
 mod laws;
 mod moves;
+mod near;
 mod operation;
 mod repetitions;
 mod strings;
