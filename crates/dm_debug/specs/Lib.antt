@@ -1,7 +1,7 @@
 pub mod stops
-pub mod Answers
 pub mod Debugged
 pub mod Points
+pub mod Printed
 pub mod Runs
 pub mod Sessions
 pub mod Input

@@ -11,7 +11,7 @@ ghost use Rattle.dm_requests.specs.declared.request.Request.TheVariants as reque
 use crate::checking::is_check;
 use crate::replies::Reply;
 use crate::server::Server;
-use dm_debug::{Answer, Session};
+use dm_debug::{PrintedText, Session};
 use dm_machine::Stop;
 use dm_requests::commands::{Command, read_command, read_number};
 use dm_requests::packets::Payload;
@@ -75,7 +75,7 @@ fn shown_by(alloc: Global, session: &mut Session, line: &[u8]) -> Result<Vec<u8>
     requires { is_shown_line (command_of line.now) ≡ true }
     ensures { IfOk result (λ text. ShowsLine session.old line.now text.items) }
 {
-    let mut text = Answer::new(alloc);
+    let mut text = PrintedText::new(alloc);
     match session.command(alloc, line, &mut text) {
         Ok(()) => Ok(text.into_bytes()),
         Err(_) => Err(AllocError),

@@ -5,7 +5,7 @@ ghost use Rattle.dm_host.specs.inner.Answers;
 
 use crate::host::{Host, Stage};
 use crate::refusal::Refusal;
-use dm_debug::Answer;
+use dm_debug::PrintedText;
 use std::alloc::Global;
 
 /// Why a session refused a line, as a host returns it. A failed write is a failed allocation, since the answer is
@@ -38,7 +38,7 @@ impl Host {
         let Stage::Loaded(session) = &mut self.stage else {
             return Err(Refusal::NotLoaded);
         };
-        let mut answer = Answer::new(alloc);
+        let mut answer = PrintedText::new(alloc);
         match session.command(alloc, line, &mut answer) {
             Ok(()) => {
                 self.answer = answer.into_bytes();

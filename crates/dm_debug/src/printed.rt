@@ -9,25 +9,25 @@ use std::marker::Model;
 ///
 /// A contract sees the bytes, and how many writes failed because an allocation did.
 #[derive(Drop)]
-pub struct Answer {
+pub struct PrintedText {
     bytes: Vec<u8>,
     failures: u64,
 }
 
-impl Model for Answer {
-    ghost use Rattle.dm_debug.specs.Answers.{Collected};
+impl Model for PrintedText {
+    ghost use Rattle.dm_debug.specs.Printed.{Collected};
 
     ghost Value = { Collected };
 
     ghost view = { λ a. record { bytes = a.bytes.items; failures = a.failures } };
 }
 
-impl Answer {
+impl PrintedText {
     /// A writer that has taken no bytes.
-    pub fn new(alloc: Global) -> Answer
+    pub fn new(alloc: Global) -> PrintedText
         ensures { result ≡ record { bytes = []; failures = 0 } }
     {
-        Answer {
+        PrintedText {
             bytes: Vec::new(alloc),
             failures: 0,
         }
@@ -41,7 +41,7 @@ impl Answer {
     }
 }
 
-impl Out for Answer {
+impl Out for PrintedText {
     ghost use Rattle.std.specs.Prelude.{Some};
 
     ghost taken = { λ a. Some a.bytes };
