@@ -12,9 +12,9 @@ ROOT = os.path.dirname(os.path.dirname(os.path.abspath(__file__)))
 FOLDERS = ("dm_c/src", "dm_host_calls/src", "dm_views/src/inventory")
 # The C type of a number, and of each type of the exports.
 NUMBERS = {"u8": "uint8_t", "u16": "uint16_t", "u32": "uint32_t", "u64": "uint64_t", "usize": "size_t"}
-TYPES = {**NUMBERS, "Handle": "mezguld", "Stopped": "mezguld_stopped", "Registers": "mezguld_cpu", "Point": "mezguld_point", "Awaited": "mezguld_event",
+TYPES = {**NUMBERS, "MachineHandle": "mezguld", "Stopped": "mezguld_stopped", "Registers": "mezguld_cpu", "Point": "mezguld_point", "Awaited": "mezguld_event",
          "ArenaBlock": "mezguld_block", "ListEnd": "mezguld_list_end", "PageHandle": "mezguld_page_handle", "Window": "mezguld_window",
-         "ExtendedBlock": "mezguld_extended_block", "UpperBlock": "mezguld_upper_block", "Act": "mezguld_act", "Place": "mezguld_place",
+         "ExtendedBlock": "mezguld_extended_block", "UpperBlock": "mezguld_upper_block", "Act": "mezguld_act", "CodePlace": "mezguld_place",
          "Contents": "mezguld_contents", "Details": "mezguld_details", "FoundRecord": "mezguld_finding"}
 # The meaning of each letter of `_PARAMETERS` in the Python module; `p` is a pointer that is followed by a count.
 LETTERS = {
@@ -49,7 +49,7 @@ CONSTANT = re.compile(r"^pub(?:\(crate\))? const (\w+): u32 = (\d+);", re.M)
 # (A status that is a named constant is on a line of its own.)
 STATUS = re.compile(r"\b(?:Assembly)?Refusal::(\w+)(?:\(_\))? => (\d+)")
 STOP = re.compile(r"(?:Some\(Stop::(\w+)(?:\(\w+\))?\)|None) => Stopped \{\s*why: (\d+)")
-EVENT = re.compile(r"Ending::Came\(_\) => Stopped \{\s*why: (\d+)")
+EVENT = re.compile(r"RunEnd::Came\(_\) => Stopped \{\s*why: (\d+)")
 PROTOTYPE = re.compile(r"^([\w ]+?[ *]+)((?:mezguld|dm_c)_\w+)\(([^)]*)\);", re.M | re.S)
 INLINE = re.compile(r"^static inline ([^;{]*)\n\{(.*?)^\}\n", re.M | re.S)
 STRUCTS = re.compile(r"struct (\w+) \{([^}]*)\}(?: \w+)?;")
@@ -177,8 +177,8 @@ def export_faults(declared, exports):
             yield f"{name} returns {result} in the header and {of_export} in the exports"
         if not fits(given, wanted):
             yield f"{name}({shown(given)}) in the header is ({shown(wanted)}) in the exports"
-    if declared.structs.get("mezguld") != exports.structs.get("Handle"):
-        yield f"the struct mezguld has {shown(declared.structs.get('mezguld', []))} in the header and {shown(exports.structs.get('Handle', []))} in the exports"
+    if declared.structs.get("mezguld") != exports.structs.get("MachineHandle"):
+        yield f"the struct mezguld has {shown(declared.structs.get('mezguld', []))} in the header and {shown(exports.structs.get('MachineHandle', []))} in the exports"
 
 
 def wanted_of(name, exported):
@@ -209,7 +209,7 @@ def header_faults(header, declared, exports):
         if not is_alike(name, given, wanted):
             yield f"{name}({shown(given)}) is ({shown(wanted)}) for the export"
     for name, kind in TYPES.items():
-        if name not in NUMBERS and name != "Handle" and header.structs.get(kind) != exports.structs.get(name):
+        if name not in NUMBERS and name != "MachineHandle" and header.structs.get(kind) != exports.structs.get(name):
             yield f"the struct {kind} has {shown(header.structs.get(kind, []))} in the header and {shown(exports.structs.get(name, []))} in the exports"
     for name in sorted({*header.statuses} ^ {*header.told}):
         yield f"the status MEZGULD_{name} has {'a text and no number' if name in header.told else 'no text'} in the header"

@@ -57,9 +57,9 @@ fn plan_allocation(
     })
 }
 
-/// Writes the first list with runs of free blocks joined, of which there is none before segment `from`, and the headers of
-/// a cut in place of that of the block of the joined list that the cut was made from. Bytes 0 to 4 of the headers of the new
-/// list are all that changes.
+/// Writes the first list with runs of free blocks joined, of which there is none before segment `from`, and the headers
+/// of a cut in place of that of the block of the joined list that the cut was made from. Bytes 0 to 4 of the headers of
+/// the new list are all that changes.
 fn write_joined(space: &mut Space, cut: Cut, from: u16, upper: bool)
     requires joined { (L : List Header) → IsArena space.old.memory first_header L → IsJoinedTo upper space.old.memory L from }
     requires placing { Placing upper space.old.memory first_header (cut_list cut) }

@@ -64,8 +64,8 @@ pub(crate) fn run_at(space: &Space, segment: u16, upper: bool) -> Run
     }
 }
 
-/// Writes the first list with each run of free blocks joined into one, from a segment on; before it there is no such run.
-/// Bytes 0 to 4 of the headers of the joined list are all that changes; `upper` as for `joined_at`.
+/// Writes the first list with each run of free blocks joined into one, from a segment on; before it there is no such
+/// run. Bytes 0 to 4 of the headers of the joined list are all that changes; `upper` as for `joined_at`.
 pub(crate) fn join_from(space: &mut Space, from: u16, upper: bool)
     requires arena { (L : List Header) × IsArena space.old.memory first_header L }
     requires joined { (L : List Header) → IsArena space.old.memory first_header L → IsJoinedTo upper space.old.memory L from }

@@ -30,8 +30,9 @@ fn find_block(space: &Space, segment: u16, upper: bool) -> Option<Entry>
     find(space, segment)
 }
 
-/// The header of the first list whose block begins at a segment, as functions 49h and 4Ah look for it. `Destroyed` where
-/// memory spells no clear list, else `NoBlock` where no block of the list begins at the segment, or the link block does.
+/// The header of the first list whose block begins at a segment, as functions 49h and 4Ah look for it. `Destroyed`
+/// where memory spells no clear list, else `NoBlock` where no block of the list begins at the segment, or the link
+/// block does.
 fn find_owned(space: &Space, segment: u16, upper: bool) -> Result<Entry, ArenaRefusal>
     ensures { MatchResult result (λ e. IsOwnedAt upper space.now.memory segment e) (λ e. IsNowhere upper space.now.memory segment e) }
 {

@@ -22,8 +22,8 @@ pub(crate) struct Survey {
     pub(crate) from: u16,
 }
 
-/// A free block with the free blocks after it taken in, in a list of which nothing is known. None where a header that is
-/// read can't be one, or stands at segment C000h or above.
+/// A free block with the free blocks after it taken in, in a list of which nothing is known. None where a header that
+/// is read can't be one, or stands at segment C000h or above.
 fn low_run_after(space: &Space, first: Entry, upper: bool) -> Option<Run>
     requires fits { next first.header ≤ 0xFFFF }
     requires front { (L : List Header) → IsSpelledFrom space.now.memory first.header.segment L → (K : List Header) × IsFront space.now.memory L first K }
@@ -59,7 +59,8 @@ fn next_from(several: bool, from: u16, segment: u16) -> u16
     if several { from } else { segment }
 }
 
-/// Searches the joined list for the free block that the strategy takes for n paragraphs, and for the size of the largest.
+/// Searches the joined list for the free block that the strategy takes for n paragraphs, and for the size of the
+/// largest.
 pub(crate) fn survey_all(space: &Space, strategy: Strategy, n: u16, upper: bool) -> Survey
     requires { (L : List Header) × IsSpelledFrom space.now.memory first_header L }
     ensures { (L : List Header) → IsSpelledFrom space.now.memory first_header L → IsSurvey upper space.now.memory L strategy n result }
@@ -93,8 +94,8 @@ pub(crate) fn survey_all(space: &Space, strategy: Strategy, n: u16, upper: bool)
     }
 }
 
-/// Does what [`survey_all`] does for a list of which nothing is known, and tells that it is whole and clear: so one walk serves
-/// instead of two. None where it isn't, or doesn't lie below segment C000h.
+/// Does what [`survey_all`] does for a list of which nothing is known, and tells that it is whole and clear: so one
+/// walk serves instead of two. None where it isn't, or doesn't lie below segment C000h.
 pub(crate) fn survey_low(space: &Space, strategy: Strategy, n: u16, upper: bool) -> Option<Survey>
     ensures whole { IfSome result (λ s. (L : List Header) × IsArena space.now.memory first_header L) }
     ensures survey { IfSome result (λ s. (L : List Header) → IsSpelledFrom space.now.memory first_header L → IsSurvey upper space.now.memory L strategy n s) }
@@ -132,8 +133,8 @@ pub(crate) fn survey_low(space: &Space, strategy: Strategy, n: u16, upper: bool)
     }
 }
 
-/// Does what [`survey_all`] does with the strategy that is in effect, after one walk more only where the list goes on at
-/// segment C000h or above, or upper memory belongs to the arena. None where memory spells no clear list.
+/// Does what [`survey_all`] does with the strategy that is in effect, after one walk more only where the list goes on
+/// at segment C000h or above, or upper memory belongs to the arena. None where memory spells no clear list.
 pub(crate) fn survey_arena(space: &Space, strategy: Strategy, n: u16, upper: bool) -> Option<Survey>
     ensures { MatchOption result (NoArena space.now.memory first_header) (λ s. ((L : List Header) × IsArena space.now.memory first_header L) × ((L : List Header) → IsSpelledFrom space.now.memory first_header L → IsSurvey upper space.now.memory L (in_effect upper L strategy) n s)) }
 {

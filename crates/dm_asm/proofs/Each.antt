@@ -3,7 +3,7 @@ use Rattle.std.proofs.Common.{◌≡◌, ℕ, suc, ◌<◌, ◌+◌, List, [], �
 use Rattle.std.specs.List.{AllByRecursion}
 use Rattle.std.proofs.Math.Seq.{drop-cons, take-suc, take-length}
 use Rattle.std.proofs.lemmas.List.{take-append-drop, append_assoc}
-use Rattle.dm_lines.specs.declared.term.Value.{Value}
+use Rattle.dm_lines.specs.declared.term.Expression.{Expression}
 use Rattle.dm_asm.specs.Labels.{Label}
 use Rattle.dm_asm.specs.Codes.{value_word, AreWordsOf}
 use Rattle.dm_ins.specs.Spelling.{word_bytes}
@@ -43,17 +43,17 @@ flat_snoc : (ws : List ℕ) (w : ℕ) → flat_map word_bytes (ws ++ w ∷ []) �
 flat_snoc [] w = refl
 flat_snoc (v ∷ ws) w = ap (λ r. word_bytes v ++ r) (flat_snoc ws w) ∙ sym (append_assoc (word_bytes v) (flat_map word_bytes ws) (word_bytes w))
 
-pub words_more : (list : List Label) (vs : List Value) (i : ℕ) (v d : Value) (code : List ℕ) (w : ℕ) (more : List ℕ) → i < length vs → v ≡ get_or vs i d → value_word list v ≡ Some w → more ≡ code ++ word_bytes w → AreWordsOf list (take i vs) code → AreWordsOf list (take (i + 1) vs) more
+pub words_more : (list : List Label) (vs : List Expression) (i : ℕ) (v d : Expression) (code : List ℕ) (w : ℕ) (more : List ℕ) → i < length vs → v ≡ get_or vs i d → value_word list v ≡ Some w → more ≡ code ++ word_bytes w → AreWordsOf list (take i vs) code → AreWordsOf list (take (i + 1) vs) more
 words_more list vs i v d code w more h e g b a = record {
   values = a.values ++ w ∷ [];
   are = map_more (value_word list) vs i v d a.values w h e g a.are;
   bytes = b ∙ ap (λ r. r ++ word_bytes w) a.bytes ∙ sym (flat_snoc a.values w);
 }
 
-pub words_none : (list : List Label) (vs : List Value) (i : ℕ) (v d : Value) (code : List ℕ) → i < length vs → v ≡ get_or vs i d → value_word list v ≡ None → AreWordsOf list vs code → ⊥
+pub words_none : (list : List Label) (vs : List Expression) (i : ℕ) (v d : Expression) (code : List ℕ) → i < length vs → v ≡ get_or vs i d → value_word list v ≡ None → AreWordsOf list vs code → ⊥
 words_none list vs i v d code h e g a = map_none (value_word list) vs i v d a.values h e g a.are
 
-pub words_once : (list : List Label) (vs : List Value) (a b : List ℕ) → AreWordsOf list vs a → AreWordsOf list vs b → a ≡ b
+pub words_once : (list : List Label) (vs : List Expression) (a b : List ℕ) → AreWordsOf list vs a → AreWordsOf list vs b → a ≡ b
 words_once list vs a b p q = p.bytes ∙ ap (flat_map word_bytes) (somes_same p.values q.values (sym p.are ∙ q.are)) ∙ sym q.bytes
 
 -- ---- all

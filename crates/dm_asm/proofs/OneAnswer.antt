@@ -2,7 +2,7 @@
 use Rattle.std.proofs.Common.{◌≡◌, ℕ, ◌+◌, ◌<◌, ◌≤◌, List, [], ◌∷◌, ◌++◌, length, map, Option, Some, None, IsSome, Result, Ok, Err, refl, sym, ap, subst, ◌∙◌, arith}
 use Rattle.std.specs.List.{AllByRecursion}
 use Rattle.dm_lines.specs.declared.token.Name as Name'
-use Rattle.dm_lines.specs.declared.term.Value.{Value}
+use Rattle.dm_lines.specs.declared.term.Expression.{Expression}
 use Rattle.dm_lines.specs.Statements.{Item, nothing, instruction, bytes, words}
 use Rattle.dm_text.specs.words.Laws.{WordsAreOne}
 use Rattle.dm_asm.specs.declared.refusal.AssemblyRefusal.{AssemblyRefusal}
@@ -117,7 +117,7 @@ some_at r x e = is_some_at r x (sym e)
 known_term : (labels : List Label) (m : _) (next : ℕ) (t : _) (w : _) → written_for labels m next t ≡ Some w → IsSome (term_place labels t)
 known_term labels m next t w h = let p = bind_some (term_place labels t) _ w h in some_at (term_place labels t) p.0 p.1
 
-known_words : (labels : List Label) (vs : List Value) (ws : List ℕ) → map (value_word labels) vs ≡ map Some ws → AllByRecursion (λ v. IsSome (label_place labels v)) vs
+known_words : (labels : List Label) (vs : List Expression) (ws : List ℕ) → map (value_word labels) vs ≡ map Some ws → AllByRecursion (λ v. IsSome (label_place labels v)) vs
 known_words labels [] ws h = tt
 known_words labels (v ∷ vs) [] h = absurd cc
 known_words labels (v ∷ vs) (w ∷ ws) h =

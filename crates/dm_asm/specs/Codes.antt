@@ -11,7 +11,7 @@ use Rattle.dm_ins.specs.declared.action.Mnemonic.{Mnemonic}
 use Rattle.dm_text.specs.declared.words.written.Written.{Written}
 use Rattle.dm_text.specs.declared.words.written.Words.{Words}
 use Rattle.dm_text.specs.words.Words.{AreWords}
-use Rattle.dm_lines.specs.declared.term.Value.{Value}
+use Rattle.dm_lines.specs.declared.term.Expression.{Expression}
 use Rattle.dm_lines.specs.declared.term.Term.{Term}
 use Rattle.dm_lines.specs.declared.statement.Instruction.{Instruction}
 use Rattle.dm_lines.specs.Placing.{amount_byte, standing, written_of, outline_of}
@@ -37,7 +37,7 @@ placed_words labels next i = do
 
 -- the word of a value of a DW, with the place of its label; None if the label is unknown, or the label and what is
 -- added to it lie outside 0 to FFFFh
-abbrev pub value_word : List Label → Value → Option ℕ
+abbrev pub value_word : List Label → Expression → Option ℕ
 value_word labels v = do
   place ← label_place labels v
   standing v place
@@ -80,7 +80,7 @@ pub record IsCoded (labels : List Label) (at : ℕ) (i : Instruction) (code : Li
   pub preferred : IsPreferred ins code
 
 -- the bytes of a DW with these values, two for each
-pub record AreWordsOf (labels : List Label) (vs : List Value) (code : List ℕ) : Type 0 where
+pub record AreWordsOf (labels : List Label) (vs : List Expression) (code : List ℕ) : Type 0 where
   pub values : List ℕ
   pub are : map (value_word labels) vs ≡ map Some values
   pub bytes : code ≡ flat_map word_bytes values

@@ -3,7 +3,7 @@ use Rattle.std.specs.Prelude.{◌≡◌, ℕ, Option, Some, None, List, [], ◌�
 use Rattle.std.specs.Str.{bytes_eq}
 use Rattle.std.specs.Option.{option_map_or}
 use Rattle.dm_lines.specs.declared.token.Name as Name'
-use Rattle.dm_lines.specs.declared.term.Value.{Value}
+use Rattle.dm_lines.specs.declared.term.Expression.{Expression}
 use Rattle.dm_lines.specs.declared.term.Term.{Term}
 use Rattle.dm_lines.specs.declared.term.Term.TheVariants as term
 
@@ -18,7 +18,7 @@ place_of_label name [] = None
 place_of_label name (l ∷ ls) = if bytes_eq l.name.bytes name.bytes then Some l.place else place_of_label name ls
 
 -- the place of the label of a value; None if it is unknown, and 0 for a number alone
-abbrev pub label_place : List Label → Value → Option ℕ
+abbrev pub label_place : List Label → Expression → Option ℕ
 label_place labels v = option_map_or (λ name. place_of_label name labels) v.label (Some 0)
 
 -- the place of the label of an operand; None if it is unknown, and 0 if the operand names none

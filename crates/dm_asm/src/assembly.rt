@@ -14,7 +14,7 @@ use crate::labels::Labels;
 use crate::lines::next_line;
 use crate::refusal::AssemblyRefusal;
 use crate::shapes::length_of;
-use dm_lines::{Items, Name, Statement, Tokens, read_line};
+use dm_lines::{Items, Name, Statement, Tokens, line_statement};
 use dm_text::words::words_are_one_instruction;
 use std::alloc::Global;
 
@@ -31,7 +31,7 @@ fn read(line: &[u8], tokens: &mut Tokens, items: &mut Items) -> Option<(Statemen
     ensures none { IfNone result ((x : Sized) → Reads line.now x → ⊥) }
     ensures short { IfSome result (λ r. r.1 ≤ 256) }
 {
-    let statement = read_line(line, tokens, items)?;
+    let statement = line_statement(line, tokens, items)?;
     let length = length_of(statement.item, items)?;
     Some((statement, length))
 }
@@ -72,7 +72,7 @@ fn lay(alloc: Global, text: &[u8]) -> Result<(Labels, Known), AssemblyRefusal>
     let mut rest = text;
     while let Some((line, behind)) = next_line(rest) {
         number += 1;
-        let Some(statement) = read_line(line, &mut tokens, &mut items) else {
+        let Some(statement) = line_statement(line, &mut tokens, &mut items) else {
             return Err(AssemblyRefusal::Syntax(number));
         };
         let length = match known.put(statement.item, &items) {

@@ -15,7 +15,8 @@ ghost use Rattle.dm_asm.specs.Codes.{written_for as placed_of, placed_words as w
 use crate::labels::Labels;
 use arrayvec::ArrayVec;
 use dm_lines::{
-    Amount, Instruction, Item, Items, Term, Value, byte, outlines_stand, word_at, written,
+    Amount, Expression, Instruction, Item, Items, Term, byte, expression_word, outlines_stand,
+    written_of,
 };
 use dm_text::words::{
     Words, Written, read_encoded, stand_ins_have_the_length, words_are_one_instruction,
@@ -45,7 +46,7 @@ fn written_for(
     ensures { (list : List Label) → AreKept labels.now list → result ≡ placed_of list instruction.now.mnemonic next term.now }
 {
     let place = labels.term_place(term)?;
-    written(instruction.mnemonic, term, place as u16, next)
+    written_of(instruction.mnemonic, term, place as u16, next)
 }
 
 /// What an instruction is written as, with the places of its labels; `next` is the offset of the next instruction.
@@ -126,16 +127,16 @@ pub(crate) fn bytes_code(amounts: &[Amount]) -> Option<Code>
 
 /// The word of a value of a DW; None if its label is unknown, or the label and what is added to it lie outside 0 to
 /// FFFFh.
-fn word_of(labels: &Labels, value: &Value) -> Option<u16>
+fn word_of(labels: &Labels, value: &Expression) -> Option<u16>
     requires { AreNear labels.now }
     ensures { (list : List Label) → AreKept labels.now list → result ≡ value_of list value.now }
 {
     let place = labels.place_of(value)?;
-    word_at(*value, place as u16)
+    expression_word(*value, place as u16)
 }
 
 /// The bytes of a DW, the low byte of each word first; None if a value has no word.
-fn words_code(labels: &Labels, values: &[Value]) -> Option<Code>
+fn words_code(labels: &Labels, values: &[Expression]) -> Option<Code>
     requires near { AreNear labels.now }
     requires few { length values.now ≤ 128 }
     ensures found { IfSome result (λ code. (list : List Label) → AreKept labels.now list → AreWordsOf list values.now code.items) }
@@ -151,7 +152,7 @@ fn words_code(labels: &Labels, values: &[Value]) -> Option<Code>
 }
 
 /// Whether some line has each label that is named in the values of a DW; a value that is a number alone names none.
-fn knows_all(labels: &Labels, values: &[Value]) -> bool
+fn knows_all(labels: &Labels, values: &[Expression]) -> bool
     ensures { (list : List Label) → AreKept labels.now list → IsTrue result ↔ AllByRecursion (λ v. IsSome (label_place list v)) values.now }
 {
     for value in values {

@@ -9,7 +9,7 @@ ghost use Rattle.dm_asm.specs.inner.Fixed.{AreFixed, names_none, targets};
 use crate::codes::term_fits;
 use arrayvec::ArrayVec;
 use dm_ins::{Mnemonic, Operand};
-use dm_lines::{Instruction, Term, outlines_stand, written};
+use dm_lines::{Instruction, Term, outlines_stand, written_of};
 use dm_text::words::{Words, Written, read_encoded, stand_ins_have_the_length};
 
 /// Whether the operand names no label.
@@ -28,7 +28,7 @@ fn fixed(mnemonic: Mnemonic, term: &Term) -> Option<Written>
     ensures { IfSome result (λ w. (names_none term.now ≡ true) × (written_of mnemonic term.now 0 0 ≡ Some w)) }
 {
     if is_free(term) {
-        written(mnemonic, term, 0, 0)
+        written_of(mnemonic, term, 0, 0)
     } else {
         None
     }

@@ -6,7 +6,7 @@ ghost use Rattle.dm_asm.specs.inner.Kept.{AreKept, AreNear};
 ghost use Rattle.dm_asm.specs.Labels.{Label};
 ghost use Rattle.std.specs.Prelude.{ℕ, List};
 
-use dm_lines::{Name, Term, Value};
+use dm_lines::{Expression, Name, Term};
 use std::alloc::{AllocError, Global};
 use std::collections::BTreeMap;
 
@@ -47,7 +47,7 @@ impl Labels {
     }
 
     /// The place of the label of a value; None where no line has it, 0 for a number alone.
-    pub(crate) fn place_of(&self, value: &Value) -> Option<u128>
+    pub(crate) fn place_of(&self, value: &Expression) -> Option<u128>
         ensures place { (labels : List Label) → AreKept self.now labels → result ≡ place_at labels value.now }
         ensures near { AreNear self.now → IfSome result (λ place. place < 2 ^ 16) }
     {

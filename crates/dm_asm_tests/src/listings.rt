@@ -42,7 +42,8 @@ fn check_row(rt: &impl Abort, alloc: Global, row: &str) -> Result<(), Fail> {
     Ok(())
 }
 
-/// Definitions: dm_text disassembly.Listing IsListing Lists IsListedLine instruction_text data_text StandsInFile bytes_at
+/// Definitions: dm_text disassembly.Listing IsListing Lists IsListedLine instruction_text data_text StandsInFile
+/// Definitions: dm_text disassembly.Listing bytes_at
 #[test]
 fn bytes_have_lines(rt: HostRuntime) -> Result<(), Fail> {
     for row in LISTINGS.split('\n') {

@@ -75,8 +75,8 @@ pub record Steps (w : Walking) (step : Step) (at : Option ℕ) : Type 0 where
   pub told : AreTold w.memory front (start_of w.second) w.at
   pub steps : IsStep w.memory front (start_of w.second) w.at step at
 
--- where a walk over the first list stands after a header: past the last one, memory spells a clear list; else its headers
--- lead to segment t
+-- where a walk over the first list stands after a header: past the last one, memory spells a clear list; else its
+-- headers lead to segment t
 abbrev pub StandsAfter : Memory → Bool → ℕ → Type 0
 StandsAfter S last t = MatchBool last ((L : List Header) × IsArena S first_header L) ((P : List Header) × Leads S [] first_header P t)
 

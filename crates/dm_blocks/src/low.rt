@@ -1,5 +1,5 @@
-//! The first list as far as its headers are below segment C000h. There every header has bytes of RAM of its own, so none
-//! has to be compared with the others.
+//! The first list as far as its headers are below segment C000h. There every header has bytes of RAM of its own, so
+//! none has to be compared with the others.
 ghost use Rattle.std.specs.Prelude.{◌≡◌, ◌≤◌, IfSome, List};
 ghost use Rattle.std.specs.Bool.{OnTrue};
 ghost use Rattle.dm_blocks.specs.declared.header.Header.{Header};
@@ -45,8 +45,8 @@ pub(crate) fn low_part(space: &Space) -> LowPart
     }
 }
 
-/// Reads the header at a segment: a step of a walk over the first list that tells at its end whether the list is whole and
-/// clear. None if no header can stand there, or if the segment is C000h or above.
+/// Reads the header at a segment: a step of a walk over the first list that tells at its end whether the list is whole
+/// and clear. None if no header can stand there, or if the segment is C000h or above.
 #[inline(always)]
 pub fn low_entry(space: &Space, segment: u16) -> Option<Entry>
     ensures there { IfSome result (λ e. e.header.segment ≡ segment) }

@@ -10,7 +10,7 @@ ghost use Rattle.dm_host_calls.specs.Events.{EventsTo};
 ghost use Rattle.dm_host_calls.specs.Machines.{AddsTo, LoadsTo, RunsTo, RunsUntilTo, StepsTo, RegistersTo, SetsRegistersTo, ReadsTo, WritesTo, ReadsLinearTo, WritesLinearTo, OutputTo, OutputCountTo, SetsMoreTo, SuppliesTo, InputLeftTo, CommandsTo, ChecksTo, AnswersTo};
 
 use crate::copies;
-use crate::handle::Handle;
+use crate::handle::MachineHandle;
 use dm_host::Host;
 use dm_host_calls::{
     Awaited, IN_USE, NO_MACHINE, OK, OUT_OF_MEMORY, Point, Registers, Stopped, give, status_of,
@@ -35,7 +35,7 @@ pub extern "C" fn dm_c_version() -> u32
 #[unsafe(no_mangle)]
 pub extern "C" fn dm_c_new(
     alloc: Global,
-    machine: &mut Handle,
+    machine: &mut MachineHandle,
     ems_pages: u32,
     xms_kib: u32,
     variables: &[u8],
@@ -64,7 +64,11 @@ pub extern "C" fn dm_c_new(
 /// breakpoints and answer. Nothing changes unless the status is 0; the status is 2 if the handle of the copy holds a
 /// machine.
 #[unsafe(no_mangle)]
-pub extern "C" fn dm_c_copy(alloc: Global, machine: &mut Handle, copy: &mut Handle) -> u32
+pub extern "C" fn dm_c_copy(
+    alloc: Global,
+    machine: &mut MachineHandle,
+    copy: &mut MachineHandle,
+) -> u32
     ensures { IsCall machine.old.inside.value machine.new.inside.value ((result ≡ 1) × (copy.new ≡ copy.old)) (λ h g. CopiesTo h copy.old.inside.value copy.new.inside.value result × (g ≡ h)) }
 {
     let Some(host) = machine.take(alloc) else {
@@ -77,23 +81,28 @@ pub extern "C" fn dm_c_copy(alloc: Global, machine: &mut Handle, copy: &mut Hand
 
 /// Frees the machine of a handle, if it holds one. The handle is as `MEZGULD_NONE` then, and the status is 0.
 #[unsafe(no_mangle)]
-pub extern "C" fn dm_c_free(alloc: Global, machine: &mut Handle) -> u32
+pub extern "C" fn dm_c_free(alloc: Global, machine: &mut MachineHandle) -> u32
     ensures { (result ≡ 0) × IsNone machine.new }
 {
     drop(machine.take(alloc));
-    *machine = Handle::none();
+    *machine = MachineHandle::none();
     OK
 }
 
 /// Adds a program under a name to the machine. Nothing changes unless the status is 0.
 #[unsafe(no_mangle)]
-pub extern "C" fn dm_c_add(alloc: Global, machine: &mut Handle, name: &[u8], program: &[u8]) -> u32
+pub extern "C" fn dm_c_add(
+    alloc: Global,
+    machine: &mut MachineHandle,
+    name: &[u8],
+    program: &[u8],
+) -> u32
     ensures { IsCall machine.old.inside.value machine.new.inside.value (result ≡ 1) (λ h g. AddsTo h name.now program.now result g) }
 {
     let Some(mut host) = machine.take(alloc) else {
         return NO_MACHINE;
     };
-    let status = dm_host_calls::add(alloc, &mut host, name, program);
+    let status = dm_host_calls::add_program(alloc, &mut host, name, program);
     machine.put(host);
     status
 }
@@ -103,7 +112,7 @@ pub extern "C" fn dm_c_add(alloc: Global, machine: &mut Handle, name: &[u8], pro
 #[unsafe(no_mangle)]
 pub extern "C" fn dm_c_load(
     alloc: Global,
-    machine: &mut Handle,
+    machine: &mut MachineHandle,
     name: &[u8],
     tail: &[u8],
     input: &[u8],
@@ -122,7 +131,7 @@ pub extern "C" fn dm_c_load(
 #[unsafe(no_mangle)]
 pub extern "C" fn dm_c_run(
     alloc: Global,
-    machine: &mut Handle,
+    machine: &mut MachineHandle,
     steps: u64,
     stopped: &mut Stopped,
 ) -> u32
@@ -141,7 +150,7 @@ pub extern "C" fn dm_c_run(
 #[unsafe(no_mangle)]
 pub extern "C" fn dm_c_run_until(
     alloc: Global,
-    machine: &mut Handle,
+    machine: &mut MachineHandle,
     steps: u64,
     points: &[Point],
     stopped: &mut Stopped,
@@ -156,13 +165,13 @@ pub extern "C" fn dm_c_run_until(
     status
 }
 
-/// Makes at most `steps` steps, up to the first one that leads to one of the events, sets `stopped` to why the run stopped
-/// and, if an event came, `place` to its place in the list. Nothing changes unless the status is 0; it is 23 if the kind of
-/// an event is none.
+/// Makes at most `steps` steps, up to the first one that leads to one of the events, sets `stopped` to why the run
+/// stopped and, if an event came, `place` to its place in the list. Nothing changes unless the status is 0; it is 23 if
+/// the kind of an event is none.
 #[unsafe(no_mangle)]
 pub extern "C" fn dm_c_run_to(
     alloc: Global,
-    machine: &mut Handle,
+    machine: &mut MachineHandle,
     steps: u64,
     events: &[Awaited],
     stopped: &mut Stopped,
@@ -181,7 +190,7 @@ pub extern "C" fn dm_c_run_to(
 /// Sets `steps` to how many steps the machine has made so far; at 2^64 - 1 the count stays. `steps` stays unless the
 /// status is 0.
 #[unsafe(no_mangle)]
-pub extern "C" fn dm_c_steps(alloc: Global, machine: &mut Handle, steps: &mut u64) -> u32
+pub extern "C" fn dm_c_steps(alloc: Global, machine: &mut MachineHandle, steps: &mut u64) -> u32
     ensures { IsCall machine.old.inside.value machine.new.inside.value ((result ≡ 1) × (steps.new ≡ steps.old)) (λ h g. StepsTo h steps.old steps.new result g) }
 {
     let Some(host) = machine.take(alloc) else {
@@ -196,7 +205,7 @@ pub extern "C" fn dm_c_steps(alloc: Global, machine: &mut Handle, steps: &mut u6
 #[unsafe(no_mangle)]
 pub extern "C" fn dm_c_registers(
     alloc: Global,
-    machine: &mut Handle,
+    machine: &mut MachineHandle,
     registers: &mut Registers,
 ) -> u32
     ensures { IsCall machine.old.inside.value machine.new.inside.value ((result ≡ 1) × (registers.new ≡ registers.old)) (λ h g. RegistersTo h registers.old registers.new result g) }
@@ -214,7 +223,7 @@ pub extern "C" fn dm_c_registers(
 #[unsafe(no_mangle)]
 pub extern "C" fn dm_c_set_registers(
     alloc: Global,
-    machine: &mut Handle,
+    machine: &mut MachineHandle,
     registers: &Registers,
 ) -> u32
     ensures { IsCall machine.old.inside.value machine.new.inside.value (result ≡ 1) (λ h g. SetsRegistersTo h registers.now result g) }
@@ -232,7 +241,7 @@ pub extern "C" fn dm_c_set_registers(
 #[unsafe(no_mangle)]
 pub extern "C" fn dm_c_read(
     alloc: Global,
-    machine: &mut Handle,
+    machine: &mut MachineHandle,
     segment: u16,
     offset: u16,
     buffer: &mut [u8],
@@ -252,7 +261,7 @@ pub extern "C" fn dm_c_read(
 #[unsafe(no_mangle)]
 pub extern "C" fn dm_c_write(
     alloc: Global,
-    machine: &mut Handle,
+    machine: &mut MachineHandle,
     segment: u16,
     offset: u16,
     bytes: &[u8],
@@ -267,13 +276,13 @@ pub extern "C" fn dm_c_write(
     status
 }
 
-/// Fills the buffer with the bytes of memory from a linear address up, as a program reads them: while the A20 line is off,
-/// bit 20 of an address is. Bytes where there is no memory, and past FFFF:FFFF, are FFh. The buffer stays unless the status
-/// is 0.
+/// Fills the buffer with the bytes of memory from a linear address up, as a program reads them: while the A20 line is
+/// off, bit 20 of an address is. Bytes where there is no memory, and past FFFF:FFFF, are FFh. The buffer stays unless
+/// the status is 0.
 #[unsafe(no_mangle)]
 pub extern "C" fn dm_c_read_linear(
     alloc: Global,
-    machine: &mut Handle,
+    machine: &mut MachineHandle,
     address: u32,
     buffer: &mut [u8],
 ) -> u32
@@ -287,12 +296,13 @@ pub extern "C" fn dm_c_read_linear(
     status
 }
 
-/// Writes the bytes to memory from a linear address up, as a program does: while the A20 line is off, bit 20 of an address
-/// is. Bytes for the ROM, where there is no memory, or past FFFF:FFFF, are lost. Nothing changes unless the status is 0.
+/// Writes the bytes to memory from a linear address up, as a program does: while the A20 line is off, bit 20 of an
+/// address is. Bytes for the ROM, where there is no memory, or past FFFF:FFFF, are lost. Nothing changes unless the
+/// status is 0.
 #[unsafe(no_mangle)]
 pub extern "C" fn dm_c_write_linear(
     alloc: Global,
-    machine: &mut Handle,
+    machine: &mut MachineHandle,
     address: u32,
     bytes: &[u8],
 ) -> u32
@@ -312,7 +322,7 @@ pub extern "C" fn dm_c_write_linear(
 #[unsafe(no_mangle)]
 pub extern "C" fn dm_c_output(
     alloc: Global,
-    machine: &mut Handle,
+    machine: &mut MachineHandle,
     from: usize,
     buffer: &mut [u8],
     wanted: &mut usize,
@@ -329,7 +339,11 @@ pub extern "C" fn dm_c_output(
 
 /// Sets `count` to how many bytes were written to the console. It stays unless the status is 0.
 #[unsafe(no_mangle)]
-pub extern "C" fn dm_c_output_count(alloc: Global, machine: &mut Handle, count: &mut usize) -> u32
+pub extern "C" fn dm_c_output_count(
+    alloc: Global,
+    machine: &mut MachineHandle,
+    count: &mut usize,
+) -> u32
     ensures { IsCall machine.old.inside.value machine.new.inside.value ((result ≡ 1) × (count.new ≡ count.old)) (λ h g. OutputCountTo h count.old count.new result g) }
 {
     let Some(host) = machine.take(alloc) else {
@@ -343,7 +357,7 @@ pub extern "C" fn dm_c_output_count(alloc: Global, machine: &mut Handle, count: 
 /// Says that more console input may come after what is left: from then on each call that wants a byte that is not there
 /// stops the run (4), and the run can go on once there is more. Nothing changes unless the status is 0.
 #[unsafe(no_mangle)]
-pub extern "C" fn dm_c_open_input(alloc: Global, machine: &mut Handle) -> u32
+pub extern "C" fn dm_c_open_input(alloc: Global, machine: &mut MachineHandle) -> u32
     ensures { IsCall machine.old.inside.value machine.new.inside.value (result ≡ 1) (λ h g. SetsMoreTo h true result g) }
 {
     let Some(mut host) = machine.take(alloc) else {
@@ -356,7 +370,7 @@ pub extern "C" fn dm_c_open_input(alloc: Global, machine: &mut Handle) -> u32
 
 /// Says that no more console input comes after what is left. Nothing changes unless the status is 0.
 #[unsafe(no_mangle)]
-pub extern "C" fn dm_c_close_input(alloc: Global, machine: &mut Handle) -> u32
+pub extern "C" fn dm_c_close_input(alloc: Global, machine: &mut MachineHandle) -> u32
     ensures { IsCall machine.old.inside.value machine.new.inside.value (result ≡ 1) (λ h g. SetsMoreTo h false result g) }
 {
     let Some(mut host) = machine.take(alloc) else {
@@ -370,7 +384,7 @@ pub extern "C" fn dm_c_close_input(alloc: Global, machine: &mut Handle) -> u32
 /// Adds bytes to the end of the console input, which must be open; the status is 22 if it is not. Nothing changes
 /// unless the status is 0.
 #[unsafe(no_mangle)]
-pub extern "C" fn dm_c_supply(alloc: Global, machine: &mut Handle, bytes: &[u8]) -> u32
+pub extern "C" fn dm_c_supply(alloc: Global, machine: &mut MachineHandle, bytes: &[u8]) -> u32
     ensures { IsCall machine.old.inside.value machine.new.inside.value (result ≡ 1) (λ h g. SuppliesTo h bytes.now result g) }
 {
     let Some(mut host) = machine.take(alloc) else {
@@ -383,7 +397,11 @@ pub extern "C" fn dm_c_supply(alloc: Global, machine: &mut Handle, bytes: &[u8])
 
 /// Sets `left` to how many bytes of console input are left. It stays unless the status is 0.
 #[unsafe(no_mangle)]
-pub extern "C" fn dm_c_input_left(alloc: Global, machine: &mut Handle, left: &mut usize) -> u32
+pub extern "C" fn dm_c_input_left(
+    alloc: Global,
+    machine: &mut MachineHandle,
+    left: &mut usize,
+) -> u32
     ensures { IsCall machine.old.inside.value machine.new.inside.value ((result ≡ 1) × (left.new ≡ left.old)) (λ h g. InputLeftTo h left.old left.new result g) }
 {
     let Some(host) = machine.take(alloc) else {
@@ -400,7 +418,7 @@ pub extern "C" fn dm_c_input_left(alloc: Global, machine: &mut Handle, left: &mu
 #[unsafe(no_mangle)]
 pub extern "C" fn dm_c_command(
     alloc: Global,
-    machine: &mut Handle,
+    machine: &mut MachineHandle,
     line: &[u8],
     wanted: &mut usize,
 ) -> u32
@@ -420,7 +438,7 @@ pub extern "C" fn dm_c_command(
 #[unsafe(no_mangle)]
 pub extern "C" fn dm_c_check(
     alloc: Global,
-    machine: &mut Handle,
+    machine: &mut MachineHandle,
     steps: u64,
     stopped: &mut Stopped,
     wanted: &mut usize,
@@ -441,7 +459,7 @@ pub extern "C" fn dm_c_check(
 #[unsafe(no_mangle)]
 pub extern "C" fn dm_c_answer(
     alloc: Global,
-    machine: &mut Handle,
+    machine: &mut MachineHandle,
     buffer: &mut [u8],
     wanted: &mut usize,
 ) -> u32

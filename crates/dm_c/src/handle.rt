@@ -14,28 +14,28 @@ const HELD: u64 = 0x6D65_7A67_756C_6431;
 /// A machine, or none, as C holds it. The mark says which.
 #[repr(C)]
 #[derive(Drop)]
-pub struct Handle {
+pub struct MachineHandle {
     pub(crate) inside: Inside,
     mark: u64,
     ghost marked: { HasItsMark inside.value mark },
 }
 
-impl Handle {
+impl MachineHandle {
     /// A handle that holds no machine, with a null pointer and no mark, as `MEZGULD_NONE` of C.
-    pub(crate) fn none() -> Handle
+    pub(crate) fn none() -> MachineHandle
         ensures { (result.inside.value ≡ None) × (result.inside.at ≡ null_ptr) × (result.mark ≡ 0) }
     {
-        Handle {
+        MachineHandle {
             inside: Inside::none(),
             mark: 0,
         }
     }
 
     /// A handle that holds this machine.
-    fn of(host: Box<Host>) -> Handle
+    fn of(host: Box<Host>) -> MachineHandle
         ensures { result.inside.value ≡ Some host.value }
     {
-        Handle {
+        MachineHandle {
             inside: Inside::of(Loose::of(host)),
             mark: HELD,
         }
@@ -56,7 +56,7 @@ impl Handle {
         if !self.is_held() {
             return None;
         }
-        let Handle { inside, mark: _ } = std::mem::replace(self, Handle::none());
+        let MachineHandle { inside, mark: _ } = std::mem::replace(self, MachineHandle::none());
         Some(inside.into_loose(alloc).into_box())
     }
 
@@ -65,6 +65,6 @@ impl Handle {
         requires { self.old.inside.value ≡ None }
         ensures { self.new.inside.value ≡ Some host.value }
     {
-        *self = Handle::of(host);
+        *self = MachineHandle::of(host);
     }
 }

@@ -1,4 +1,5 @@
-//! The exports of the library for hosts: each calls a function of `dm_host_calls` on the machine of a handle, or one of `dm_asm`.
+//! The exports of the library for hosts: each calls a function of `dm_host_calls` on the machine of a handle, or one of
+//! `dm_asm`.
 #![tactic(auto)]
 
 mod copies;
@@ -15,7 +16,7 @@ pub use exports::{
     dm_c_read, dm_c_read_linear, dm_c_registers, dm_c_run, dm_c_run_to, dm_c_run_until,
     dm_c_set_registers, dm_c_steps, dm_c_supply, dm_c_version, dm_c_write, dm_c_write_linear,
 };
-pub use handle::Handle;
+pub use handle::MachineHandle;
 pub use inside::Inside;
 pub use lists::{
     dm_c_blocks, dm_c_extended_blocks, dm_c_finding_counts, dm_c_finding_line, dm_c_findings,

@@ -1,22 +1,22 @@
-//! The exports that give what the machine of a handle holds, and the findings of its last checked run. As in `exports.rt`,
-//! the status is 1 if the handle holds no machine, and 14 if no program is loaded, unless the export says that none need be;
-//! nothing changes then.
+//! The exports that give what the machine of a handle holds, and the findings of its last checked run. As in
+//! `exports.rt`, the status is 1 if the handle holds no machine, and 14 if no program is loaded, unless the export says
+//! that none need be; nothing changes then.
 ghost use Rattle.std.specs.Prelude.{◌≡◌};
 ghost use Rattle.dm_c.specs.Calls.{IsCall};
 ghost use Rattle.dm_host_calls.specs.Lists.{BlocksTo, PageHandlesTo, WindowsTo, ExtendedBlocksTo, UpperBlocksTo, HighMemoryTo, ReadsPageTo, ReadsBlockTo, FindingsTo, FindingCountsTo, FindingLineTo};
 
-use crate::handle::Handle;
+use crate::handle::MachineHandle;
 use dm_host_calls::{ListEnd, NO_MACHINE};
 use dm_views::inventory::{ArenaBlock, ExtendedBlock, FoundRecord, PageHandle, UpperBlock, Window};
 use std::alloc::Global;
 
-/// Copies the headers of the arena, those of the first list and then those of upper memory where the first does not lead
-/// to them, to the front of the buffer, and sets `wanted` to how many they are and `end` to how their lists end. If they do
-/// not fit, the status is 4, and the buffer stays; with any other but 0 nothing changes.
+/// Copies the headers of the arena, those of the first list and then those of upper memory where the first does not
+/// lead to them, to the front of the buffer, and sets `wanted` to how many they are and `end` to how their lists end.
+/// If they do not fit, the status is 4, and the buffer stays; with any other but 0 nothing changes.
 #[unsafe(no_mangle)]
 pub extern "C" fn dm_c_blocks(
     alloc: Global,
-    machine: &mut Handle,
+    machine: &mut MachineHandle,
     buffer: &mut [ArenaBlock],
     wanted: &mut usize,
     end: &mut ListEnd,
@@ -31,12 +31,12 @@ pub extern "C" fn dm_c_blocks(
     status
 }
 
-/// Copies the handles of expanded memory in use, by rising number, to the front of the buffer, and sets `wanted` to how many
-/// they are. If they do not fit, the status is 4, and the buffer stays; with any other but 0 nothing changes.
+/// Copies the handles of expanded memory in use, by rising number, to the front of the buffer, and sets `wanted` to how
+/// many they are. If they do not fit, the status is 4, and the buffer stays; with any other but 0 nothing changes.
 #[unsafe(no_mangle)]
 pub extern "C" fn dm_c_page_handles(
     alloc: Global,
-    machine: &mut Handle,
+    machine: &mut MachineHandle,
     buffer: &mut [PageHandle],
     wanted: &mut usize,
 ) -> u32
@@ -50,12 +50,12 @@ pub extern "C" fn dm_c_page_handles(
     status
 }
 
-/// Copies what the four windows of the page frame show to the front of the buffer, and sets `wanted` to 4. If they do not
-/// fit, the status is 4, and the buffer stays; with any other but 0 nothing changes.
+/// Copies what the four windows of the page frame show to the front of the buffer, and sets `wanted` to 4. If they do
+/// not fit, the status is 4, and the buffer stays; with any other but 0 nothing changes.
 #[unsafe(no_mangle)]
 pub extern "C" fn dm_c_windows(
     alloc: Global,
-    machine: &mut Handle,
+    machine: &mut MachineHandle,
     buffer: &mut [Window],
     wanted: &mut usize,
 ) -> u32
@@ -70,12 +70,12 @@ pub extern "C" fn dm_c_windows(
 }
 
 /// Copies the blocks of the handles of extended memory in use, by rising handle, to the front of the buffer, and sets
-/// `wanted` to how many they are. If they do not fit, the status is 4, and the buffer stays; with any other but 0 nothing
-/// changes.
+/// `wanted` to how many they are. If they do not fit, the status is 4, and the buffer stays; with any other but 0
+/// nothing changes.
 #[unsafe(no_mangle)]
 pub extern "C" fn dm_c_extended_blocks(
     alloc: Global,
-    machine: &mut Handle,
+    machine: &mut MachineHandle,
     buffer: &mut [ExtendedBlock],
     wanted: &mut usize,
 ) -> u32
@@ -89,13 +89,13 @@ pub extern "C" fn dm_c_extended_blocks(
     status
 }
 
-/// Copies the upper memory blocks of the extended memory driver, by rising segment, to the front of the buffer, and sets
-/// `wanted` to how many they are. If they do not fit, the status is 4, and the buffer stays; with any other but 0 nothing
-/// changes.
+/// Copies the upper memory blocks of the extended memory driver, by rising segment, to the front of the buffer, and
+/// sets `wanted` to how many they are. If they do not fit, the status is 4, and the buffer stays; with any other but 0
+/// nothing changes.
 #[unsafe(no_mangle)]
 pub extern "C" fn dm_c_upper_blocks(
     alloc: Global,
-    machine: &mut Handle,
+    machine: &mut MachineHandle,
     buffer: &mut [UpperBlock],
     wanted: &mut usize,
 ) -> u32
@@ -109,12 +109,12 @@ pub extern "C" fn dm_c_upper_blocks(
     status
 }
 
-/// Sets `a20` to whether address line A20 is on, and `used` to whether the high memory area is taken (1 or 0). They stay
-/// unless the status is 0.
+/// Sets `a20` to whether address line A20 is on, and `used` to whether the high memory area is taken (1 or 0). They
+/// stay unless the status is 0.
 #[unsafe(no_mangle)]
 pub extern "C" fn dm_c_high_memory(
     alloc: Global,
-    machine: &mut Handle,
+    machine: &mut MachineHandle,
     a20: &mut u32,
     used: &mut u32,
 ) -> u32
@@ -128,13 +128,13 @@ pub extern "C" fn dm_c_high_memory(
     status
 }
 
-/// Fills the buffer with bytes of a logical page of a handle of expanded memory, from an offset in the page on, whether a
-/// window shows the page or not. The status is 26 if the handle is not in use, 27 if it has no such page, 28 if not all of
-/// the bytes are in the page. The buffer stays unless the status is 0.
+/// Fills the buffer with bytes of a logical page of a handle of expanded memory, from an offset in the page on, whether
+/// a window shows the page or not. The status is 26 if the handle is not in use, 27 if it has no such page, 28 if not
+/// all of the bytes are in the page. The buffer stays unless the status is 0.
 #[unsafe(no_mangle)]
 pub extern "C" fn dm_c_read_page(
     alloc: Global,
-    machine: &mut Handle,
+    machine: &mut MachineHandle,
     handle: u16,
     page: u16,
     offset: usize,
@@ -150,12 +150,13 @@ pub extern "C" fn dm_c_read_page(
     status
 }
 
-/// Fills the buffer with bytes of the block of a handle of extended memory, from an offset in the block on. The status is 26
-/// if the handle is not in use, 28 if not all of the bytes are in its block. The buffer stays unless the status is 0.
+/// Fills the buffer with bytes of the block of a handle of extended memory, from an offset in the block on. The status
+/// is 26 if the handle is not in use, 28 if not all of the bytes are in its block. The buffer stays unless the status
+/// is 0.
 #[unsafe(no_mangle)]
 pub extern "C" fn dm_c_read_block(
     alloc: Global,
-    machine: &mut Handle,
+    machine: &mut MachineHandle,
     handle: u16,
     offset: usize,
     buffer: &mut [u8],
@@ -170,13 +171,13 @@ pub extern "C" fn dm_c_read_block(
     status
 }
 
-/// Copies the findings that the report of the last checked run lists (none before the first run) to the front of the buffer,
-/// and sets `wanted` to how many they are. If they do not fit, the status is 4, and the buffer stays; with any other but 0
-/// nothing changes. No program need be loaded.
+/// Copies the findings that the report of the last checked run lists (none before the first run) to the front of the
+/// buffer, and sets `wanted` to how many they are. If they do not fit, the status is 4, and the buffer stays; with any
+/// other but 0 nothing changes. No program need be loaded.
 #[unsafe(no_mangle)]
 pub extern "C" fn dm_c_findings(
     alloc: Global,
-    machine: &mut Handle,
+    machine: &mut MachineHandle,
     buffer: &mut [FoundRecord],
     wanted: &mut usize,
 ) -> u32
@@ -190,12 +191,12 @@ pub extern "C" fn dm_c_findings(
     status
 }
 
-/// Sets `errors` and `notes` to how many of each the last checked run had, and `unlisted` to how many findings its report
-/// neither lists nor counts as repetitions. No program need be loaded.
+/// Sets `errors` and `notes` to how many of each the last checked run had, and `unlisted` to how many findings its
+/// report neither lists nor counts as repetitions. No program need be loaded.
 #[unsafe(no_mangle)]
 pub extern "C" fn dm_c_finding_counts(
     alloc: Global,
-    machine: &mut Handle,
+    machine: &mut MachineHandle,
     errors: &mut u64,
     notes: &mut u64,
     unlisted: &mut u64,
@@ -210,13 +211,13 @@ pub extern "C" fn dm_c_finding_counts(
     status
 }
 
-/// Copies the line of finding `k`, from 0, of that report to the front of the buffer, and sets `wanted` to how many bytes it
-/// has. If they do not fit, the status is 4, and only `wanted` changes; it is 29 if the report lists no finding `k`, and
-/// then nothing changes. No program need be loaded.
+/// Copies the line of finding `k`, from 0, of that report to the front of the buffer, and sets `wanted` to how many
+/// bytes it has. If they do not fit, the status is 4, and only `wanted` changes; it is 29 if the report lists no
+/// finding `k`, and then nothing changes. No program need be loaded.
 #[unsafe(no_mangle)]
 pub extern "C" fn dm_c_finding_line(
     alloc: Global,
-    machine: &mut Handle,
+    machine: &mut MachineHandle,
     k: usize,
     buffer: &mut [u8],
     wanted: &mut usize,

@@ -74,7 +74,7 @@ abbrev pub arranged_by : Bool → ℕ → Cpu → Cpu → Option Call → List H
 arranged_by a20 present c d (Some (Dos number)) old new = other_freed present c d number old ++ found_after_call a20 present c d number new
 arranged_by a20 present c d _ old new = []
 
--- what is found of the step from s to t, if it performs a call: a block of another process that it freed, a stack that is
--- in a free block since, and a resident process's block that was not resized
+-- what is found of the step from s to t, if it performs a call: a block of another process that it freed, a stack that
+-- is in a free block since, and a resident process's block that was not resized
 abbrev pub arranged : State → State → Shown → Shown → List Finding
 arranged s t old new = arranged_by s.memory.a20 s.processes.present s.cpu t.cpu (call_of s.cpu) old.headers new

@@ -15,8 +15,8 @@ use Rattle.dm_checker.specs.Origins.{OriginsIn, known_at}
 use Rattle.dm_checker.specs.Watching.{IsWatch}
 
 -- a checked run under way: the report so far, how many steps it may still make, whether it reports findings about free
--- memory, the exit code of a program that had ended before its first step, if it had, what memory shows of the arena, and
--- what is known of who allocated and who freed, and of processes
+-- memory, the exit code of a program that had ended before its first step, if it had, what memory shows of the arena,
+-- and what is known of who allocated and who freed, and of processes
 pub record UnderWay : Type 0 where
   pub report : Reported
   pub left : ℕ
@@ -25,8 +25,8 @@ pub record UnderWay : Type 0 where
   pub watch : Watch
   pub origins : Known
 
--- the steps that c has made from s, of at most n, led to t, and its report has what is found in them; c has what is known
--- after them of who allocated and who freed
+-- the steps that c has made from s, of at most n, led to t, and its report has what is found in them; c has what is
+-- known after them of who allocated and who freed
 pub record HasMade (s : State) (n : ℕ) (t : State) (c : UnderWay) : Type 0 where
   pub running : s.exited ≡ None
   pub few : c.left ≤ n

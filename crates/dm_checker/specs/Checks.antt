@@ -24,8 +24,8 @@ pub record FindsAt (s t : State) (k : Known) (found : List Found) : Type 0 where
   pub finds : Finds s t findings
   pub told : IsFound s t k findings found
 
--- what a program that ended by this call left allocated, or holds if it stays resident, by the state t after it; none if
--- there was no call
+-- what a program that ended by this call left allocated, or holds if it stays resident, by the state t after it; none
+-- if there was no call
 abbrev pub left_by : Option Call → State → List Finding
 left_by None t = []
 left_by (Some call) t = leaks (stays call) t
@@ -66,13 +66,14 @@ pub data Checks (s : State) (n : ℕ) (stop : Stop) (t : State) (found : List Fo
   whole : s.exited ≡ None → stop ≡ AllSteps → FindsIn s n t found → Checks s n stop t found
   cut : (made : ℕ) (before : State) (k : Known) (fs gs : List Found) → s.exited ≡ None → made < n → FindsIn s made before fs → OriginsIn s made before k → Answers before (Some stop) t → FindsAtStop before stop t k gs → found ≡ fs ++ gs → Checks s n stop t found
 
--- the findings that are reported: all of them, or, unless free memory is looked at (`free`), those that are not about it
+-- the findings that are reported: all of them, or, unless free memory is looked at (`free`), those that are not about
+-- it
 abbrev pub reported : Bool → List Found → List Found
 reported free [] = []
 reported free (f ∷ fs) = if not free && is_of_free_memory f.finding then reported free fs else f ∷ reported free fs
 
--- `report` is the report of a run of at most n steps from s, which stops for this reason and leaves t; `free` is whether
--- it has findings about free memory
+-- `report` is the report of a run of at most n steps from s, which stops for this reason and leaves t; `free` is
+-- whether it has findings about free memory
 pub record IsReport (s : State) (n : ℕ) (free : Bool) (stop : Stop) (t : State) (report : Reported) : Type 0 where
   pub found : List Found
   pub checks : Checks s n stop t found

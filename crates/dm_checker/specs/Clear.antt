@@ -1,5 +1,5 @@
--- When nothing can be found of the bytes that an instruction touches, and it leaves the headers as they are. No definition
--- of a finding mentions it.
+-- When nothing can be found of the bytes that an instruction touches, and it leaves the headers as they are. No
+-- definition of a finding mentions it.
 use Rattle.std.specs.Prelude.{◌≡◌, ◌<◌, ℕ, ◌-◌, ◌/◌, ◌==◌, ◌&&◌, ◌||◌, not, nat_lt, is_some, Bool, true, false, if◌then◌else◌, List, slice_index_or, None}
 use Rattle.std.specs.List.{list_any}
 use Rattle.dm_space.specs.Memory.{Memory}
@@ -50,8 +50,8 @@ pub record IsClear (m : Memory) (w : Watch) (rs ws : Elements) : Type 0 where
   pub reads : pass (is_read_clear w.headers.items) m.a20 rs ≡ true
   pub writes : pass (is_write_clear m w.headers.items) m.a20 ws ≡ true
 
--- the instruction at CS:IP, below the segment of services and drivers, touches only bytes of which nothing is found, and
--- writes to no header; w is what memory shows of the arena before it
+-- the instruction at CS:IP, below the segment of services and drivers, touches only bytes of which nothing is found,
+-- and writes to no header; w is what memory shows of the arena before it
 pub record IsPassed (s : State) (w : Watch) : Type 0 where
   pub ins : Ins
   pub length : ℕ

@@ -44,9 +44,9 @@ pub data FindsTouched (s : State) (old : Shown) (found : List Finding) : Type 0 
   calling : (call : Call) → call_of s.cpu ≡ Some call → found ≡ [] → FindsTouched s old found
   over : (code : ℕ) → s.exited ≡ Some code → found ≡ [] → FindsTouched s old found
 
--- what is found of the step from s to t by what it changes, in this order: headers overwritten and headers mapped away, both in the order
--- of the list; the arena destroyed, or whole again; a block freed twice; a call that failed. `old` and `new` are what
--- memory shows of the arena before and after the step
+-- what is found of the step from s to t by what it changes, in this order: headers overwritten and headers mapped away,
+-- both in the order of the list; the arena destroyed, or whole again; a block freed twice; a call that failed. `old`
+-- and `new` are what memory shows of the arena before and after the step
 abbrev pub findings : State → State → Shown → Shown → List Finding
 findings s t old new =
     all_overwritten (arranges s.cpu (call_of s.cpu)) s.memory t.memory old.headers
@@ -55,8 +55,8 @@ findings s t old new =
     ++ freed_twice s.cpu t.cpu (call_of s.cpu) old.headers
     ++ call_findings s.cpu t.cpu (call_of s.cpu)
 
--- `found` is what is found of the step from s to t: of the bytes that it touches, of what it changes, and of blocks that
--- its call freed or did not resize
+-- `found` is what is found of the step from s to t: of the bytes that it touches, of what it changes, and of blocks
+-- that its call freed or did not resize
 pub record Finds (s t : State) (found : List Finding) : Type 0 where
   pub old : Shown
   pub new : Shown
@@ -74,8 +74,8 @@ pub data IsAct (s : State) (a : Act) : Type 0 where
   instructed : (i : Ins) (length : ℕ) → call_of s.cpu ≡ None → BeginsWith (fetched s.memory s.cpu) i length → a ≡ act.Instruction i (up s.cpu.ip length) → IsAct s a
 
 -- the findings with their step from s to t, which performs a: its number (the machine's count of steps after it), the
--- process that was present, and where in its code the program performs it: an instruction at CS:IP, a call at its caller.
--- k is what is known after it of who allocated and who freed
+-- process that was present, and where in its code the program performs it: an instruction at CS:IP, a call at its
+-- caller. k is what is known after it of who allocated and who freed
 abbrev pub found_at : State → State → Known → Act → List Finding → List Found
 found_at s t k a = map (λ f. record { step = t.steps; process = s.processes.present; site = site_of s.memory s.cpu; act = a; finding = f; origin = origin_of k s.memory.a20 f })
 

@@ -10,8 +10,8 @@ use Rattle.dm_checker.specs.Clear.{is_read_clear, is_write_clear}
 abbrev pub Keeps : ℕ → List ℕ → List ℕ → Type 0
 Keeps n old new = (p : ℕ) → n ≤ level_at old p → n ≤ level_at new p
 
--- writes are marked where there is no memory, at the end of memory, in the ROM, in windows that show no page, and, if a header is in the frame
--- (`high`), in all windows
+-- writes are marked where there is no memory, at the end of memory, in the ROM, in windows that show no page, and, if a
+-- header is in the frame (`high`), in all windows
 pub record HasMap (windows : List (Option ℕ)) (high : Bool) (ms : List ℕ) : Type 0 where
   pub gap : (p : ℕ) → 0xC000 ≤ p → p < 0xD000 → 1 ≤ level_at ms p
   pub frame : (p : ℕ) → 0xE000 ≤ p → p < 0xF000 → (is_some (slice_index_or windows ((p - 0xE000) / 0x400) None) && not high) ≡ false → 1 ≤ level_at ms p

@@ -1,5 +1,5 @@
-//! The findings about calls that free, resize or keep blocks of the arena (MS-DOS Programmer's Reference, functions 31h,
-//! 49h and 4Ah). Each function `put_..` appends its findings to `out`; an `Err` is a failed allocation.
+//! The findings about calls that free, resize or keep blocks of the arena (MS-DOS Programmer's Reference, functions
+//! 31h, 49h and 4Ah). Each function `put_..` appends its findings to `out`; an `Err` is a failed allocation.
 
 ghost use Rattle.std.specs.Prelude.{◌≡◌, ◌++◌, map, OnOk};
 ghost use Rattle.std.specs.List.{flat_map};
@@ -88,8 +88,8 @@ fn put_each_stack(out: &mut Vec<Finding>, at: u32, headers: &[Watched]) -> Resul
     Ok(())
 }
 
-/// Appends that after 49h or 4Ah, which succeeded, the stack of the call is in a free block; `headers` is the arena after
-/// it.
+/// Appends that after 49h or 4Ah, which succeeded, the stack of the call is in a free block; `headers` is the arena
+/// after it.
 fn put_stack_freed(
     out: &mut Vec<Finding>,
     a20: bool,
@@ -123,8 +123,8 @@ fn has_size(segment: u16, size: u16, headers: &[Watched]) -> bool
     false
 }
 
-/// Appends that a process stays resident by 31h, if its block has another size than DX asked for; `headers` is the arena
-/// after the call.
+/// Appends that a process stays resident by 31h, if its block has another size than DX asked for; `headers` is the
+/// arena after the call.
 fn put_not_resized(
     out: &mut Vec<Finding>,
     present: u16,
@@ -157,9 +157,9 @@ fn put_after_call(
     put_not_resized(out, before.present, &before.cpu, number, &new.headers)
 }
 
-/// Appends what is found of a call: a block of another process that it freed, a stack that is in a free block since, and
-/// a resident process's block that was not resized. `before` is what was kept of the state before the call, `after` are
-/// the registers after it, `headers` and `new` the arena before and after it.
+/// Appends what is found of a call: a block of another process that it freed, a stack that is in a free block since,
+/// and a resident process's block that was not resized. `before` is what was kept of the state before the call, `after`
+/// are the registers after it, `headers` and `new` the arena before and after it.
 pub(crate) fn put_arranged(
     out: &mut Vec<Finding>,
     before: &Before,

@@ -87,8 +87,8 @@ impl CheckedRun {
         })
     }
 
-    /// Makes steps until the run stops; with `pausing`, also until the report lists a finding more than before, and then
-    /// returns None.
+    /// Makes steps until the run stops; with `pausing`, also until the report lists a finding more than before, and
+    /// then returns None.
     fn advance(
         &mut self,
         alloc: Global,
@@ -160,8 +160,8 @@ impl CheckedRun {
         self.advance(alloc, machine, true)
     }
 
-    /// The processes of the steps that were made, in the order of their starts: the one that was present where the run began,
-    /// and those that it has started. Each has its last step if it has ended.
+    /// The processes of the steps that were made, in the order of their starts: the one that was present where the run
+    /// began, and those that it has started. Each has its last step if it has ended.
     pub fn processes(&self) -> &[Process]
         ensures { result.now ≡ self.now.origins.processes }
     {
@@ -184,9 +184,9 @@ impl CheckedRun {
 }
 
 /// Makes at most `n` steps, as `Machine::run` does, and reports what they did to the headers of the arena and to free
-/// memory, which calls failed, and, if the first program ended and does not stay resident, what it left allocated. Unless
-/// `free`, findings about free memory are left out: reads of it, writes to it, and a stack in it. Returns why the run
-/// stopped, and the report. A program must be loaded.
+/// memory, which calls failed, and, if the first program ended and does not stay resident, what it left allocated.
+/// Unless `free`, findings about free memory are left out: reads of it, writes to it, and a stack in it. Returns why
+/// the run stopped, and the report. A program must be loaded.
 ///
 /// An `Err` says that an allocation of the checker failed: the machine has made none, some or all steps of the run, and
 /// the report is lost.

@@ -1,5 +1,5 @@
-//! The memory checker of `dm check`: runs a machine, and reports what its program did to the headers of the arena and to
-//! free memory, which calls failed, and what the program left allocated.
+//! The memory checker of `dm check`: runs a machine, and reports what its program did to the headers of the arena and
+//! to free memory, which calls failed, and what the program left allocated.
 #![tactic(auto)]
 
 mod acts;

@@ -1,4 +1,5 @@
-//! Marks on the memory of which something may be found, so that instructions that touch none of it need not be looked at.
+//! Marks on the memory of which something may be found, so that instructions that touch none of it need not be looked
+//! at.
 
 ghost use Rattle.std.specs.Prelude.{◌≡◌, ◌+◌, ◌*◌, ◌<◌, ◌≤◌, ◌&&◌, not, false, is_some, slice_index_or, ℕ, All, IfOk, None};
 ghost use Rattle.std.specs.List.{list_any};
@@ -113,8 +114,8 @@ fn mark_free(marks: &mut Marks, headers: &[Watched])
     }
 }
 
-/// Marks on the memory of which something may be found, by the headers of the arena and what the windows show. An `Err` is
-/// a failed allocation.
+/// Marks on the memory of which something may be found, by the headers of the arena and what the windows show. An `Err`
+/// is a failed allocation.
 pub(crate) fn marks_of(
     alloc: Global,
     headers: &[Watched],

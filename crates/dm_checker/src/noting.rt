@@ -29,8 +29,8 @@ fn headers_of(alloc: Global, headers: &[Watched]) -> Result<Vec<Header>, AllocEr
     Ok(list)
 }
 
-/// Notes which memory a step freed, by the arena before it (`old`) and after it (`new`), if no list breaks. An `Err` is a
-/// failed allocation.
+/// Notes which memory a step freed, by the arena before it (`old`) and after it (`new`), if no list breaks. An `Err` is
+/// a failed allocation.
 fn note_arena(
     alloc: Global,
     origins: &mut Origins,
@@ -66,9 +66,9 @@ fn note_course(origins: &mut Origins, before: &Before, machine: &Machine) -> Res
     Ok(())
 }
 
-/// Notes what a step allocated, freed or turned on, and the process that it started or ended. `before` is what was kept of
-/// the state before the step, `machine` is in the state after it, `old` and `new` are the arena before it and after it. An
-/// `Err` is a failed allocation.
+/// Notes what a step allocated, freed or turned on, and the process that it started or ended. `before` is what was kept
+/// of the state before the step, `machine` is in the state after it, `old` and `new` are the arena before it and after
+/// it. An `Err` is a failed allocation.
 pub(crate) fn note(
     alloc: Global,
     origins: &mut Origins,

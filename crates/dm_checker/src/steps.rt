@@ -45,8 +45,8 @@ fn put_turned(
     }
 }
 
-/// Appends to `out` what is found of a step by what it changes, by the arena read before it (`old`) and after it (`new`).
-/// `before` is what was kept of the state before the step, `machine` is in the state after it.
+/// Appends to `out` what is found of a step by what it changes, by the arena read before it (`old`) and after it
+/// (`new`). `before` is what was kept of the state before the step, `machine` is in the state after it.
 fn look_anew(
     out: &mut Vec<Finding>,
     before: &Before,
@@ -70,9 +70,9 @@ fn look_anew(
     put_arranged(out, before, &after, &old.headers, new)
 }
 
-/// Appends to `out` what is found of a step by what it changes. `kept`, the arena as it was read before the step, becomes the arena after
-/// it, which is read anew only if the step may have changed it. `origins` is what is known before the step of who allocated
-/// and who freed, and becomes what is known after it. An `Err` is a failed allocation.
+/// Appends to `out` what is found of a step by what it changes. `kept`, the arena as it was read before the step,
+/// becomes the arena after it, which is read anew only if the step may have changed it. `origins` is what is known
+/// before the step of who allocated and who freed, and becomes what is known after it. An `Err` is a failed allocation.
 fn look(
     alloc: Global,
     out: &mut Vec<Finding>,
@@ -164,8 +164,8 @@ fn tell_step(
 }
 
 /// Adds what is found of the step that ended the first program to the report: its findings, and what the program left
-/// allocated, or holds if it stays resident. `found` has the findings of the bytes that the step touches. `kept` becomes the
-/// arena after the step, and `origins` what is known after it. An `Err` is a failed allocation.
+/// allocated, or holds if it stays resident. `found` has the findings of the bytes that the step touches. `kept`
+/// becomes the arena after the step, and `origins` what is known after it. An `Err` is a failed allocation.
 fn check_end(
     alloc: Global,
     found: &mut Vec<Finding>,
@@ -223,9 +223,9 @@ fn make_step(machine: &mut Machine, call: Option<Call>) -> Option<Stop>
     run_once(machine)
 }
 
-/// Makes one step and adds what is found of it to the report; returns the stop, or None if the machine goes on. `kept` is
-/// the arena before the step and becomes that after it if the machine goes on, and so `origins` is what is known of who
-/// allocated and who freed. An `Err` is a failed allocation of the checker, before the step or after it.
+/// Makes one step and adds what is found of it to the report; returns the stop, or None if the machine goes on. `kept`
+/// is the arena before the step and becomes that after it if the machine goes on, and so `origins` is what is known of
+/// who allocated and who freed. An `Err` is a failed allocation of the checker, before the step or after it.
 #[inline(never)]
 pub(crate) fn look_at_step(
     alloc: Global,
@@ -266,8 +266,8 @@ pub(crate) fn look_at_step(
     }
 }
 
-/// Makes at most `most` steps of instructions of which nothing is found, by the bytes that they touch, and that allocate
-/// and free nothing, and returns how many. `kept` is the arena before them, and after them.
+/// Makes at most `most` steps of instructions of which nothing is found, by the bytes that they touch, and that
+/// allocate and free nothing, and returns how many. `kept` is the arena before them, and after them.
 pub(crate) fn pass(machine: &mut Machine, kept: &Watch, most: u64) -> u64
     requires program { HasProgram machine.old }
     requires watch { IsWatch machine.old.upper machine.old.memory kept.now }

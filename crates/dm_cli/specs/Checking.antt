@@ -8,7 +8,7 @@ use Rattle.dm_services.specs.state.State.{State}
 use Rattle.dm_machine.specs.Run.{IsRun}
 use Rattle.dm_findings.specs.declared.finding.Found.{Found}
 use Rattle.dm_findings.specs.Report.{Reported, report_of}
-use Rattle.dm_json.specs.declared.forms.Form.{Form}
+use Rattle.dm_json.specs.declared.forms.Format.{Format}
 use Rattle.dm_json.specs.Forms.{report_form, lines_in, report_in, processes_in, end_in}
 use Rattle.dm_findings.specs.declared.processes.process.Process.{Process}
 use Rattle.dm_checker.specs.Checks.{FindsIn, IsReport, reported}
@@ -36,23 +36,24 @@ told_status failed status = if failed then 126 else status
 abbrev pub unwritten_line : List ℕ
 unwritten_line = codes "dm: cannot write standard output" ++ 10 ∷ []
 
--- an allocation failed during a run of at most n steps from s, or after it: the lines of the findings that are listed of
--- some first steps of it, or of all of it, were printed in the form of the report, and no more of it
-pub data IsLost (s : State) (n : ℕ) (free : Bool) (form : Form) (error_before error_after : Stream) : Type 0 where
+-- an allocation failed during a run of at most n steps from s, or after it: the lines of the findings that are listed
+-- of some first steps of it, or of all of it, were printed in the form of the report, and no more of it
+pub data IsLost (s : State) (n : ℕ) (free : Bool) (form : Format) (error_before error_after : Stream) : Type 0 where
   some_steps : (made : ℕ) (t : State) (found : List Found) → made ≤ n → FindsIn s made t found → Prints (lines_in form (report_of (reported free found)).listed) error_before error_after
       → IsLost s n free form error_before error_after
   all_steps : (stop : Stop) (t : State) (report : Reported) → IsReport s n free stop t report → Prints (lines_in form report.listed) error_before error_after
       → IsLost s n free form error_before error_after
 
 -- what is printed of a run that stopped: its report, the lines about its processes, and the line about its end
-abbrev pub all_in : Form → Reported → List Process → Stop → State → List ℕ
+abbrev pub all_in : Format → Reported → List Process → Stop → State → List ℕ
 all_in form report ps stop t = report_in form report ++ processes_in form ps ++ end_in form stop t.memory t.cpu
 
 -- `dm check`: the machine runs as for `dm run`; findings about free memory are left out by `--no-free`, and the
--- report is JSON by `--json`. The result is the exit status: the report with the processes and the end of the run was printed on
--- standard error, or a first part of it (`failed`), and the whole output written to standard output; or a write of the output failed, after a first part, and the line of that fault was printed behind the
--- report (`middle` is standard error between the two). Otherwise it is a fault: nothing was written to standard output, no
--- write of it failed, and a part of the report may have been printed
+-- report is JSON by `--json`. The result is the exit status: the report with the processes and the end of the run was
+-- printed on standard error, or a first part of it (`failed`), and the whole output written to standard output; or a
+-- write of the output failed, after a first part, and the line of that fault was printed behind the report (`middle` is
+-- standard error between the two). Otherwise it is a fault: nothing was written to standard output, no write of it
+-- failed, and a part of the report may have been printed
 pub data Checks (files : List ℕ → Option (List ℕ)) (typed : Option (List ℕ)) (o : CheckOptions) (before after : Option (List ℕ)) (failed_before failed_after : ℕ) (error_before error_after : Stream) : Result ℕ Fault → Type 0 where
   checked : (m t : State) (stop : Stop) (report : Reported) (ps : List Process) (failed : Bool) (status : ℕ) → IsStartedBy files typed o.machine m → IsRun m o.machine.steps stop t → IsReport m o.machine.steps (not o.no_free) stop t report → AreProcesses m o.machine.steps stop t ps
       → Appends before after t.console.output → failed_after ≡ failed_before → HasPrinted failed (all_in (report_form o.json) report ps stop t) error_before error_after → status ≡ told_status failed (checked_status report stop)

@@ -26,8 +26,8 @@ TellsOfAFile (Some (fault.CannotRead name)) = Unit {0}
 TellsOfAFile (Some fault.OutOfMemory) = Unit {0}
 TellsOfAFile _ = ⊥
 
--- files were read, with the fault `end` if there is one; `before` and `after` are how many opens and reads of files have
--- failed: none more, and the fault tells of no file; or one more, and then it does, or says that memory ran out
+-- files were read, with the fault `end` if there is one; `before` and `after` are how many opens and reads of files
+-- have failed: none more, and the fault tells of no file; or one more, and then it does, or says that memory ran out
 pub data ReadsFiles (before after : ℕ) (end : Option Fault) : Type 0 where
   all_read : after ≡ before → TellsOfNoFile end → ReadsFiles before after end
   one_unread : HasFailed before after → TellsOfAFile end → ReadsFiles before after end

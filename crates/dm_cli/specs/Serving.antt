@@ -11,10 +11,10 @@ use Rattle.dm_cli.specs.Starting.{IsStartedBy, IsStartFault, typed_in}
 use Rattle.dm_cli.specs.declared.fault.Fault.{Fault}
 use Rattle.dm_cli.specs.declared.fault.Fault.TheVariants.{OutOfMemory}
 
--- The bytes of a stream are taken one after the other, at most n of them, up to its end or that of the conversation. What
--- is sent for a byte is written and flushed before the next byte is read; a way to go on makes at most `most` steps. The
--- arguments after the conversation and the bytes are: what is written; the fault that ended it early, if any; and whether
--- all that was sent was written whole and flushed.
+-- The bytes of a stream are taken one after the other, at most n of them, up to its end or that of the conversation.
+-- What is sent for a byte is written and flushed before the next byte is read; a way to go on makes at most `most`
+-- steps. The arguments after the conversation and the bytes are: what is written; the fault that ended it early, if
+-- any; and whether all that was sent was written whole and flushed.
 pub data ServesStream (most : ℕ) : ℕ → Connected → List ℕ → List ℕ → Option Fault → Bool → Type 0 where
   ended : (n : ℕ) (c : Connected) → c.over ≡ false → ServesStream most n c [] [] None true
   over : (n : ℕ) (c : Connected) (bytes : List ℕ) → c.over ≡ true → ServesStream most n c bytes [] None true
@@ -26,10 +26,10 @@ pub data ServesStream (most : ℕ) : ℕ → Connected → List ℕ → List ℕ
   unwritten : (n : ℕ) (c d : Connected) (byte : ℕ) (bytes sent : List ℕ) (k : ℕ) (fault : Fault) → c.over ≡ false → Takes most c byte sent d → sent ≢ [] → k ≤ length sent
       → IsWriteFault fault → ServesStream most (suc n) c (byte ∷ bytes) (take k sent) (Some fault) false
 
--- the conversation takes the bytes of a reader, at most n of them; `end` is the fault that ended it early, if any. `known`
--- is what the reader has, where that is known; `before` and `after` are what the writer has taken; `opened` and `failures`
--- are the counts of its failures before and after. The count rises, unless it is at its highest, exactly if something that
--- was sent was not written whole or not flushed
+-- the conversation takes the bytes of a reader, at most n of them; `end` is the fault that ended it early, if any.
+-- `known` is what the reader has, where that is known; `before` and `after` are what the writer has taken; `opened` and
+-- `failures` are the counts of its failures before and after. The count rises, unless it is at its highest, exactly if
+-- something that was sent was not written whole or not flushed
 pub record IsServed (most n : ℕ) (known : Option (List ℕ)) (c : Connected) (before after : Option (List ℕ)) (opened failures : ℕ) (end : Option Fault) : Type 0 where
   pub bytes : List ℕ
   pub told : List ℕ

@@ -1,4 +1,5 @@
--- The machine that `dm run`, `dm check`, `dm debug` and `dm gdb` begin with, and the first fault that keeps them from it.
+-- The machine that `dm run`, `dm check`, `dm debug` and `dm gdb` begin with, and the first fault that keeps them from
+-- it.
 use Rattle.std.specs.Prelude.{ℕ, ◌≡◌, ◌<◌, ◌≤◌, ◌++◌, List, [], ◌∷◌, Option, None, IsSomeAnd, map, option_map, length}
 use Rattle.dm_options.specs.declared.command_line.DebugOptions.{DebugOptions}
 use Rattle.dm_options.specs.declared.command_line.MachineOptions.{MachineOptions}

@@ -1,6 +1,6 @@
-//! `dm check`: a run with a report of its findings on standard error, as a text or as JSON, whatever becomes of standard
-//! output. The line of a finding is printed when it is found; the summary, the lines about processes, if there was more than
-//! one, and the line about the end of the run, which is empty in a text for an exit, follow at the end.
+//! `dm check`: a run with a report of its findings on standard error, as a text or as JSON, whatever becomes of
+//! standard output. The line of a finding is printed when it is found; the summary, the lines about processes, if there
+//! was more than one, and the line about the end of the run, which is empty in a text for an exit, follow at the end.
 ghost use Rattle.std.specs.Prelude.{◌≡◌, ◌++◌, ◌≤◌, [], List, ℕ, IfOk, OnErr, OnOk, drop, length};
 ghost use Rattle.dm_json.specs.Forms.{end_in, lines_in, processes_in, summary_in};
 ghost use Rattle.dm_checker.specs.Checking.{IsUnderWay};
@@ -20,7 +20,7 @@ use dm_checker::CheckedRun;
 use dm_console::writers::write_all;
 use dm_findings::Report;
 use dm_findings::processes::Process;
-use dm_json::{Form, form_of, put_end_in, put_lines_in, put_processes_in, put_summary_in};
+use dm_json::{Format, format_of, put_end_in, put_lines_in, put_processes_in, put_summary_in};
 use dm_machine::{Machine, Out, Stop};
 use dm_options::command_line::CheckOptions;
 use std::alloc::{AllocError, Global};
@@ -34,7 +34,7 @@ const ERRORS: u8 = 124;
 fn put_end(
     text: &mut Vec<u8>,
     alloc: Global,
-    form: Form,
+    form: Format,
     report: &Report,
     processes: &[Process],
     stop: Stop,
@@ -75,11 +75,12 @@ fn told_status(failed: bool, status: u8) -> u8
     if failed { FAULT } else { status }
 }
 
-/// Prints on `error` the lines of the findings that the report lists behind the first `count`, unless a write has failed
-/// before (`failed`). Returns whether one has failed now. An `Err` is a failed allocation; then nothing is printed.
+/// Prints on `error` the lines of the findings that the report lists behind the first `count`, unless a write has
+/// failed before (`failed`). Returns whether one has failed now. An `Err` is a failed allocation; then nothing is
+/// printed.
 fn print_new<E: Out>(
     alloc: Global,
-    form: Form,
+    form: Format,
     report: &Report,
     count: usize,
     error: &mut E,
@@ -100,7 +101,7 @@ fn print_new<E: Out>(
 /// after the lines of the findings of a first part of the run.
 fn follow<E: Out>(
     alloc: Global,
-    form: Form,
+    form: Format,
     run: &mut CheckedRun,
     machine: &mut Machine,
     error: &mut E,
@@ -126,16 +127,17 @@ fn follow<E: Out>(
 }
 
 /// Runs a machine for at most `steps` steps under the checker, with findings about free memory or without (`free`), and
-/// prints, in this form, the line of each finding that is listed on `error`, as it is found. Then it writes the output to `out`, and
-/// prints the summary, the processes and the line about the stop. If a write of the output failed, after a first part of it or none, it
-/// prints the fault after them. Returns the exit status, 126 if a part of the report could not be written. `OutOfMemory` if an allocation failed, before anything is
-/// written to `out`; then lines of findings may have been printed, but no summary.
+/// prints, in this form, the line of each finding that is listed on `error`, as it is found. Then it writes the output
+/// to `out`, and prints the summary, the processes and the line about the stop. If a write of the output failed, after
+/// a first part of it or none, it prints the fault after them. Returns the exit status, 126 if a part of the report
+/// could not be written. `OutOfMemory` if an allocation failed, before anything is written to `out`; then lines of
+/// findings may have been printed, but no summary.
 fn check_machine<W: Out, E: Out>(
     alloc: Global,
     machine: &mut Machine,
     steps: u64,
     free: bool,
-    form: Form,
+    form: Format,
     out: &mut W,
     error: &mut E,
 ) -> Result<u8, Fault<'static>>
@@ -168,9 +170,9 @@ fn check_machine<W: Out, E: Out>(
 }
 
 /// `dm check`: runs the first file under the checker, and prints the line of each finding that is listed on `error`, as
-/// it is found. Then it writes the program's output to `out`, and prints the summary, the processes and the line about the
-/// stop, and after them the fault of the output, if it was not written whole. Returns the exit status, or another fault, which is
-/// not printed yet.
+/// it is found. Then it writes the program's output to `out`, and prints the summary, the processes and the line about
+/// the stop, and after them the fault of the output, if it was not written whole. Returns the exit status, or another
+/// fault, which is not printed yet.
 pub(crate) fn check<'a, F: Storage, I: Read + Drop, W: Out, E: Out>(
     alloc: Global,
     storage: &mut F,
@@ -191,7 +193,7 @@ pub(crate) fn check<'a, F: Storage, I: Read + Drop, W: Out, E: Out>(
         &mut machine,
         steps,
         !options.no_free,
-        form_of(options.json),
+        format_of(options.json),
         out,
         error,
     )

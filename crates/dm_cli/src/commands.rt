@@ -118,8 +118,8 @@ fn concluded<E: Out>(outcome: Result<u8, Fault<'_>>, error: &mut E) -> u8
     }
 }
 
-/// Prints the fault of a `dm debug`, `dm gdb`, `dm asm` or `dm disasm` on `error`, if there is one, and returns the exit status:
-/// 0, or 126 at a fault, also if the fault cannot be printed.
+/// Prints the fault of a `dm debug`, `dm gdb`, `dm asm` or `dm disasm` on `error`, if there is one, and returns the
+/// exit status: 0, or 126 at a fault, also if the fault cannot be printed.
 fn told<E: Out>(outcome: Result<(), Fault<'_>>, error: &mut E) -> u8
     ensures status { result ≡ status_after (end_of outcome.entry) }
     ensures line { Reports (record { bytes = E.taken error.old; failures = E.failures error.old })
@@ -141,10 +141,10 @@ fn told<E: Out>(outcome: Result<(), Fault<'_>>, error: &mut E) -> u8
 /// `cannot write standard output`.
 ///
 /// `dm check` runs the program as `dm run` does, prints a report of its errors in the use of memory, and notes, on
-/// standard error, each line when it is found, then the line of `stopped: ` unless the program has ended, and exits with
-/// status 124 if there is an error, whatever the stop; otherwise with the status of `dm run`. Its faults are those of `dm run`. If standard
-/// output cannot be written, it prints all of this and then the fault, and the status is 124 if there is an error,
-/// otherwise 126. It is 126, too, if a part of the report cannot be written.
+/// standard error, each line when it is found, then the line of `stopped: ` unless the program has ended, and exits
+/// with status 124 if there is an error, whatever the stop; otherwise with the status of `dm run`. Its faults are those
+/// of `dm run`. If standard output cannot be written, it prints all of this and then the fault, and the status is 124
+/// if there is an error, otherwise 126. It is 126, too, if a part of the report cannot be written.
 ///
 /// `dm debug` exits with status 0, also where the program has ended, or reports a fault with status 126, in the same
 /// order: the console's input is the file of `--input`, and none without it. The commands are read after `short`, a
@@ -152,8 +152,9 @@ fn told<E: Out>(outcome: Result<(), Fault<'_>>, error: &mut E) -> u8
 /// comes after the answers so far.
 ///
 /// `dm gdb` speaks the remote serial protocol of GDB on standard input and output. It exits with status 0 at the end of
-/// the input, or once GDB has detached or killed the program; its faults are those of `dm debug`, in the same order. Each
-/// time that GDB lets the program go on, it makes at most the steps of `--steps`, and is then told of a signal SIGALRM.
+/// the input, or once GDB has detached or killed the program; its faults are those of `dm debug`, in the same order.
+/// Each time that GDB lets the program go on, it makes at most the steps of `--steps`, and is then told of a signal
+/// SIGALRM.
 ///
 /// `dm asm` and `dm disasm` exit with status 0, or report a fault with status 126: `cannot read NAME` or
 /// `input too long` of the file that they read, then `too long` (over 65,278 bytes of program) or `line N: ` and

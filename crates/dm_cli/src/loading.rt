@@ -139,8 +139,8 @@ fn read_if_any<'a, F: Storage>(
     }
 }
 
-/// The machine of `dm debug` and `dm gdb`, with the first file loaded; its console input is the file of `--input`, if there is one.
-/// Or the first fault: of the files, of the input, of the machine.
+/// The machine of `dm debug` and `dm gdb`, with the first file loaded; its console input is the file of `--input`, if
+/// there is one. Or the first fault: of the files, of the input, of the machine.
 pub(crate) fn loaded_for_debug<'a, F: Storage>(
     alloc: Global,
     storage: &mut F,

@@ -113,8 +113,8 @@ pub(crate) fn print<E: Out>(error: &mut E, text: &[u8])
     let _ = write_all(error, text);
 }
 
-/// Writes a text on `out` and flushes it, unless it is empty. An `Err` says that a write or the flush failed, after a first part of the text
-/// or all of it.
+/// Writes a text on `out` and flushes it, unless it is empty. An `Err` says that a write or the flush failed, after a
+/// first part of the text or all of it.
 fn write_now<E: Out>(out: &mut E, text: &[u8]) -> Result<(), Failed>
     ensures ok { OnOk result (Appends (E.taken out.old) (E.taken out.new) text.now) }
     ensures no_failure { OnOk result (E.failures out.new ≡ E.failures out.old) }

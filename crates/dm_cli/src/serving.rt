@@ -31,8 +31,8 @@ const COPIES: u64 = 64 << 20;
 /// The bytes that a copy takes besides those of expanded and extended memory, or some more: 7 MiB.
 const COPY: u64 = 7 << 20;
 
-/// How many copies of a machine with this much expanded and extended memory are kept on its way. Room is left for that of
-/// its start, and for two that are made when it goes back.
+/// How many copies of a machine with this much expanded and extended memory are kept on its way. Room is left for that
+/// of its start, and for two that are made when it goes back.
 fn copies_of(ems_pages: u32, xms_kib: u32) -> usize
     ensures most { result ≤ 8 }
 {

@@ -21,8 +21,8 @@ impl Session {
         self.machine.input_left()
     }
 
-    /// Says that more console input may come, as `Machine::open_input`. From then on each call that wants a byte that is
-    /// not there stops the run with `InputEnded`, and the run can go on once there is more. Nothing else changes.
+    /// Says that more console input may come, as `Machine::open_input`. From then on each call that wants a byte that
+    /// is not there stops the run with `InputEnded`, and the run can go on once there is more. Nothing else changes.
     pub fn open_input(&mut self)
         ensures { self.new ≡ with_machine self.old (with_more self.old.machine true) }
     {

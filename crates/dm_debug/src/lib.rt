@@ -4,7 +4,6 @@
 //! Module `stops` has runs up to events, as hosts ask for them.
 #![tactic(auto)]
 
-
 mod input;
 mod laws;
 mod listings;
@@ -14,7 +13,6 @@ mod refusal;
 mod runs;
 mod session;
 pub mod stops;
-
 
 pub use laws::runs_have_one_answer;
 pub use points::Points;

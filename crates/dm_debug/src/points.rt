@@ -109,8 +109,8 @@ impl Points {
         }
     }
 
-    /// Removes the breakpoint at the address from the list, where no other one has this segment and this offset; if none
-    /// is set there, the list stays.
+    /// Removes the breakpoint at the address from the list, where no other one has this segment and this offset; if
+    /// none is set there, the list stays.
     pub fn clear(&mut self, address: LogicalAddress)
         ensures list { self.new ≡ without_point self.old address }
         ensures gone { is_set self.new address ≡ false }

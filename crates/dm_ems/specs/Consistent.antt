@@ -34,8 +34,8 @@ SavesPages pages None = Unit {0}
 SavesPages pages (Some handle) = IfSome handle.saved (ShowsPages pages)
 
 -- the tables of expanded memory and the memory are consistent: the pool's table has its size, there are no more pages
--- than the machine has, each page belongs to a handle in use and has a block of 16 KiB of its own, and windows and saved
--- windows show pages alone
+-- than the machine has, each page belongs to a handle in use and has a block of 16 KiB of its own, and windows and
+-- saved windows show pages alone
 pub record IsConsistent (x : Expanded) : Type 0 where
   pub places : length x.memory.blocks.places ≡ 576
   pub contents : length x.memory.blocks.contents ≡ 576

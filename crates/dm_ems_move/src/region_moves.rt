@@ -58,8 +58,8 @@ fn conventional(described: Description, len: usize) -> Result<Span<'static>, Sta
     Ok(Span::linear(start))
 }
 
-/// The blocks of the pages of the handle that the region has which is described `k` bytes after segment:offset; none for
-/// conventional memory.
+/// The blocks of the pages of the handle that the region has which is described `k` bytes after segment:offset; none
+/// for conventional memory.
 fn blocks_at(ems: &Ems, space: &Space, segment: u16, offset: u16, k: usize) -> ArrayVec<Block, 512>
     requires { k < 0x1000 }
     ensures { HasBlocks ems.now (described space.now.memory segment offset k) result.items }

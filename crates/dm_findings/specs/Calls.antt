@@ -40,7 +40,7 @@ call_at c (Some (entry_point.Service s)) = Some (of_service c s)
 call_at c (Some (entry_point.Driver d)) = Some (of_driver c d)
 call_at c None = bare_call c
 
--- the call that a step with these registers performs: that of the service or driver whose entry point is CS:IP, or of an
--- interrupt that nothing serves and whose return is at CS:IP; None where another instruction comes next
+-- the call that a step with these registers performs: that of the service or driver whose entry point is CS:IP, or of
+-- an interrupt that nothing serves and whose return is at CS:IP; None where another instruction comes next
 unfoldable pub call_of : Cpu → Option Call
 call_of c = call_at c (entry_point_at c.cs c.ip)

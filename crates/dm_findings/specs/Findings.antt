@@ -6,8 +6,8 @@ use Rattle.dm_findings.specs.declared.finding.Found.{Found}
 
 -- whether the finding is an error: all but a block list that is valid again, an interrupt that is not served, a failed
 -- call that does not free or resize what is not allocated, a write to the ROM, to no memory or to bytes 5 to 15 of a
--- header, a block freed that another process owned, a resident program's block that was not resized, and what a resident
--- program holds, which are notes
+-- header, a block freed that another process owned, a resident program's block that was not resized, and what a
+-- resident program holds, which are notes
 abbrev pub is_error : Finding → Bool
 is_error Whole = false
 is_error NotServed = false

@@ -67,8 +67,8 @@ kind_of (NotResized asked) = 18
 kind_of (Left k) = left_kind k
 kind_of (Held k) = held_kind k
 
--- what the finding is about: the segment of a header or a block, a handle, a window, or an error code; 0 for a kind that
--- has none of them
+-- what the finding is about: the segment of a header or a block, a handle, a window, or an error code; 0 for a kind
+-- that has none of them
 abbrev pub subject_of : Finding → ℕ
 subject_of (Overwritten at old new) = at
 subject_of (MappedAway at) = at

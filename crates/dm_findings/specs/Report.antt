@@ -1,5 +1,5 @@
--- The report of `dm check`: the findings in the order in which they happened, each once, how often each is repeated, and
--- how many there are.
+-- The report of `dm check`: the findings in the order in which they happened, each once, how often each is repeated,
+-- and how many there are.
 use Rattle.std.specs.Prelude.{ℕ, suc, ◌-◌, ◌^◌, ◌&&◌, min, not, nat_lt, Bool, if◌then◌else◌, List, [], ◌∷◌, ◌++◌, count_by}
 use Rattle.std.specs.List.{list_any}
 use Rattle.dm_findings.specs.declared.finding.Found.{Found}
@@ -18,7 +18,8 @@ abbrev pub last_step : ℕ → (Found → Bool) → List Found → ℕ
 last_step step is [] = step
 last_step step is (f ∷ fs) = last_step (if is f then f.step else step) is fs
 
--- the line of a finding f, by those after it: how many of them repeat it, and the step of the last that does, or its own
+-- the line of a finding f, by those after it: how many of them repeat it, and the step of the last that does, or its
+-- own
 abbrev pub line_of : Found → List Found → Listed
 line_of f fs = record { found = f; more = bounded_count (is_repeated f) fs; last = last_step f.step (is_repeated f) fs }
 

@@ -1,7 +1,7 @@
 -- Where in its code a program performs a step: an instruction at CS:IP, a call at its caller.
--- Source: Intel 8086 Family User's Manual, section 2.6 (the return address of an interrupt is pushed after FLAGS, and so
--- stands at SS:SP) and section 2.7, INT (CDh and the number); XMS 3.0, "Accessing the extended memory manager" (a far
--- call).
+-- Source: Intel 8086 Family User's Manual, section 2.6 (the return address of an interrupt is pushed after FLAGS, and
+-- so stands at SS:SP) and section 2.7, INT (CDh and the number); XMS 3.0, "Accessing the extended memory manager" (a
+-- far call).
 use Rattle.std.specs.Prelude.{ℕ, ◌==◌, if◌then◌else◌, Option, Some, None}
 use Rattle.dm_space.specs.Memory.{Memory, linear, peek, peek16}
 use Rattle.dm_cpu.specs.declared.cpu.Cpu.{Cpu}

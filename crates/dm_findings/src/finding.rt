@@ -57,16 +57,16 @@ pub enum Finding {
     NotServed,
     /// The call failed for lack of memory: how many paragraphs it asked for, and the largest number possible.
     Short(u16, u16),
-    /// The instruction reads memory of the free block of the arena at this segment: the first byte that it reads there, by
-    /// segment and offset.
+    /// The instruction reads memory of the free block of the arena at this segment: the first byte that it reads there,
+    /// by segment and offset.
     FreeRead(u16, u16, u16),
     /// The instruction writes to memory of the free block of the arena at this segment: the first byte that it writes
     /// there, by segment and offset.
     FreeWritten(u16, u16, u16),
     /// The stack that the call was made on is in the free block of the arena at this segment, since the call.
     StackFreed(u16),
-    /// The instruction writes to a window of the frame (0 to 3) that shows no page: the first byte that it writes there,
-    /// by segment and offset.
+    /// The instruction writes to a window of the frame (0 to 3) that shows no page: the first byte that it writes
+    /// there, by segment and offset.
     WindowLost(u8, u16, u16),
     /// The instruction writes to the ROM: the first byte that it writes there, by segment and offset.
     RomWritten(u16, u16),
@@ -87,8 +87,8 @@ pub enum Finding {
 impl Finding {
     /// Whether the finding is an error. Notes are: a block list that is valid again; an interrupt that is not served; a
     /// failed call, unless it frees or resizes what is not allocated; a write to the ROM, to no memory or to bytes 5 to
-    /// 15 of a header; a block freed that another process owned; a resident program's block that was not resized; what a
-    /// resident program holds.
+    /// 15 of a header; a block freed that another process owned; a resident program's block that was not resized; what
+    /// a resident program holds.
     pub fn is_error(&self) -> bool
         ensures { result ≡ is_error self.now }
     {
@@ -103,7 +103,8 @@ impl Finding {
         }
     }
 
-    /// Whether the finding is about free memory: that an instruction reads it or writes to it, or that a stack is in it.
+    /// Whether the finding is about free memory: that an instruction reads it or writes to it, or that a stack is in
+    /// it.
     pub fn is_of_free_memory(&self) -> bool
         ensures { result ≡ is_of_free_memory self.now }
     {

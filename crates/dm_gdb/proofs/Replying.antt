@@ -7,7 +7,7 @@ use Rattle.dm_requests.specs.declared.request.Point.{Point}
 use Rattle.dm_requests.specs.declared.request.Request.{Request}
 use Rattle.dm_requests.specs.declared.request.Request.TheVariants as request
 use Rattle.dm_target.specs.declared.going.Pause.{Pause}
-use Rattle.dm_target.specs.declared.going.Span.{Span}
+use Rattle.dm_target.specs.declared.going.StepRange.{StepRange}
 use Rattle.dm_gdb.specs.declared.replies.Reply.{Reply}
 use Rattle.dm_target.specs.Going.{Continues}
 use Rattle.dm_requests.specs.declared.commands.command.Command.{Command}
@@ -61,7 +61,7 @@ only_these request.Restart a b c d e g h i j k l m o q u v z w = absurd (w refl)
 only_these _ a b c d e g h i j k l m o q u v z w = refl
 
 -- steps, where breakpoints and machine are known to be these
-pub goes_as : (ps qs : List ℕ) (vs ws : List Point) (span : Option Span) (m s : State) (most : ℕ) (why : Pause) (t : State) → Continues ps vs span m most why t → ps ≡ qs → vs ≡ ws → m ≡ s
+pub goes_as : (ps qs : List ℕ) (vs ws : List Point) (span : Option StepRange) (m s : State) (most : ℕ) (why : Pause) (t : State) → Continues ps vs span m most why t → ps ≡ qs → vs ≡ ws → m ≡ s
     → Continues qs ws span s most why t
 goes_as ps qs vs ws span m s most why t h e g f =
     subst (λ (x : State). Continues qs ws span x most why t) f

@@ -1,6 +1,6 @@
 -- `monitor check`: steps from the present state to the first in which the checker finds something.
--- Source: GDB manual, "GDB Remote Serial Protocol", "General Query Packets" (`qRcmd`). The command, and what it prints, is
--- this server's own choice.
+-- Source: GDB manual, "GDB Remote Serial Protocol", "General Query Packets" (`qRcmd`). The command, and what it prints,
+-- is this server's own choice.
 use Rattle.std.specs.Prelude.{◌≡◌, ◌≢◌, ◌<◌, ◌≤◌, ℕ, ◌+◌, Bool, List, [], ◌∷◌, ◌++◌, codes, Option, Some, None}
 use Rattle.std.specs.Str.{bytes_eq}
 use Rattle.dm_services.specs.declared.state.stop.Stop.{Stop}
@@ -28,7 +28,8 @@ most_checked = 100000000
 
 -- ---- what is printed
 
--- the lines of the findings that are listed, as `dm check` prints them, and how many have no line; or that there is none
+-- the lines of the findings that are listed, as `dm check` prints them, and how many have no line; or that there is
+-- none
 abbrev pub findings_text : List Listed → ℕ → List ℕ
 findings_text [] unlisted = codes "nothing is found" ++ 10 ∷ []
 findings_text (l ∷ ls) unlisted = lines_text (l ∷ ls) ++ unlisted_line unlisted
@@ -49,10 +50,10 @@ checked_text r why = findings_text r.listed r.unlisted ++ checked_end_line why
 
 -- ---- what the command does
 
--- the reply to the command in the state s, and the state that it leads to: n steps in which nothing is found, and one more
--- in which something is (`finds`); the program had ended before (`over`); nothing is found in the most steps (`whole`); or
--- the program stops first (`stops`), and what is found in its last step, as by its end, is printed too. For want of memory
--- for the console's output the steps may end on the way (`short`)
+-- the reply to the command in the state s, and the state that it leads to: n steps in which nothing is found, and one
+-- more in which something is (`finds`); the program had ended before (`over`); nothing is found in the most steps
+-- (`whole`); or the program stops first (`stops`), and what is found in its last step, as by its end, is printed too.
+-- For want of memory for the console's output the steps may end on the way (`short`)
 pub data ChecksFrom (s : State) : Reply → State → Type 0 where
   finds : (n : ℕ) (before t : State) (found : List Found) → s.exited ≡ None → n < most_checked → FindsIn s n before [] → FindsIn s (n + 1) t found → found ≢ []
       → ChecksFrom s (reply.Bytes (checked_text (report_of found) None)) t

@@ -1,6 +1,6 @@
 -- A conversation with the debugger: what each byte of the stream leads to, and which bytes are sent for it.
--- Source: GDB manual, "GDB Remote Serial Protocol", "Overview", "Interrupts", "Packet Acknowledgment" and "Packets" (`k`,
--- `D`, `O`).
+-- Source: GDB manual, "GDB Remote Serial Protocol", "Overview", "Interrupts", "Packet Acknowledgment" and "Packets"
+-- (`k`, `D`, `O`).
 use Rattle.std.specs.Prelude.{◌≡◌, ℕ, Bool, true, false, not, ◌&&◌, ◌||◌, if◌then◌else◌, nat_lt, max, List, [], ◌++◌, length, Some, None}
 use Rattle.dm_requests.specs.declared.packets.received.Received.{Received}
 use Rattle.dm_requests.specs.declared.packets.received.Received.TheVariants as heard
@@ -16,8 +16,8 @@ use Rattle.dm_gdb.specs.declared.replies.Reply.TheVariants as reply
 use Rattle.dm_gdb.specs.Replies.{reply_text}
 use Rattle.dm_gdb.specs.Servers.{Served, Replies, console_text, new_server}
 
--- where the stream stands, the sending side, the session, whether the debugger wants the program to stop before its next
--- step, and whether the conversation is over
+-- where the stream stands, the sending side, the session, whether the debugger wants the program to stop before its
+-- next step, and whether the conversation is over
 pub record Connected : Type 0 where
   pub reading : Reading
   pub link : LinkState
@@ -78,8 +78,8 @@ replied c r told s = record c {
   over = c.over || is_detach r;
 }
 
--- a request leads from the conversation c to the next, and these bytes are sent for it: none for `k`; signal 2, and no step
--- is made, for a way to go on after the debugger wanted a stop; otherwise the console's output and the reply
+-- a request leads from the conversation c to the next, and these bytes are sent for it: none for `k`; signal 2, and no
+-- step is made, for a way to go on after the debugger wanted a stop; otherwise the console's output and the reply
 pub data Obeys (most : ℕ) (c : Connected) (r : Request) : List ℕ → Connected → Type 0 where
   kills : is_kill r ≡ true → Obeys most c r [] (record c { over = true })
   stops : is_kill r ≡ false → (c.stopping && makes_steps r) ≡ true
@@ -87,8 +87,8 @@ pub data Obeys (most : ℕ) (c : Connected) (r : Request) : List ℕ → Connect
   answers : (told : Reply) (s : Served) → is_kill r ≡ false → (c.stopping && makes_steps r) ≡ false → Replies c.server most r told s
       → Obeys most c r (console_packet s ++ packet_of told) (replied c r told s)
 
--- what was received leads from the conversation c to the next, and these bytes are sent for it after its acknowledgement: an
--- error for a packet that is too long, and the last packet if it was asked for again
+-- what was received leads from the conversation c to the next, and these bytes are sent for it after its
+-- acknowledgement: an error for a packet that is too long, and the last packet if it was asked for again
 pub data Hears (most : ℕ) (c : Connected) : Received → List ℕ → Connected → Type 0 where
   interrupted : Hears most c heard.Interrupt [] (record c { stopping = true })
   asked_again : Hears most c heard.Again c.link.last c
@@ -104,8 +104,8 @@ receipt c r = acknowledgement c.link.acknowledges r
 abbrev pub reading_at : Connected → Reading → Connected
 reading_at c r = record c { reading = r }
 
--- one more byte of the stream leads from the conversation c to the next, and these bytes are sent for it; a way to go on
--- makes at most `most` steps
+-- one more byte of the stream leads from the conversation c to the next, and these bytes are sent for it; a way to go
+-- on makes at most `most` steps
 pub data Takes (most : ℕ) (c : Connected) (byte : ℕ) : List ℕ → Connected → Type 0 where
   incomplete : received c.reading byte ≡ None → Takes most c byte [] (reading_at c (after_byte c.reading byte))
   complete : (what : Received) (sent : List ℕ) (d : Connected) → received c.reading byte ≡ Some what

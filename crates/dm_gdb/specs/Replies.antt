@@ -4,8 +4,8 @@
 use Rattle.std.specs.Prelude.{ℕ, List, [], ◌∷◌, ◌++◌, codes}
 use Rattle.std.specs.Int.{to_be_bytes, w32}
 use Rattle.hex.specs.Hex.{encode_lower}
-use Rattle.dm_requests.specs.declared.request.Access.{Access}
-use Rattle.dm_requests.specs.declared.request.Access.TheVariants.{Read, Either}
+use Rattle.dm_requests.specs.declared.request.WatchedAccess.{WatchedAccess}
+use Rattle.dm_requests.specs.declared.request.WatchedAccess.TheVariants.{Read, Either}
 use Rattle.dm_requests.specs.declared.request.Point.{Point}
 use Rattle.dm_services.specs.declared.state.stop.Stop.{Stop}
 use Rattle.dm_services.specs.declared.state.stop.Stop.TheVariants as stop
@@ -31,7 +31,7 @@ abbrev pub segment_text : List ℕ → ℕ → List ℕ
 segment_text name base = name ++ encode_lower (to_be_bytes w32 base)
 
 -- the beginning of the reply for a hit of a watchpoint, by its access
-abbrev pub watch_name : Access → List ℕ
+abbrev pub watch_name : WatchedAccess → List ℕ
 watch_name Read = codes "T05rwatch:"
 watch_name Either = codes "T05awatch:"
 watch_name _ = codes "T05watch:"

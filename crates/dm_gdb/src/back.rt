@@ -29,8 +29,8 @@ fn undone_reply(breaks: &[u32], undone: Undone, machine: &Machine) -> Reply
 }
 
 impl Server {
-    /// `bs`: goes back a step, with what the user changed up to then, and returns the reply: a step that hit a watchpoint is
-    /// replied as its hit. An `Err` is a failed allocation, and nothing has changed.
+    /// `bs`: goes back a step, with what the user changed up to then, and returns the reply: a step that hit a
+    /// watchpoint is replied as its hit. An `Err` is a failed allocation, and nothing has changed.
     pub(crate) fn step_back(&mut self) -> Result<Reply, AllocError>
         ensures ok { IfOk result (λ r. (most : ℕ) → Replies self.old most request.StepBack r self.new) }
         ensures err { OnErr result (self.new ≡ self.old) }
@@ -41,8 +41,9 @@ impl Server {
         Ok(undone_reply(breaks, undone, self.history.machine()))
     }
 
-    /// `bc`: goes back to the last state at a breakpoint, or before a step that hit a watchpoint, or to the start, with what the
-    /// user changed up to then, and returns the reply. An `Err` is a failed allocation, and nothing has changed.
+    /// `bc`: goes back to the last state at a breakpoint, or before a step that hit a watchpoint, or to the start, with
+    /// what the user changed up to then, and returns the reply. An `Err` is a failed allocation, and nothing has
+    /// changed.
     pub(crate) fn continue_back(&mut self) -> Result<Reply, AllocError>
         ensures ok { IfOk result (λ r. (most : ℕ) → Replies self.old most request.ContinueBack r self.new) }
         ensures err { OnErr result (self.new ≡ self.old) }
@@ -53,8 +54,8 @@ impl Server {
         Ok(undone_reply(breaks, undone, self.history.machine()))
     }
 
-    /// `monitor step N`, where the step lies before the present one: goes back to it, and returns the reply. An `Err` is a
-    /// failed allocation, and nothing has changed.
+    /// `monitor step N`, where the step lies before the present one: goes back to it, and returns the reply. An `Err`
+    /// is a failed allocation, and nothing has changed.
     pub(crate) fn go_back(&mut self, line: &[u8], number: u32) -> Result<Reply, AllocError>
         requires line { step_asked line.now ≡ Some number }
         requires before { number < self.old.history.machine.steps }
@@ -72,8 +73,8 @@ impl Server {
         Ok(Reply::Passed)
     }
 
-    /// `vRun`: starts the program again, without what the user changed, and returns the reply. Its output is sent anew. An
-    /// `Err` is a failed allocation, and nothing has changed.
+    /// `vRun`: starts the program again, without what the user changed, and returns the reply. Its output is sent anew.
+    /// An `Err` is a failed allocation, and nothing has changed.
     pub(crate) fn restart(&mut self) -> Result<Reply, AllocError>
         ensures ok { IfOk result (λ r. (most : ℕ) → Replies self.old most request.Restart r self.new) }
         ensures err { OnErr result (self.new ≡ self.old) }

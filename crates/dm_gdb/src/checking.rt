@@ -34,7 +34,8 @@ pub(crate) fn is_check(line: &[u8]) -> bool
     line == b"check".as_slice()
 }
 
-/// Appends the lines of the findings, and how many are left out; or that there is none. An `Err` is a failed allocation.
+/// Appends the lines of the findings, and how many are left out; or that there is none. An `Err` is a failed
+/// allocation.
 fn put_findings(out: &mut Vec<u8>, listed: &[Listed], unlisted: u64) -> Result<(), AllocError>
     ensures { OnOk result (out.new.items ≡ out.old.items ++ findings_text listed.now unlisted) }
 {
@@ -54,8 +55,8 @@ fn put_stopped(out: &mut Vec<u8>, why: Stop) -> Result<(), AllocError>
     out.extend_from_slice(b"\n")
 }
 
-/// Appends the line about the end of the steps; none where they led to a finding, and the program goes on. An `Err` is a
-/// failed allocation.
+/// Appends the line about the end of the steps; none where they led to a finding, and the program goes on. An `Err` is
+/// a failed allocation.
 fn put_end(out: &mut Vec<u8>, why: Option<Stop>) -> Result<(), AllocError>
     ensures { OnOk result (out.new.items ≡ out.old.items ++ checked_end_line why) }
 {
@@ -113,9 +114,9 @@ fn look_ahead(alloc: Global, machine: &mut Machine) -> Result<Ahead, AllocError>
 }
 
 impl Server {
-    /// `monitor check`: makes steps, at most 100,000,000, to the first in which the checker finds something, and returns the
-    /// reply, which has the lines of what is found. The steps are looked at on a copy of the machine, and then made. An `Err`
-    /// is a failed allocation, and nothing has changed.
+    /// `monitor check`: makes steps, at most 100,000,000, to the first in which the checker finds something, and
+    /// returns the reply, which has the lines of what is found. The steps are looked at on a copy of the machine, and
+    /// then made. An `Err` is a failed allocation, and nothing has changed.
     pub(crate) fn check(&mut self, line: &[u8]) -> Result<Reply, AllocError>
         requires { is_check line.now ≡ true }
         ensures ok { IfOk result (λ r. (most : ℕ) → Replies self.old most (request.Command line.now) r self.new) }

@@ -82,8 +82,8 @@ fn makes_steps(request: &Request) -> bool
 }
 
 impl Connection {
-    /// The start of a conversation over a machine on which a program was loaded and has made no step. At most `copies` copies
-    /// of the machine are kept on its way, which make going back quick, besides one of its start.
+    /// The start of a conversation over a machine on which a program was loaded and has made no step. At most `copies`
+    /// copies of the machine are kept on its way, which make going back quick, besides one of its start.
     ///
     /// # Errors
     ///
@@ -150,8 +150,8 @@ impl Connection {
         Ok(())
     }
 
-    /// Appends the console output and the reply to a request to `out`, and does what the conversation is asked for. An `Err`
-    /// is a failed allocation.
+    /// Appends the console output and the reply to a request to `out`, and does what the conversation is asked for. An
+    /// `Err` is a failed allocation.
     fn tell(
         &mut self,
         request: &Request,
@@ -219,7 +219,8 @@ impl Connection {
         }
     }
 
-    /// Acknowledges what was received, does it, and appends what is sent for it to `out`. An `Err` is a failed allocation.
+    /// Acknowledges what was received, does it, and appends what is sent for it to `out`. An `Err` is a failed
+    /// allocation.
     fn react(&mut self, received: &Received, most: u64, out: &mut Vec<u8>) -> Result<(), AllocError>
         ensures { OnOk result ((sent : List ℕ) × (out.new.items ≡ out.old.items ++ (receipt self.old received.now ++ sent)) × Hears most self.old received.now sent self.new) }
     {
@@ -232,8 +233,8 @@ impl Connection {
     ///
     /// # Errors
     ///
-    /// `AllocError`. The conversation cannot go on then: the request may have been executed, and a first part of what is sent
-    /// for it may have been appended.
+    /// `AllocError`. The conversation cannot go on then: the request may have been executed, and a first part of what
+    /// is sent for it may have been appended.
     pub fn take(&mut self, byte: u8, most: u64, out: &mut Vec<u8>) -> Result<(), AllocError>
         ensures { OnOk result ((sent : List ℕ) × (out.new.items ≡ out.old.items ++ sent) × Takes most self.old byte sent self.new) }
     {

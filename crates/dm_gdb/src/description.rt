@@ -18,8 +18,8 @@ fn description() -> &'static [u8]
     DESCRIPTION
 }
 
-/// The part of the description from an offset on, of at most `count` bytes, and whether it is the last. An `Err` is a failed
-/// allocation.
+/// The part of the description from an offset on, of at most `count` bytes, and whether it is the last. An `Err` is a
+/// failed allocation.
 pub(crate) fn features_reply(alloc: Global, offset: u32, count: u32) -> Result<Reply, AllocError>
     ensures { IfOk result (λ r. r ≡ features_reply offset count) }
 {

@@ -93,8 +93,8 @@ impl Server {
         shown_by(self.alloc, &mut session, line)
     }
 
-    /// Makes steps up to the one with this number, or goes back to it, and returns the reply. An `Err` is a failed allocation,
-    /// and nothing has changed.
+    /// Makes steps up to the one with this number, or goes back to it, and returns the reply. An `Err` is a failed
+    /// allocation, and nothing has changed.
     fn go_to(&mut self, line: &[u8], number: u32) -> Result<Reply, AllocError>
         requires { step_asked line.now ≡ Some number }
         ensures ok { IfOk result (λ r. (most : ℕ) → Replies self.old most (request.Command line.now) r self.new) }

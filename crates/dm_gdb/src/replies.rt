@@ -6,7 +6,7 @@ ghost use Rattle.dm_gdb.specs.Replies.{data_segment_text, hex_text, offsets_text
 use crate::digits::put_hex;
 use dm_machine::Stop;
 use dm_requests::packets::Payload;
-use dm_requests::{Access, Point};
+use dm_requests::{Point, WatchedAccess};
 use std::alloc::{AllocError, Global};
 
 /// The number of the error for bad arguments.
@@ -22,19 +22,19 @@ pub enum Reply {
     Unknown,
     /// `OK`.
     Done,
-    /// `E` and the number of an error in two digits: 01h for bad arguments, 0Eh for an address without memory or one that
-    /// cannot be written.
+    /// `E` and the number of an error in two digits: 01h for bad arguments, 0Eh for an address without memory or one
+    /// that cannot be written.
     Refused(u8),
-    /// `T` and the number of a signal: 02h for a stop that the debugger asked for, 04h for an instruction that is not of the
-    /// 8086, 05h for a step, 06h for a destroyed block list, 0Eh for the bound of steps, 11h for HLT, 15h for the end of
-    /// input, 1Eh for an allocation that failed.
+    /// `T` and the number of a signal: 02h for a stop that the debugger asked for, 04h for an instruction that is not
+    /// of the 8086, 05h for a step, 06h for a destroyed block list, 0Eh for the bound of steps, 11h for HLT, 15h for
+    /// the end of input, 1Eh for an allocation that failed.
     Signal(u8),
     /// `T05swbreak:;`: a breakpoint.
     Breakpoint,
     /// `T05replaylog:begin;`: the history begins here, and nothing goes back further.
     Begun,
-    /// `T05watch:A;`, `T05rwatch:A;` or `T05awatch:A;`, by the access, A in eight digits: a hit of a watchpoint, whose range
-    /// begins at A.
+    /// `T05watch:A;`, `T05rwatch:A;` or `T05awatch:A;`, by the access, A in eight digits: a hit of a watchpoint, whose
+    /// range begins at A.
     Watch(Point),
     /// `W` and the exit code in two digits.
     Exited(u8),
@@ -52,7 +52,8 @@ pub enum Reply {
     Rest(Payload),
     /// `Text=B;Data=B;Bss=B`, B in eight digits: the linear address of the program's first segment.
     Offsets(u32),
-    /// `PacketSize=4000;qXfer:features:read+;swbreak+;hwbreak+;ReverseStep+;ReverseContinue+;QStartNoAckMode+;vContSupported+`: what the server can do.
+    /// `PacketSize=4000;qXfer:features:read+;swbreak+;hwbreak+;ReverseStep+;ReverseContinue+;QStartNoAckMode+;vContSupported+`:
+    /// what the server can do.
     Abilities,
     /// `vCont;c;C;s;S;r`: the ways to go on.
     ContinueKinds,
@@ -98,12 +99,12 @@ fn put_place(alloc: Global, out: &mut Vec<u8>, name: &[u8], base: u32) -> Result
 }
 
 /// The beginning of the reply for a hit of a watchpoint.
-fn watch_name(access: Access) -> &'static [u8]
+fn watch_name(access: WatchedAccess) -> &'static [u8]
     ensures { result.now ≡ watch_name access }
 {
     match access {
-        Access::Read => b"T05rwatch:",
-        Access::Either => b"T05awatch:",
+        WatchedAccess::Read => b"T05rwatch:",
+        WatchedAccess::Either => b"T05awatch:",
         _ => b"T05watch:",
     }
 }

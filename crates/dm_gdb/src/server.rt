@@ -15,17 +15,17 @@ use dm_machine::{Cpu, Machine, Stop};
 use dm_requests::packets::Payload;
 use dm_requests::{Point, Request};
 use dm_target::{
-    LAST, Pause, Points, Span, all_registers, go_on, is_among, place_of, reads_as, registers_with,
-    segment_below,
+    LAST, Pause, Points, StepRange, all_registers, go_on, is_among, place_of, reads_as,
+    registers_with, segment_below,
 };
 use std::alloc::{AllocError, Global};
 use std::marker::Model;
 
-/// A machine that is debugged over the protocol: with its breakpoints and watchpoints, by linear addresses, and how much of
-/// the console's output the debugger was sent.
+/// A machine that is debugged over the protocol: with its breakpoints and watchpoints, by linear addresses, and how
+/// much of the console's output the debugger was sent.
 ///
-/// Contracts see the machine and its history, what is set, how many bytes of output were sent, the linear address of the
-/// program's first segment, and whether the program has ended.
+/// Contracts see the machine and its history, what is set, how many bytes of output were sent, the linear address of
+/// the program's first segment, and whether the program has ended.
 #[derive(Drop)]
 pub struct Server {
     pub(crate) alloc: Global,
@@ -44,8 +44,8 @@ impl Model for Server {
     ghost view = { λ s. record { history = s.history; points = s.points; shown = s.shown; base = s.base; ended = s.is_ended } };
 }
 
-/// The reply to a request that asks for nothing of the machine, or for nothing that this server has: empty, but an error for
-/// `vRun`, since GDB would send `R` after an empty reply, and expect no reply to that.
+/// The reply to a request that asks for nothing of the machine, or for nothing that this server has: empty, but an
+/// error for `vRun`, since GDB would send `R` after an empty reply, and expect no reply to that.
 fn plain_reply(request: &Request) -> Reply
     ensures { result ≡ plain_reply request.now }
 {
@@ -128,8 +128,8 @@ fn base_of(cpu: &Cpu) -> u32
 }
 
 impl Server {
-    /// A session over a machine on which a program was loaded and has made no step, without breakpoints. At most `copies`
-    /// copies of the machine are kept on its way, which make going back quick, besides one of its start.
+    /// A session over a machine on which a program was loaded and has made no step, without breakpoints. At most
+    /// `copies` copies of the machine are kept on its way, which make going back quick, besides one of its start.
     ///
     /// # Errors
     ///
@@ -175,9 +175,9 @@ impl Server {
         }
     }
 
-    /// Makes at most `most` steps, but none after one that led to a breakpoint or out of the range, or hit a watchpoint, and
-    /// returns why the steps ended. Nothing but the machine changes.
-    fn go(&mut self, most: u64, span: Option<Span>) -> Pause
+    /// Makes at most `most` steps, but none after one that led to a breakpoint or out of the range, or hit a
+    /// watchpoint, and returns why the steps ended. Nothing but the machine changes.
+    fn go(&mut self, most: u64, span: Option<StepRange>) -> Pause
         ensures goes { Continues self.old.points.breaks self.old.points.watches span self.old.history.machine most result self.new.history.machine }
         ensures same { self.new ≡ at_state self.old self.new.history.machine }
     {
@@ -210,8 +210,8 @@ impl Server {
         Reply::Done
     }
 
-    /// `M`: writes bytes, and returns the reply; nothing is written if they would end behind FFFF:FFFF. An `Err` is a failed
-    /// allocation, and nothing has changed.
+    /// `M`: writes bytes, and returns the reply; nothing is written if they would end behind FFFF:FFFF. An `Err` is a
+    /// failed allocation, and nothing has changed.
     fn set_memory(&mut self, address: u32, bytes: &[u8]) -> Result<Reply, AllocError>
         ensures ok { IfOk result (λ r. (most : ℕ) → Replies self.old most (Request.SetMemory address bytes.now) r self.new) }
         ensures err { OnErr result (self.new ≡ self.old) }
@@ -226,8 +226,8 @@ impl Server {
         }
     }
 
-    /// Sets the registers to these, and returns the reply; for None, an error. An `Err` is a failed allocation, and nothing has
-    /// changed.
+    /// Sets the registers to these, and returns the reply; for None, an error. An `Err` is a failed allocation, and
+    /// nothing has changed.
     fn set_cpu(&mut self, cpu: Option<Cpu>) -> Result<Reply, AllocError>
         ensures after { OnOk result (self.new ≡ with_registers self.old cpu) }
         ensures reply { IfOk result (λ r. r ≡ setting_reply cpu) }
@@ -253,11 +253,11 @@ impl Server {
     }
 
     /// Executes a request, and returns what is replied. A way to go on makes at most `most` steps. A breakpoint is at a
-    /// linear address, whatever the segment; a step that leads to one is replied as a breakpoint, in `s` too, and one that hits
-    /// a watchpoint as its hit. The bytes of
-    /// `M` to ROM, or where there is no memory, are lost, and the others are written. Memory is read and written as a
-    /// program would through the highest segment below the address. `k` has no reply in the protocol, though one is
-    /// returned for it: the caller ends the conversation and sends nothing.
+    /// linear address, whatever the segment; a step that leads to one is replied as a breakpoint, in `s` too, and one
+    /// that hits a watchpoint as its hit. The bytes of `M` to ROM, or where there is no memory, are lost, and the
+    /// others are written. Memory is read and written as a program would through the highest segment below the address.
+    /// `k` has no reply in the protocol, though one is returned for it: the caller ends the conversation and sends
+    /// nothing.
     ///
     /// # Errors
     ///
@@ -330,13 +330,13 @@ impl Server {
     fn step_through(&mut self, start: u32, end: u32, most: u64) -> Reply
         ensures { Replies self.old most (Request.Range start end) result self.new }
     {
-        let pause = self.go(most, Some(Span { start, end }));
+        let pause = self.go(most, Some(StepRange { start, end }));
         let reply = step_reply(self.points.breaks(), pause, self.history.machine());
         self.noted(reply)
     }
 
-    /// Appends the packet of console output that the debugger was not sent yet, `O` and the bytes in two digits each, and
-    /// counts it as sent; appends nothing if there is none. Returns whether there was some.
+    /// Appends the packet of console output that the debugger was not sent yet, `O` and the bytes in two digits each,
+    /// and counts it as sent; appends nothing if there is none. Returns whether there was some.
     ///
     /// # Errors
     ///

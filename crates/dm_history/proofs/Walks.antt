@@ -1,4 +1,5 @@
--- On the way from one state to another: the state before the first edit, a state between edits, and those that are left.
+-- On the way from one state to another: the state before the first edit, a state between edits, and those that are
+-- left.
 use Rattle.std.proofs.Common.{◌≡◌, ℕ, ◌+◌, ◌-◌, ◌^◌, ◌≤◌, ◌<◌, inl, inr, List, [], ◌∷◌, ◌++◌, length, take, drop, None, refl, sym, ◌∙◌, ap, subst, arith}
 use Rattle.std.specs.List.{All}
 use Rattle.std.proofs.lemmas.Bool.{cases_lt}

@@ -11,8 +11,8 @@ pub record Reaches (s : State) (end : ℕ) : Type 0 where
   pub steps : last.steps + 1 ≡ end
   pub alive : last.exited ≡ None
 
--- b begins at a state of the history p, at the step `wish` or later. From there on to the step before `end`, the states to
--- which steps alone lead are those of p
+-- b begins at a state of the history p, at the step `wish` or later. From there on to the step before `end`, the states
+-- to which steps alone lead are those of p
 pub record IsBranch (p : Past) (wish end : ℕ) (b : Past) : Type 0 where
   pub begins : b ≡ new_past b.machine
   pub since : wish ≤ b.machine.steps

@@ -30,8 +30,8 @@ pub(crate) fn kept_to(copies: &[Kept], step: u64, count: usize) -> usize
         .count()
 }
 
-/// The index of the copy that is missed least: the steps from the copy before it to the one behind it are the fewest beside
-/// the steps from there to `now`. The last copy stays if there are others.
+/// The index of the copy that is missed least: the steps from the copy before it to the one behind it are the fewest
+/// beside the steps from there to `now`. The last copy stays if there are others.
 pub(crate) fn spare(copies: &[Kept], now: u64) -> usize
     requires { 0 < length copies.now }
     ensures { result < length copies.now }

@@ -4,8 +4,8 @@ ghost use Rattle.dm_history.specs.Laws.{ThereIsOneState};
 
 use crate::history::History;
 
-/// A state becomes at most one by the same edits and as many steps, below 2^64 - 1: so what going back leads to is the state
-/// that was there, and going on from it leads to the same states again. Does nothing when called.
+/// A state becomes at most one by the same edits and as many steps, below 2^64 - 1: so what going back leads to is the
+/// state that was there, and going on from it leads to the same states again. Does nothing when called.
 #[tactic(auto, using(crate::proofs::OneState::one_state))]
 pub fn an_origin_becomes_one_state()
     ensures { ThereIsOneState }

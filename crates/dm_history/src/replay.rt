@@ -29,8 +29,8 @@ pub(crate) fn latest(edits: &[Edit], step: u64) -> u64
     latest
 }
 
-/// Makes steps up to a count of steps, or fewer if the machine stops. An `Err` is a failed allocation; some of the steps
-/// may have been made.
+/// Makes steps up to a count of steps, or fewer if the machine stops. An `Err` is a failed allocation; some of the
+/// steps may have been made.
 pub(crate) fn run_to(machine: &mut Machine, step: u64) -> Result<(), AllocError>
     requires loaded { HasProgram machine.old }
     requires before { machine.old.steps ≤ step }
@@ -43,8 +43,9 @@ pub(crate) fn run_to(machine: &mut Machine, step: u64) -> Result<(), AllocError>
     }
 }
 
-/// Does these edits again, each at its step, and goes on to a count of steps that they do not pass. They must be those with
-/// which the machine has come beyond that step. An `Err` is a failed allocation; some steps and edits may have been made.
+/// Does these edits again, each at its step, and goes on to a count of steps that they do not pass. They must be those
+/// with which the machine has come beyond that step. An `Err` is a failed allocation; some steps and edits may have
+/// been made.
 pub(crate) fn replay(machine: &mut Machine, edits: &[Edit], step: u64) -> Result<(), AllocError>
     requires loaded { HasProgram machine.old }
     requires before { machine.old.steps ≤ step }

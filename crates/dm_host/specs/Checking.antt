@@ -12,8 +12,8 @@ use Rattle.dm_host.specs.declared.refusal.Refusal.TheVariants.{NotLoaded, Memory
 use Rattle.dm_host.specs.declared.host.Stage.TheVariants.{Loaded}
 use Rattle.dm_host.specs.Hosts.{Hosted, with_stage, machine_of}
 
--- a checked run of at most n steps leads from session s to t, with this stop, this report and this text, of the report and
--- the line about the stop; the breakpoints stay
+-- a checked run of at most n steps leads from session s to t, with this stop, this report and this text, of the report
+-- and the line about the stop; the breakpoints stay
 pub record IsChecked (s : Debugged) (n : ℕ) (stop : Stop) (report : Reported) (text : List ℕ) (t : Debugged) : Type 0 where
   pub run : IsRun s.machine n stop t.machine
   pub reported : IsReport s.machine n true stop t.machine report
@@ -25,8 +25,8 @@ pub record IsPartlyChecked (s : Debugged) (n : ℕ) (t : Debugged) : Type 0 wher
   pub part : RunsPart s.machine n t.machine
   pub points : t.points ≡ s.points
 
--- a checked run of at most n steps leads from host h to g, which keeps the report, and whose answer is the text of it with
--- the line about the stop
+-- a checked run of at most n steps leads from host h to g, which keeps the report, and whose answer is the text of it
+-- with the line about the stop
 pub record Checks (h : Hosted) (n : ℕ) (stop : Stop) (g : Hosted) : Type 0 where
   pub before : Debugged
   pub after : Debugged

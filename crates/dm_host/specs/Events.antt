@@ -1,7 +1,7 @@
 -- Runs of a host's machine up to events.
 use Rattle.std.specs.Prelude.{◌≡◌, ℕ, List}
 use Rattle.dm_debug.specs.declared.stops.events.Event.{Event}
-use Rattle.dm_debug.specs.declared.stops.going.Ending.{Ending}
+use Rattle.dm_debug.specs.declared.stops.going.RunEnd.{RunEnd}
 use Rattle.dm_debug.specs.stops.Runs.{RunsTo}
 use Rattle.dm_debug.specs.Debugged.{Debugged}
 use Rattle.dm_host.specs.declared.refusal.Refusal.{Refusal}
@@ -10,7 +10,7 @@ use Rattle.dm_host.specs.declared.host.Stage.TheVariants.{Loaded}
 use Rattle.dm_host.specs.Hosts.{Hosted, IsNotLoaded}
 
 -- a run of at most n steps up to an event leads from session s to t, and ends for this reason; the breakpoints stay
-abbrev pub RunsSession : Debugged → ℕ → List Event → Ending → Debugged → Type 0
+abbrev pub RunsSession : Debugged → ℕ → List Event → RunEnd → Debugged → Type 0
 RunsSession s n events ending t = RunsTo s.machine n events ending t.machine × (t.points ≡ s.points)
 
 -- why no run up to events is made, in this order: no program is loaded; an allocation failed

@@ -9,8 +9,8 @@ use Rattle.dm_host.specs.declared.refusal.Refusal.{Refusal}
 use Rattle.dm_host.specs.declared.refusal.Refusal.TheVariants.{NotLoaded, Memory}
 use Rattle.dm_host.specs.Setups.{Prepared}
 
--- a host: the stage that its machine is at, the answer of the last command or checked run that had one, and the report of
--- the last checked run that had one
+-- a host: the stage that its machine is at, the answer of the last command or checked run that had one, and the report
+-- of the last checked run that had one
 pub record Hosted : Type 0 where
   pub stage : Stage
   pub answer : List ℕ

@@ -8,8 +8,8 @@ use crate::host::Host;
 use crate::refusal::Refusal;
 use dm_machine::tables_and_memory_are_consistent;
 
-/// Fills the buffer with the bytes from an offset on and returns true, if there are as many; otherwise returns false, and
-/// the buffer stays.
+/// Fills the buffer with the bytes from an offset on and returns true, if there are as many; otherwise returns false,
+/// and the buffer stays.
 fn fill(bytes: &[u8], offset: usize, buffer: &mut [u8]) -> bool
     ensures { FillsBuffer bytes.now offset buffer.old buffer.new result }
 {
@@ -21,13 +21,13 @@ fn fill(bytes: &[u8], offset: usize, buffer: &mut [u8]) -> bool
 }
 
 impl Host {
-    /// Fills the buffer with bytes of a logical page of a handle of expanded memory, from an offset in the page on. A page
-    /// has 16,384 bytes.
+    /// Fills the buffer with bytes of a logical page of a handle of expanded memory, from an offset in the page on. A
+    /// page has 16,384 bytes.
     ///
     /// # Errors
     ///
-    /// In this order: `NotLoaded` where no program is loaded; `NoHandle` where the handle is not in use; `NoPage` where it
-    /// has no such page; `PastEnd` where not all of the bytes are in the page. The buffer stays then.
+    /// In this order: `NotLoaded` where no program is loaded; `NoHandle` where the handle is not in use; `NoPage` where
+    /// it has no such page; `PastEnd` where not all of the bytes are in the page. The buffer stays then.
     pub fn read_page(
         &self,
         handle: u16,
@@ -56,13 +56,13 @@ impl Host {
         }
     }
 
-    /// Fills the buffer with bytes of the block of a handle of extended memory, from an offset in the block on. A block of
-    /// n KiB has 1,024 n bytes.
+    /// Fills the buffer with bytes of the block of a handle of extended memory, from an offset in the block on. A block
+    /// of n KiB has 1,024 n bytes.
     ///
     /// # Errors
     ///
-    /// In this order: `NotLoaded` where no program is loaded; `NoHandle` where the handle is not in use; `PastEnd` where
-    /// not all of the bytes are in its block. The buffer stays then.
+    /// In this order: `NotLoaded` where no program is loaded; `NoHandle` where the handle is not in use; `PastEnd`
+    /// where not all of the bytes are in its block. The buffer stays then.
     pub fn read_block(&self, handle: u16, offset: usize, buffer: &mut [u8]) -> Result<(), Refusal>
         ensures ok { OnOk result (Shows self.now (λ s. ReadsBlock s handle offset buffer.old buffer.new)) }
         ensures err { IfErr result (IsBlockUnread self.now handle offset (length buffer.old)) }

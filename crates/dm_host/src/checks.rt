@@ -6,7 +6,7 @@ ghost use Rattle.dm_host.specs.Checking.{Checks, IsUnchecked};
 ghost use Rattle.dm_host.specs.inner.Checking.{ChecksTo};
 
 use crate::host::{Host, Stage};
-use crate::kept::Kept;
+use crate::kept::KeptReport;
 use crate::refusal::Refusal;
 use dm_checker::check;
 use dm_debug::Session;
@@ -31,25 +31,29 @@ fn text_of(
     Ok(text)
 }
 
-/// What a host keeps of a checked run: its report, and the text of that with the line about the stop of a machine. An `Err`
-/// is a failed allocation.
+/// What a host keeps of a checked run: its report, and the text of that with the line about the stop of a machine. An
+/// `Err` is a failed allocation.
 fn kept_of(
     alloc: Global,
     report: &Report,
     stop: Stop,
     machine: &Machine,
-) -> Result<(Kept, Vec<u8>), AllocError>
+) -> Result<(KeptReport, Vec<u8>), AllocError>
     ensures report { IfOk result (λ r. r.0 ≡ report.now) }
     ensures text { IfOk result (λ r. r.1.items ≡ report_text report.now ++ stopped_line stop machine.now.memory machine.now.cpu) }
 {
     let text = text_of(alloc, report, stop, machine)?;
-    Ok((Kept::of(alloc, report)?, text))
+    Ok((KeptReport::of(alloc, report)?, text))
 }
 
-/// Makes at most `n` steps of the session's machine under the checker, and returns the session with the stop, the report,
-/// and the text of the report with the line about the stop; None in their place if an allocation failed, after none, some
-/// or all of the steps. The breakpoints of the session do not count, and stay.
-fn checked(alloc: Global, session: Session, n: u64) -> (Session, Option<(Stop, Kept, Vec<u8>)>)
+/// Makes at most `n` steps of the session's machine under the checker, and returns the session with the stop, the
+/// report, and the text of the report with the line about the stop; None in their place if an allocation failed, after
+/// none, some or all of the steps. The breakpoints of the session do not count, and stay.
+fn checked(
+    alloc: Global,
+    session: Session,
+    n: u64,
+) -> (Session, Option<(Stop, KeptReport, Vec<u8>)>)
     ensures { ChecksTo session n (option_map (λ r. (r.0, r.1, r.2.items)) result.1) result.0 }
 {
     let (mut machine, points) = session.into_parts();
@@ -65,8 +69,8 @@ fn checked(alloc: Global, session: Session, n: u64) -> (Session, Option<(Stop, K
 }
 
 impl Host {
-    /// Makes at most `n` steps under the memory checker, as `run` does without it, and keeps the report, and the text of it
-    /// with the line about the stop as the answer. Returns the stop.
+    /// Makes at most `n` steps under the memory checker, as `run` does without it, and keeps the report, and the text
+    /// of it with the line about the stop as the answer. Returns the stop.
     ///
     /// # Errors
     ///

@@ -49,8 +49,8 @@ fn copy_host(host: &Host, alloc: Global) -> Result<Host, AllocError>
 }
 
 impl Host {
-    /// Another host at the same stage, with the same machine, breakpoints, answer and report. The two share nothing: what one
-    /// does, the other does not see.
+    /// Another host at the same stage, with the same machine, breakpoints, answer and report. The two share nothing:
+    /// what one does, the other does not see.
     ///
     /// # Errors
     ///

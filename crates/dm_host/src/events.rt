@@ -7,17 +7,17 @@ ghost use Rattle.dm_host.specs.Events.{RunsSession, IsNotRun};
 use crate::host::{Host, Stage};
 use crate::refusal::Refusal;
 use dm_debug::Session;
-use dm_debug::stops::{Ending, Event, run_to};
+use dm_debug::stops::{Event, RunEnd, run_to};
 use std::alloc::{AllocError, Global};
 
-/// Makes at most `n` steps of the session's machine up to an event, and returns the session with why the steps ended. If an
-/// allocation fails, the session is as before.
+/// Makes at most `n` steps of the session's machine up to an event, and returns the session with why the steps ended.
+/// If an allocation fails, the session is as before.
 fn went(
     alloc: Global,
     session: Session,
     n: u64,
     events: &[Event],
-) -> (Session, Result<Ending, AllocError>)
+) -> (Session, Result<RunEnd, AllocError>)
     ensures ok { IfOk result.1 (λ ending. RunsSession session n events.now ending result.0) }
     ensures err { OnErr result.1 (result.0 ≡ session) }
 {
@@ -27,12 +27,13 @@ fn went(
 }
 
 impl Host {
-    /// Makes at most `n` steps, but none after the first one that leads to one of the events, and returns why the steps ended.
+    /// Makes at most `n` steps, but none after the first one that leads to one of the events, and returns why the steps
+    /// ended.
     ///
     /// # Errors
     ///
     /// `NotLoaded` exactly where no program is loaded; else `Memory` if an allocation failed. Nothing has changed then.
-    pub fn run_to(&mut self, alloc: Global, n: u64, events: &[Event]) -> Result<Ending, Refusal>
+    pub fn run_to(&mut self, alloc: Global, n: u64, events: &[Event]) -> Result<RunEnd, Refusal>
         ensures ok { IfOk result (λ ending. Works self.old (λ s t. RunsSession s n events.now ending t) self.new) }
         ensures err { IfErr result (λ e. IsNotRun self.old e) }
         ensures kept { OnErr result (self.new ≡ self.old) }

@@ -6,7 +6,7 @@ ghost use Rattle.dm_host.specs.declared.refusal.Refusal.TheVariants.{Memory};
 ghost use Rattle.dm_host.specs.Findings.{TellsFinding, IsUntold};
 
 use crate::host::Host;
-use crate::kept::Kept;
+use crate::kept::KeptReport;
 use crate::refusal::Refusal;
 use dm_findings::Found;
 use dm_reports::put_found;
@@ -24,7 +24,7 @@ fn line_of(alloc: Global, found: &Found) -> Result<Vec<u8>, AllocError>
 
 impl Host {
     /// The report of the last checked run that had one; one of no findings before the first.
-    pub fn report(&self) -> &Kept
+    pub fn report(&self) -> &KeptReport
         ensures { result.now ≡ self.now.report }
     {
         &self.report

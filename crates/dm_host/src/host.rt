@@ -4,7 +4,7 @@ ghost use Rattle.dm_pool.specs.Stored.{IsTooLarge};
 ghost use Rattle.dm_host.specs.Setups.{IsNewFault};
 ghost use Rattle.dm_host.specs.Hosts.{new_host, machine_of, Shows, IsNotLoaded};
 
-use crate::kept::Kept;
+use crate::kept::KeptReport;
 use crate::refusal::Refusal;
 use crate::setup::Setup;
 use dm_debug::Session;
@@ -23,13 +23,13 @@ pub enum Stage {
     Spent,
 }
 
-/// A machine at its stage, the answer of the last command or checked run that had one, and the report of the last checked
-/// run that had one.
+/// A machine at its stage, the answer of the last command or checked run that had one, and the report of the last
+/// checked run that had one.
 #[derive(Drop)]
 pub struct Host {
     pub(crate) stage: Stage,
     pub(crate) answer: Vec<u8>,
-    pub(crate) report: Kept,
+    pub(crate) report: KeptReport,
 }
 
 impl Model for Host {
@@ -57,7 +57,7 @@ impl Host {
         Ok(Host {
             stage: Stage::Fresh(setup),
             answer: Vec::new(alloc),
-            report: Kept::new(alloc),
+            report: KeptReport::new(alloc),
         })
     }
 

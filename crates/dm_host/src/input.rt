@@ -9,8 +9,8 @@ use crate::refusal::Refusal;
 use dm_machine::Cpu;
 
 impl Host {
-    /// Says that more console input may come, as `Machine::open_input`: from then on each call that wants a byte that is
-    /// not there stops the run with `InputEnded`, and the run can go on once there is more.
+    /// Says that more console input may come, as `Machine::open_input`: from then on each call that wants a byte that
+    /// is not there stops the run with `InputEnded`, and the run can go on once there is more.
     ///
     /// # Errors
     ///

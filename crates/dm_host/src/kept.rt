@@ -9,14 +9,14 @@ use std::marker::Model;
 /// A report: the findings that it lists, how many errors and notes there are in all, and how many findings are neither
 /// listed nor repeat one that is.
 #[derive(Drop)]
-pub struct Kept {
+pub struct KeptReport {
     listed: Vec<Listed>,
     errors: u64,
     notes: u64,
     unlisted: u64,
 }
 
-impl Model for Kept {
+impl Model for KeptReport {
     ghost use Rattle.dm_findings.specs.Report.{Reported};
 
     ghost Value = { Reported };
@@ -24,12 +24,12 @@ impl Model for Kept {
     ghost view = { λ k. record { listed = k.listed.items; errors = k.errors; notes = k.notes; unlisted = k.unlisted } };
 }
 
-impl Kept {
+impl KeptReport {
     /// A report of no findings.
-    pub(crate) fn new(alloc: Global) -> Kept
+    pub(crate) fn new(alloc: Global) -> KeptReport
         ensures { result ≡ no_report }
     {
-        Kept {
+        KeptReport {
             listed: Vec::new(alloc),
             errors: 0,
             notes: 0,
@@ -38,10 +38,10 @@ impl Kept {
     }
 
     /// The same report. `AllocError` if an allocation fails.
-    pub(crate) fn of(alloc: Global, report: &Report) -> Result<Kept, AllocError>
+    pub(crate) fn of(alloc: Global, report: &Report) -> Result<KeptReport, AllocError>
         ensures { IfOk result (λ kept. kept ≡ report.now) }
     {
-        Ok(Kept {
+        Ok(KeptReport {
             listed: Vec::from_slice(alloc, report.listed())?,
             errors: report.errors(),
             notes: report.notes(),
@@ -50,10 +50,10 @@ impl Kept {
     }
 
     /// The same report once more. `AllocError` if an allocation fails.
-    pub(crate) fn copy(&self, alloc: Global) -> Result<Kept, AllocError>
+    pub(crate) fn copy(&self, alloc: Global) -> Result<KeptReport, AllocError>
         ensures { IfOk result (λ kept. kept ≡ self.now) }
     {
-        Ok(Kept {
+        Ok(KeptReport {
             listed: Vec::from_slice(alloc, self.listed.as_slice())?,
             errors: self.errors,
             notes: self.notes,

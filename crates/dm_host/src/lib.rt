@@ -20,7 +20,7 @@ mod runs;
 mod setup;
 
 pub use host::{Host, Stage};
-pub use kept::Kept;
+pub use kept::KeptReport;
 pub use memory::copy_all;
 pub use refusal::Refusal;
 pub use setup::Setup;

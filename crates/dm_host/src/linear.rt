@@ -71,8 +71,8 @@ fn write_up(session: &mut Session, address: u32, bytes: &[u8])
 }
 
 impl Host {
-    /// Fills the buffer with the bytes of memory from a linear address up, as a program reads them: while the A20 line is
-    /// off, bit 20 of an address is. Where there is no memory, and past FFFF:FFFF, bytes are FFh.
+    /// Fills the buffer with the bytes of memory from a linear address up, as a program reads them: while the A20 line
+    /// is off, bit 20 of an address is. Where there is no memory, and past FFFF:FFFF, bytes are FFh.
     ///
     /// # Errors
     ///
@@ -89,7 +89,8 @@ impl Host {
     }
 
     /// Writes the bytes to memory from a linear address up, as a program does: while the A20 line is off, bit 20 of an
-    /// address is. Bytes for the ROM, where there is no memory, or past FFFF:FFFF, are lost. Nothing but memory changes.
+    /// address is. Bytes for the ROM, where there is no memory, or past FFFF:FFFF, are lost. Nothing but memory
+    /// changes.
     ///
     /// # Errors
     ///

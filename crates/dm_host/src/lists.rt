@@ -14,8 +14,8 @@ use dm_views::inventory::{
 use std::alloc::Global;
 
 impl Host {
-    /// The headers of the arena, those of the first list and then those of upper memory where the first list does not lead
-    /// to them, and the segment where a list breaks, as no header can follow there; None where all is whole.
+    /// The headers of the arena, those of the first list and then those of upper memory where the first list does not
+    /// lead to them, and the segment where a list breaks, as no header can follow there; None where all is whole.
     ///
     /// # Errors
     ///

@@ -1,5 +1,5 @@
--- What each call does that gives what a machine holds, or the findings of its last checked run. `before` and `after` are what
--- C passes by reference, before the call and after it. The export of a name `n` is `dm_c_n`.
+-- What each call does that gives what a machine holds, or the findings of its last checked run. `before` and `after`
+-- are what C passes by reference, before the call and after it. The export of a name `n` is `dm_c_n`.
 use Rattle.std.specs.Prelude.{◌≡◌, ◌⊎◌, ℕ, List, map, length, Option, Some, None}
 use Rattle.dm_services.specs.state.State.{State}
 use Rattle.dm_views.specs.declared.inventory.arena.ArenaBlock.{ArenaBlock}
@@ -28,8 +28,8 @@ abbrev pub end_of : Option ℕ → ListEnd
 end_of None = record { destroyed = 0; at = 0 }
 end_of (Some segment) = record { destroyed = 1; at = segment }
 
--- the records that Lists holds of the machine are copied to the front of the buffer, if they fit, and `wanted` is how many
--- they are; or the call is refused, and buffer and `wanted` stay
+-- the records that Lists holds of the machine are copied to the front of the buffer, if they fit, and `wanted` is how
+-- many they are; or the call is refused, and buffer and `wanted` stay
 pub data GivesRecords {A : Type 0} (h : Hosted) (Lists : State → List A → Type 0) (Refused : Refusal → Type 0) (before after : List A) (wanted_before wanted status : ℕ) : Type 0 where
   listed : (rows : List A) → Shows h (λ s. Lists s rows) → GivesItems rows before after wanted status → GivesRecords h Lists Refused before after wanted_before wanted status
   refused : (why : Refusal) → Refused why → status ≡ status_of why → after ≡ before → wanted ≡ wanted_before → GivesRecords h Lists Refused before after wanted_before wanted status
@@ -59,8 +59,8 @@ ExtendedBlocksTo h before after wanted_before wanted status g =
 abbrev pub UpperBlocksTo : Hosted → List UpperBlock → List UpperBlock → ℕ → ℕ → ℕ → Hosted → Type 0
 UpperBlocksTo h before after wanted_before wanted status g = GivesRecords h (λ s rows. rows ≡ upper_rows s.xms) (IsUnlisted h) before after wanted_before wanted status × (g ≡ h)
 
--- `dm_c_high_memory`: whether A20 is on, and whether the high memory area is taken (1 or 0); if no program is loaded, nothing
--- changes
+-- `dm_c_high_memory`: whether A20 is on, and whether the high memory area is taken (1 or 0); if no program is loaded,
+-- nothing changes
 abbrev pub HighMemoryTo : Hosted → ℕ → ℕ → ℕ → ℕ → ℕ → Hosted → Type 0
 HighMemoryTo h a20_before a20 used_before used status g =
     IsDoneOrRefused status (Shows h (λ s. (a20 ≡ truth_number s.memory.a20) × (used ≡ truth_number s.xms.area))) (λ why. IsNotLoaded h why × (a20 ≡ a20_before) × (used ≡ used_before)) × (g ≡ h)
@@ -79,19 +79,19 @@ ReadsBlockTo h handle offset before after status g =
 
 -- ---- findings
 
--- `dm_c_findings`: the records of the findings that the report of the last checked run lists are copied to the front of the
--- buffer, if they fit, and `wanted` is how many they are; if an allocation failed (status 3), nothing changes
+-- `dm_c_findings`: the records of the findings that the report of the last checked run lists are copied to the front of
+-- the buffer, if they fit, and `wanted` is how many they are; if an allocation failed (status 3), nothing changes
 abbrev pub FindingsTo : Hosted → List FoundRecord → List FoundRecord → ℕ → ℕ → ℕ → Hosted → Type 0
 FindingsTo h before after wanted_before wanted status g =
     (GivesItems (map record_of h.report.listed) before after wanted status ⊎ ((status ≡ status_of Memory) × (after ≡ before) × (wanted ≡ wanted_before))) × (g ≡ h)
 
--- `dm_c_finding_counts`: how many errors and notes the last checked run had, and how many findings its report neither lists
--- nor counts as repetitions
+-- `dm_c_finding_counts`: how many errors and notes the last checked run had, and how many findings its report neither
+-- lists nor counts as repetitions
 abbrev pub FindingCountsTo : Hosted → ℕ → ℕ → ℕ → ℕ → Hosted → Type 0
 FindingCountsTo h errors notes unlisted status g = (status ≡ 0) × (errors ≡ h.report.errors) × (notes ≡ h.report.notes) × (unlisted ≡ h.report.unlisted) × (g ≡ h)
 
--- `dm_c_finding_line`: the line of finding k of that report is copied to the front of the buffer, if it fits, and `wanted` is
--- how many bytes it has; if the report lists no finding k, or an allocation failed, nothing changes
+-- `dm_c_finding_line`: the line of finding k of that report is copied to the front of the buffer, if it fits, and
+-- `wanted` is how many bytes it has; if the report lists no finding k, or an allocation failed, nothing changes
 pub data FindingLineTo (h : Hosted) (k : ℕ) (before after : List ℕ) (wanted_before wanted status : ℕ) (g : Hosted) : Type 0 where
   told : (text : List ℕ) → TellsFinding h k text → GivesItems text before after wanted status → g ≡ h → FindingLineTo h k before after wanted_before wanted status g
   refused : (why : Refusal) → IsUntold h k why → status ≡ status_of why → after ≡ before → wanted ≡ wanted_before → g ≡ h → FindingLineTo h k before after wanted_before wanted status g

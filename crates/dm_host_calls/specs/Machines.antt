@@ -1,5 +1,5 @@
--- What each call does with a host: its status, what it sets, and the host h that becomes g. `before` and `after` are what
--- C passes by reference, before the call and after it. The export of a name `n` is `dm_c_n`.
+-- What each call does with a host: its status, what it sets, and the host h that becomes g. `before` and `after` are
+-- what C passes by reference, before the call and after it. The export of a name `n` is `dm_c_n`.
 use Rattle.std.specs.Prelude.{◌≡◌, ◌⊎◌, ℕ, Bool, List, map, length, drop, Option, Some}
 use Rattle.dm_services.specs.declared.state.stop.Stop.{Stop}
 use Rattle.dm_machine.specs.Run.{IsRun}

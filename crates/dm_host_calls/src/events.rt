@@ -4,7 +4,7 @@ ghost use Rattle.std.specs.List.{list_all};
 ghost use Rattle.dm_host_calls.specs.Events.{is_known, event_of, ended_of, place_of_event};
 
 use crate::values::{Stopped, stopped_of};
-use dm_debug::stops::{Ending, Event, Range};
+use dm_debug::stops::{Event, Range, RunEnd};
 use dm_machine::Breakpoint;
 use std::alloc::{AllocError, Global};
 
@@ -15,8 +15,8 @@ pub const BAD_EVENT: u32 = 23;
 const LAST_KIND: u32 = 4;
 
 /// An event as C passes it. By its kind it is the pair `segment`:`offset` (0), the linear address (1), a change of the
-/// `length` bytes from the linear address up (2), the call of the interrupt `number` (3), or that call with `ah` in AH (4);
-/// the other fields do not count.
+/// `length` bytes from the linear address up (2), the call of the interrupt `number` (3), or that call with `ah` in AH
+/// (4); the other fields do not count.
 #[repr(C)]
 #[derive(Clone, Copy, Debug, PartialEq, Eq)]
 pub struct Awaited {
@@ -78,21 +78,21 @@ pub fn events_of(alloc: Global, events: &[Awaited]) -> Result<Vec<Event>, AllocE
 }
 
 /// How a run up to events has ended, as C sees it.
-pub fn ended_of(ending: Ending) -> Stopped
+pub fn ended_of(ending: RunEnd) -> Stopped
     ensures { result ≡ ended_of ending }
 {
     match ending {
-        Ending::Stopped(stop) => stopped_of(Some(stop)),
-        Ending::Came(_) => Stopped { why: 8, code: 0 },
+        RunEnd::Stopped(stop) => stopped_of(Some(stop)),
+        RunEnd::Came(_) => Stopped { why: 8, code: 0 },
     }
 }
 
 /// The place in the list of the event that came; `before` if none did.
-pub fn place_in(ending: Ending, before: usize) -> usize
+pub fn place_in(ending: RunEnd, before: usize) -> usize
     ensures { result ≡ place_of_event ending before }
 {
     match ending {
-        Ending::Stopped(_) => before,
-        Ending::Came(place) => place,
+        RunEnd::Stopped(_) => before,
+        RunEnd::Came(place) => place,
     }
 }

@@ -1,5 +1,5 @@
-//! The calls of the library on a host, with what C passes and gets: statuses, records and buffers. The exports of `dm_c`
-//! make them on the machine of a handle.
+//! The calls of the library on a host, with what C passes and gets: statuses, records and buffers. The exports of
+//! `dm_c` make them on the machine of a handle.
 #![tactic(auto)]
 
 mod events;
@@ -13,8 +13,8 @@ pub use lists::{
     page_handles, read_block, read_page, upper_blocks, windows,
 };
 pub use machines::{
-    add, check, close_input, command, input_left, load, open_input, output, output_count, read,
-    read_linear, registers, run, run_to, run_until, set_registers, steps, supply, write,
+    add_program, check, close_input, command, input_left, load, open_input, output, output_count,
+    read, read_linear, registers, run, run_to, run_until, set_registers, steps, supply, write,
     write_linear,
 };
 pub use values::{

@@ -1,5 +1,6 @@
-//! The calls that give what a host's machine holds, or the findings of its last checked run. Each returns a status, 0 or
-//! that of the refusal, or 4 if the buffer is too small for all; then `wanted` alone is set, beside `end` of `blocks`.
+//! The calls that give what a host's machine holds, or the findings of its last checked run. Each returns a status, 0
+//! or that of the refusal, or 4 if the buffer is too small for all; then `wanted` alone is set, beside `end` of
+//! `blocks`.
 ghost use Rattle.std.specs.Prelude.{◌≡◌};
 ghost use Rattle.dm_host_calls.specs.Lists.{end_of, BlocksTo, PageHandlesTo, WindowsTo, ExtendedBlocksTo, UpperBlocksTo, HighMemoryTo, ReadsPageTo, ReadsBlockTo, FindingsTo, FindingCountsTo, FindingLineTo};
 ghost use Rattle.dm_views.specs.inventory.Pages.{truth_number};
@@ -9,8 +10,8 @@ use dm_host::Host;
 use dm_views::inventory::{ArenaBlock, ExtendedBlock, FoundRecord, PageHandle, UpperBlock, Window};
 use std::alloc::Global;
 
-/// How the lists of the arena's headers end: whether one is destroyed (1, otherwise 0), and the segment where that breaks,
-/// as no header can follow there.
+/// How the lists of the arena's headers end: whether one is destroyed (1, otherwise 0), and the segment where that
+/// breaks, as no header can follow there.
 #[repr(C)]
 #[derive(Clone, Copy, Debug, PartialEq, Eq)]
 pub struct ListEnd {
@@ -38,8 +39,8 @@ fn number_of(b: bool) -> u32
     if b { 1 } else { 0 }
 }
 
-/// Copies the headers of the arena to the front of the buffer if they fit, sets `wanted` to how many they are, and `end`
-/// to how their lists end. Status 14 if no program is loaded, 3 if an allocation failed; then nothing changes.
+/// Copies the headers of the arena to the front of the buffer if they fit, sets `wanted` to how many they are, and
+/// `end` to how their lists end. Status 14 if no program is loaded, 3 if an allocation failed; then nothing changes.
 pub fn blocks(
     alloc: Global,
     host: &Host,
@@ -58,8 +59,8 @@ pub fn blocks(
     }
 }
 
-/// Copies the handles of expanded memory in use to the front of the buffer if they fit, and sets `wanted` to how many they
-/// are. Status 14 if no program is loaded, 3 if an allocation failed; then nothing changes.
+/// Copies the handles of expanded memory in use to the front of the buffer if they fit, and sets `wanted` to how many
+/// they are. Status 14 if no program is loaded, 3 if an allocation failed; then nothing changes.
 pub fn page_handles(
     alloc: Global,
     host: &Host,
@@ -85,8 +86,8 @@ pub fn windows(host: &Host, buffer: &mut [Window], wanted: &mut usize) -> u32
     }
 }
 
-/// Copies the blocks of the handles of extended memory in use to the front of the buffer if they fit, and sets `wanted` to
-/// how many they are. Status 14 if no program is loaded, 3 if an allocation failed; then nothing changes.
+/// Copies the blocks of the handles of extended memory in use to the front of the buffer if they fit, and sets `wanted`
+/// to how many they are. Status 14 if no program is loaded, 3 if an allocation failed; then nothing changes.
 pub fn extended_blocks(
     alloc: Global,
     host: &Host,
@@ -101,8 +102,8 @@ pub fn extended_blocks(
     }
 }
 
-/// Copies the upper memory blocks of the extended memory driver to the front of the buffer if they fit, and sets `wanted`
-/// to how many they are. Status 14 if no program is loaded, 3 if an allocation failed; then nothing changes.
+/// Copies the upper memory blocks of the extended memory driver to the front of the buffer if they fit, and sets
+/// `wanted` to how many they are. Status 14 if no program is loaded, 3 if an allocation failed; then nothing changes.
 pub fn upper_blocks(
     alloc: Global,
     host: &Host,
@@ -132,9 +133,9 @@ pub fn high_memory(host: &Host, a20: &mut u32, used: &mut u32) -> u32
     }
 }
 
-/// Fills the buffer with bytes of a logical page of a handle of expanded memory, from an offset in the page on. Status 14
-/// if no program is loaded, 26 if the handle is not in use, 27 if it has no such page, 28 if not all of the bytes are in
-/// the page; then nothing changes.
+/// Fills the buffer with bytes of a logical page of a handle of expanded memory, from an offset in the page on. Status
+/// 14 if no program is loaded, 26 if the handle is not in use, 27 if it has no such page, 28 if not all of the bytes
+/// are in the page; then nothing changes.
 pub fn read_page(host: &Host, handle: u16, page: u16, offset: usize, buffer: &mut [u8]) -> u32
     ensures { ReadsPageTo host.now handle page offset buffer.old buffer.new result host.now }
 {
@@ -144,8 +145,9 @@ pub fn read_page(host: &Host, handle: u16, page: u16, offset: usize, buffer: &mu
     }
 }
 
-/// Fills the buffer with bytes of the block of a handle of extended memory, from an offset in the block on. Status 14 if
-/// no program is loaded, 26 if the handle is not in use, 28 if not all of the bytes are in its block; then nothing changes.
+/// Fills the buffer with bytes of the block of a handle of extended memory, from an offset in the block on. Status 14
+/// if no program is loaded, 26 if the handle is not in use, 28 if not all of the bytes are in its block; then nothing
+/// changes.
 pub fn read_block(host: &Host, handle: u16, offset: usize, buffer: &mut [u8]) -> u32
     ensures { ReadsBlockTo host.now handle offset buffer.old buffer.new result host.now }
 {
@@ -166,8 +168,8 @@ pub fn findings(alloc: Global, host: &Host, buffer: &mut [FoundRecord], wanted: 
     }
 }
 
-/// Sets `errors` and `notes` to how many of each the last checked run had, and `unlisted` to how many findings its report
-/// neither lists nor counts as repetitions.
+/// Sets `errors` and `notes` to how many of each the last checked run had, and `unlisted` to how many findings its
+/// report neither lists nor counts as repetitions.
 pub fn finding_counts(host: &Host, errors: &mut u64, notes: &mut u64, unlisted: &mut u64) -> u32
     ensures { FindingCountsTo host.now errors.new notes.new unlisted.new result host.now }
 {
@@ -178,8 +180,9 @@ pub fn finding_counts(host: &Host, errors: &mut u64, notes: &mut u64, unlisted: 
     OK
 }
 
-/// Copies the line of finding `k`, from 0, of that report to the front of the buffer if it fits, and sets `wanted` to how
-/// many bytes it has. Status 29 if the report lists no finding `k`, 3 if an allocation failed; then nothing changes.
+/// Copies the line of finding `k`, from 0, of that report to the front of the buffer if it fits, and sets `wanted` to
+/// how many bytes it has. Status 29 if the report lists no finding `k`, 3 if an allocation failed; then nothing
+/// changes.
 pub fn finding_line(
     alloc: Global,
     host: &Host,

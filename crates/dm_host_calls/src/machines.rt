@@ -1,6 +1,6 @@
-//! The calls on a host: each function calls that of the same name of `Host`, and returns a status, 0 or that of the
-//! refusal. What C passes by reference is set with status 0 alone, but `wanted` of
-//! `output` with status 4 too.
+//! The calls on a host: each function calls that of the same name of `Host` (`add_program` calls `add`), and returns a
+//! status, 0 or that of the refusal. What C passes by reference is set with status 0 alone, but `wanted` of `output`
+//! with status 4 too.
 ghost use Rattle.std.specs.Prelude.{◌≡◌, true, false};
 ghost use Rattle.dm_host_calls.specs.Events.{EventsTo};
 ghost use Rattle.dm_host_calls.specs.Machines.{AddsTo, LoadsTo, RunsTo, RunsUntilTo, StepsTo, RegistersTo, SetsRegistersTo, ReadsTo, WritesTo, ReadsLinearTo, WritesLinearTo, OutputTo, OutputCountTo, SetsMoreTo, SuppliesTo, InputLeftTo, CommandsTo, ChecksTo};
@@ -14,7 +14,7 @@ use dm_host::Host;
 use std::alloc::Global;
 
 /// Adds a program under a name; nothing changes unless the status is 0.
-pub fn add(alloc: Global, host: &mut Host, name: &[u8], program: &[u8]) -> u32
+pub fn add_program(alloc: Global, host: &mut Host, name: &[u8], program: &[u8]) -> u32
     ensures { AddsTo host.old name.now program.now result host.new }
 {
     match host.add(alloc, name, program) {
@@ -72,10 +72,10 @@ pub fn run_until(
     }
 }
 
-/// Makes at most `steps` steps, up to the first one that leads to one of the events, sets `stopped` to why the run stopped
-/// and, if an event came, `place` to its place in the list. Status 23 if the kind of an event is none, else 3 if an allocation
-/// failed, or 14 if no program is loaded; then nothing changes. An allocation that fails during the run is a stop (6), with
-/// status 0.
+/// Makes at most `steps` steps, up to the first one that leads to one of the events, sets `stopped` to why the run
+/// stopped and, if an event came, `place` to its place in the list. Status 23 if the kind of an event is none, else 3
+/// if an allocation failed, or 14 if no program is loaded; then nothing changes. An allocation that fails during the
+/// run is a stop (6), with status 0.
 pub fn run_to(
     alloc: Global,
     host: &mut Host,
@@ -171,8 +171,8 @@ pub fn read_linear(host: &Host, address: u32, buffer: &mut [u8]) -> u32
     }
 }
 
-/// Writes the bytes to memory from a linear address up, as a program does; those for the ROM, where there is no memory, or
-/// past FFFF:FFFF, are lost. Status 14, and no change, if no program is loaded.
+/// Writes the bytes to memory from a linear address up, as a program does; those for the ROM, where there is no memory,
+/// or past FFFF:FFFF, are lost. Status 14, and no change, if no program is loaded.
 pub fn write_linear(host: &mut Host, address: u32, bytes: &[u8]) -> u32
     ensures { WritesLinearTo host.old address bytes.now result host.new }
 {

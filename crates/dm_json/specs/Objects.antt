@@ -61,8 +61,8 @@ abbrev pub address_members : List ℕ → List ℕ → List ℕ → ℕ → ℕ 
 address_members name first second segment offset =
     string_member name (address_text segment offset) ++ number_member first segment ++ number_member second offset
 
--- where in its code the program performed a step, as `at`, `cs` and `ip`; `before` is whether that is the return address
--- of a call
+-- where in its code the program performed a step, as `at`, `cs` and `ip`; `before` is whether that is the return
+-- address of a call
 abbrev pub site_members : Site → List ℕ
 site_members (At segment offset) = address_members (codes "at") (codes "cs") (codes "ip") segment offset ++ bool_member (codes "before") false
 site_members (Before segment offset) = address_members (codes "at") (codes "cs") (codes "ip") segment offset ++ bool_member (codes "before") true
@@ -181,8 +181,8 @@ abbrev pub origin_member : Finding → Option Origin → List ℕ
 origin_member f None = []
 origin_member f (Some o) = member_text (origin_name f) ++ codes "{\"step\":" ++ decimal o.step ++ site_members o.site ++ codes "}"
 
--- what was found and where: its kind, the step's number, the process, where in its code the program performed it, the call or
--- instruction, what the finding is about, which step allocated or freed that, and the words of the report
+-- what was found and where: its kind, the step's number, the process, where in its code the program performed it, the
+-- call or instruction, what the finding is about, which step allocated or freed that, and the words of the report
 unfoldable pub found_members : Found → List ℕ
 found_members f =
     string_member (codes "kind") (kind_word f.finding) ++ number_member (codes "step") f.step ++ number_member (codes "process") f.process ++ site_members f.site ++ act_members f.act
@@ -218,8 +218,8 @@ left_out_object n = opening (codes "not_listed") ++ number_member (codes "findin
 abbrev pub unlisted_object : ℕ → List ℕ
 unlisted_object n = if n == 0 then [] else left_out_object n
 
--- what follows the lines of the findings: a line for each finding that is repeated; a line about those that are left out,
--- if there are any; and a line with the numbers of all errors and notes
+-- what follows the lines of the findings: a line for each finding that is repeated; a line about those that are left
+-- out, if there are any; and a line with the numbers of all errors and notes
 unfoldable pub summary_objects : Reported → List ℕ
 summary_objects r =
     flat_map again_object r.listed ++ unlisted_object r.unlisted
@@ -243,8 +243,8 @@ abbrev pub what_members : Stop → Memory → Cpu → List ℕ
 what_members stop.Unlisted m c = code_member m c
 what_members _ m c = next_members (call_of c)
 
--- the line about a run that stopped before the program ended: why, where in its code the program would have gone on, and
--- what the next step would perform
+-- the line about a run that stopped before the program ended: why, where in its code the program would have gone on,
+-- and what the next step would perform
 unfoldable pub stopped_object : Stop → Memory → Cpu → List ℕ
 stopped_object why m c = opening (codes "stopped") ++ string_member (codes "reason") (reason_text why) ++ site_members (site_of m c) ++ what_members why m c ++ object_end
 

@@ -15,32 +15,32 @@ use std::alloc::{AllocError, Global};
 
 /// How a report is written.
 #[derive(Clone, Copy, Debug, PartialEq, Eq)]
-pub enum Form {
+pub enum Format {
     /// As a text to be read.
     Text,
     /// As objects of JSON (RFC 8259), one a line.
     Json,
 }
 
-/// The form of a report: JSON if it is asked for, otherwise a text.
-pub fn form_of(json: bool) -> Form
+/// The format of a report: JSON if it is asked for, otherwise a text.
+pub fn format_of(json: bool) -> Format
     ensures { result ≡ report_form json }
 {
-    if json { Form::Json } else { Form::Text }
+    if json { Format::Json } else { Format::Text }
 }
 
 /// Appends the line of a finding.
 fn put_found_in(
     out: &mut Vec<u8>,
     alloc: Global,
-    form: Form,
+    form: Format,
     found: &Found,
 ) -> Result<(), AllocError>
     ensures { OnOk result (out.new.items ≡ out.old.items ++ found_in form found.now) }
 {
     match form {
-        Form::Text => put_found(out, found),
-        Form::Json => put_found_object(out, alloc, found),
+        Format::Text => put_found(out, found),
+        Format::Json => put_found_object(out, alloc, found),
     }
 }
 
@@ -52,7 +52,7 @@ fn put_found_in(
 pub fn put_lines_in(
     out: &mut Vec<u8>,
     alloc: Global,
-    form: Form,
+    form: Format,
     lines: &[Listed],
 ) -> Result<(), AllocError>
     ensures { OnOk result (out.new.items ≡ out.old.items ++ lines_in form lines.now) }
@@ -72,32 +72,33 @@ pub fn put_lines_in(
 pub fn put_summary_in(
     out: &mut Vec<u8>,
     alloc: Global,
-    form: Form,
+    form: Format,
     report: &Report,
 ) -> Result<(), AllocError>
     ensures { OnOk result (out.new.items ≡ out.old.items ++ summary_in form report.now) }
 {
     match form {
-        Form::Text => put_summary(out, report),
-        Form::Json => put_summary_objects(out, alloc, report),
+        Format::Text => put_summary(out, report),
+        Format::Json => put_summary_objects(out, alloc, report),
     }
 }
 
-/// Appends the lines about the processes of a run, in the order of their starts; nothing if there was one process alone.
+/// Appends the lines about the processes of a run, in the order of their starts; nothing if there was one process
+/// alone.
 ///
 /// # Errors
 ///
 /// `AllocError` if an allocation fails.
 pub fn put_processes_in(
     out: &mut Vec<u8>,
-    form: Form,
+    form: Format,
     processes: &[Process],
 ) -> Result<(), AllocError>
     ensures { OnOk result (out.new.items ≡ out.old.items ++ processes_in form processes.now) }
 {
     match form {
-        Form::Text => put_processes(out, processes),
-        Form::Json => put_process_objects(out, processes),
+        Format::Text => put_processes(out, processes),
+        Format::Json => put_process_objects(out, processes),
     }
 }
 
@@ -110,7 +111,7 @@ pub fn put_processes_in(
 pub fn put_end_in(
     out: &mut Vec<u8>,
     alloc: Global,
-    form: Form,
+    form: Format,
     stop: Stop,
     cpu: &Cpu,
     space: &Space,
@@ -118,7 +119,7 @@ pub fn put_end_in(
     ensures { OnOk result (out.new.items ≡ out.old.items ++ end_in form stop space.now.memory cpu.now) }
 {
     match form {
-        Form::Text => put_stop(out, stop, cpu, space),
-        Form::Json => put_end_object(out, alloc, stop, cpu, space),
+        Format::Text => put_stop(out, stop, cpu, space),
+        Format::Json => put_end_object(out, alloc, stop, cpu, space),
     }
 }

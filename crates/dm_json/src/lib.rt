@@ -9,4 +9,4 @@ mod members;
 mod objects;
 mod processes;
 
-pub use forms::{Form, form_of, put_end_in, put_lines_in, put_processes_in, put_summary_in};
+pub use forms::{Format, format_of, put_end_in, put_lines_in, put_processes_in, put_summary_in};

@@ -86,7 +86,8 @@ fn put_overwritten_members(
     put_contents_member(out, b"new", new)
 }
 
-/// Appends the code of a failed allocation, not enough memory, and the paragraphs that were asked for and are available.
+/// Appends the code of a failed allocation, not enough memory, and the paragraphs that were asked for and are
+/// available.
 fn put_short_members(out: &mut Vec<u8>, asked: u16, largest: u16) -> Result<(), AllocError>
     ensures { OnOk result (out.new.items ≡ out.old.items
         ++ (number_member (codes "code") 8 ++ number_member (codes "wanted") asked ++ number_member (codes "available") largest)) }
@@ -217,8 +218,8 @@ fn kept_name(kept: &Kept) -> &'static [u8]
     }
 }
 
-/// The name of the step that did something to what a finding is about: it allocated what is left or held, or turned it on,
-/// and freed memory.
+/// The name of the step that did something to what a finding is about: it allocated what is left or held, or turned it
+/// on, and freed memory.
 fn origin_name(finding: &Finding) -> &'static [u8]
     ensures { result.now ≡ origin_name finding.now }
 {

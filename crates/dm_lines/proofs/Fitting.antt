@@ -21,7 +21,7 @@ use Rattle.dm_lines.specs.declared.token.Token.{Token}
 use Rattle.dm_lines.specs.declared.token.Token.TheVariants as t
 use Rattle.dm_lines.specs.declared.term.Amount.{Amount}
 use Rattle.dm_lines.specs.declared.term.Amount.TheVariants.{Plus, Minus}
-use Rattle.dm_lines.specs.declared.term.Value.{Value}
+use Rattle.dm_lines.specs.declared.term.Expression.{Expression}
 use Rattle.dm_lines.specs.declared.term.Term.{Term}
 use Rattle.dm_lines.specs.declared.term.Term.TheVariants as term
 use Rattle.dm_lines.specs.declared.statement.Instruction.{Instruction}
@@ -164,7 +164,7 @@ added_fits (t.Plus ∷ ts) h = amount_fits ts h.1
 added_fits (t.Minus ∷ t.Number n ∷ []) h = minus_fits n h.1.0
 added_fits _ h = tt
 
-abbrev ValueFits : Value → Type 0
+abbrev ValueFits : Expression → Type 0
 ValueFits v = AmountFits v.amount
 
 value_fits : (ts : List Token) → TokensFit ts → Holds ValueFits (parsed_value ts)

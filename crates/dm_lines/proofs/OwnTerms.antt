@@ -15,7 +15,7 @@ use Rattle.dm_lines.specs.declared.token.Name as Name'
 use Rattle.dm_lines.specs.Operands.{amount_word}
 use Rattle.dm_lines.specs.declared.term.Amount.{Amount}
 use Rattle.dm_lines.specs.declared.term.Amount.TheVariants.{Plus, Minus}
-use Rattle.dm_lines.specs.declared.term.Value.{Value}
+use Rattle.dm_lines.specs.declared.term.Expression.{Expression}
 use Rattle.dm_lines.specs.declared.term.Term.TheVariants as term
 use Rattle.dm_lines.specs.Placing.{displaced, word_from, standing, low_byte_of, amount_byte, distance_of, number_at, label_at, numeral_from, numeral_at, written_of, number_outline, label_outline, numeral_without, numeral_outline, word_without, word_outline}
 use Rattle.dm_lines.specs.Own.{memory_term}
@@ -74,7 +74,7 @@ label_stands m target next = by (is_move m) refl
     by true e = record { byte = low (nat_lt target 256) (sym e); word = (omega arith, λ f. absurd cc); distance = refl; is_one = refl }
     by false e = record { byte = tt; word = tt; distance = refl; is_one = refl }
 
-standing_number : (m : Mnemonic) (v : Value) (place next : ℕ) (x : Written) → AmountFits v.amount → (numeral_at m v place next >>= λ n. Some (w.Number n)) ≡ Some x → OperandStands m (w.Number (numeral_outline m v)) x
+standing_number : (m : Mnemonic) (v : Expression) (place next : ℕ) (x : Written) → AmountFits v.amount → (numeral_at m v place next >>= λ n. Some (w.Number n)) ≡ Some x → OperandStands m (w.Number (numeral_outline m v)) x
 standing_number m v place next x h = by v.label
   where
     moved_to : (l : Name'.Name) (o : Option ℕ) → ((o >>= λ target. Some (label_at m target next)) >>= λ n. Some (w.Number n)) ≡ Some x → OperandStands m (w.Number (label_outline m)) x
@@ -85,7 +85,7 @@ standing_number m v place next x h = by v.label
     by None e = let k : w.Number (number_at v.amount next) ≡ x = cc in subst (λ (z : Written). OperandStands m (w.Number (number_outline v.amount)) z) k (number_stands m v.amount next h)
     by (Some l) e = moved_to l (displaced v.amount place) e
 
-standing_address : (m : Mnemonic) (s : Size) (v : Value) (place : ℕ) (x : Written) → AmountFits v.amount → (standing v place >>= λ d. Some (w.Memory s (record { base = Direct; displacement = d }))) ≡ Some x → OperandStands m (w.Memory s (record { base = Direct; displacement = word_outline v })) x
+standing_address : (m : Mnemonic) (s : Size) (v : Expression) (place : ℕ) (x : Written) → AmountFits v.amount → (standing v place >>= λ d. Some (w.Memory s (record { base = Direct; displacement = d }))) ≡ Some x → OperandStands m (w.Memory s (record { base = Direct; displacement = word_outline v })) x
 standing_address m s v place x h = by v.label
   where
     at : ℕ → Written

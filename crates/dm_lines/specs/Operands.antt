@@ -12,7 +12,7 @@ use Rattle.dm_lines.specs.declared.token.Token.{Token}
 use Rattle.dm_lines.specs.declared.token.Token.TheVariants as t
 use Rattle.dm_lines.specs.declared.term.Amount.{Amount}
 use Rattle.dm_lines.specs.declared.term.Amount.TheVariants.{Plus, Minus}
-use Rattle.dm_lines.specs.declared.term.Value.{Value}
+use Rattle.dm_lines.specs.declared.term.Expression.{Expression}
 use Rattle.dm_lines.specs.declared.term.Term.{Term}
 use Rattle.dm_lines.specs.declared.term.Term.TheVariants as term
 
@@ -37,7 +37,7 @@ added_of (t.Minus ∷ t.Number n ∷ []) = minus n
 added_of _ = None
 
 -- the value that the tokens are: a number, or a label and a number that is added to it
-abbrev pub parsed_value : List Token → Option Value
+abbrev pub parsed_value : List Token → Option Expression
 parsed_value (t.Name l ∷ ts) = option_map (λ n. record { label = Some l; amount = n }) (added_of ts)
 parsed_value ts = option_map (λ n. record { label = None; amount = n }) (amount_of ts)
 

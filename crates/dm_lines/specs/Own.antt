@@ -11,14 +11,14 @@ use Rattle.dm_ins.specs.declared.ins.Ins.{Ins}
 use Rattle.dm_text.specs.declared.words.written.Size.{Size}
 use Rattle.dm_text.specs.words.Words.{size_word}
 use Rattle.dm_lines.specs.declared.term.Amount.TheVariants.{Plus}
-use Rattle.dm_lines.specs.declared.term.Value.{Value}
+use Rattle.dm_lines.specs.declared.term.Expression.{Expression}
 use Rattle.dm_lines.specs.declared.term.Term.{Term}
 use Rattle.dm_lines.specs.declared.term.Term.TheVariants as term
 use Rattle.dm_lines.specs.declared.statement.Instruction.{Instruction}
 use Rattle.dm_lines.specs.Statements.{Statement, instruction}
 
 -- the value that is a number without a sign, with no label
-abbrev pub number : ℕ → Value
+abbrev pub number : ℕ → Expression
 number n = record { label = None; amount = Plus n }
 
 -- a memory operand: a direct address is a number, any other one registers and a number

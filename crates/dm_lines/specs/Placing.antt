@@ -1,6 +1,6 @@
--- What an operand is written as in the terms of `dm_text::words`: with the value of its label, `place`, and, as an outline,
--- before labels have values. `next` is the offset of the next instruction. None says that a label and what is added
--- to it lie outside 0 to FFFFh.
+-- What an operand is written as in the terms of `dm_text::words`: with the value of its label, `place`, and, as an
+-- outline, before labels have values. `next` is the offset of the next instruction. None says that a label and what is
+-- added to it lie outside 0 to FFFFh.
 -- Source: Intel 8086 Family User's Manual, section 2.9 (labels and numbers of ASM-86); which operands a label may be
 -- is this machine's own (docs/DECISIONS.md).
 use Rattle.std.specs.Prelude.{ℕ, ◌+◌, ◌-◌, ◌%◌, Bool, true, false, ◌==◌, Option, Some, None, nat_lt, nat_le, if◌then◌else◌}
@@ -14,7 +14,7 @@ use Rattle.dm_text.specs.words.StandIns.{is_move}
 use Rattle.dm_lines.specs.declared.token.Name as Name'
 use Rattle.dm_lines.specs.declared.term.Amount.{Amount}
 use Rattle.dm_lines.specs.declared.term.Amount.TheVariants.{Plus, Minus}
-use Rattle.dm_lines.specs.declared.term.Value.{Value}
+use Rattle.dm_lines.specs.declared.term.Expression.{Expression}
 use Rattle.dm_lines.specs.declared.term.Term.{Term}
 use Rattle.dm_lines.specs.declared.term.Term.TheVariants as term
 use Rattle.dm_lines.specs.Operands.{amount_word}
@@ -32,7 +32,7 @@ word_from None n place = Some (amount_word n)
 word_from (Some l) n place = displaced n place
 
 -- the word of a value whose label, if it has one, has the value `place`
-abbrev pub standing : Value → ℕ → Option ℕ
+abbrev pub standing : Expression → ℕ → Option ℕ
 standing v place = word_from v.label v.amount place
 
 -- the number as a byte; None if it is over 255
@@ -74,7 +74,7 @@ numeral_from m (Some l) n place next = do
   Some (label_at m target next)
 
 -- a value as a byte, a word, a target and a shift count
-abbrev pub numeral_at : Mnemonic → Value → ℕ → ℕ → Option Numeral
+abbrev pub numeral_at : Mnemonic → Expression → ℕ → ℕ → Option Numeral
 numeral_at m v place next = numeral_from m v.label v.amount place next
 
 -- what an operand is written as in an instruction of the mnemonic m; None where a label and what is added to it lie
@@ -114,7 +114,7 @@ numeral_without m None n = number_outline n
 numeral_without m (Some l) n = label_outline m
 
 -- a value as a byte, a word, a target and a shift count in an outline
-abbrev pub numeral_outline : Mnemonic → Value → Numeral
+abbrev pub numeral_outline : Mnemonic → Expression → Numeral
 numeral_outline m v = numeral_without m v.label v.amount
 
 -- the word of a number in an outline, modulo 10000h; 0 for a label
@@ -123,7 +123,7 @@ word_without None n = amount_word n
 word_without (Some l) n = 0
 
 -- the word of a value in an outline; 0 if it has a label
-abbrev pub word_outline : Value → ℕ
+abbrev pub word_outline : Expression → ℕ
 word_outline v = word_without v.label v.amount
 
 -- what an operand is written as before labels have values, in an instruction of the mnemonic m. The instruction has

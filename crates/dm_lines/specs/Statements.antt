@@ -13,7 +13,7 @@ use Rattle.dm_lines.specs.declared.token.Token.{Token}
 use Rattle.dm_lines.specs.declared.token.Token.TheVariants as t
 use Rattle.dm_lines.specs.declared.term.Amount.{Amount}
 use Rattle.dm_lines.specs.declared.term.Amount.TheVariants.{Plus}
-use Rattle.dm_lines.specs.declared.term.Value.{Value}
+use Rattle.dm_lines.specs.declared.term.Expression.{Expression}
 use Rattle.dm_lines.specs.declared.term.Term.{Term}
 use Rattle.dm_lines.specs.declared.term.Term.TheVariants as term
 use Rattle.dm_lines.specs.declared.statement.Instruction.{Instruction}
@@ -29,7 +29,7 @@ pub data Item : Type 0 where
   nothing : Item
   instruction : Instruction → Item
   bytes : List Amount → Item
-  words : List Value → Item
+  words : List Expression → Item
 
 -- what a line stands for: its label, if it has one, and its item
 pub record Statement : Type 0 where
@@ -71,7 +71,7 @@ byte_items [] = Some []
 byte_items (p ∷ ps) = then_list (bytes_item p) (byte_items ps)
 
 -- the words of all items of a DW, each a number, or a label and a number that is added to it
-abbrev pub word_items : List (List Token) → Option (List Value)
+abbrev pub word_items : List (List Token) → Option (List Expression)
 word_items [] = Some []
 word_items (p ∷ ps) = then_list (list_of_one (parsed_value p)) (word_items ps)
 

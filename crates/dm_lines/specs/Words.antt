@@ -36,8 +36,8 @@ is_one_word op.JmpFar = false
 is_one_word op.JmpShort = false
 is_one_word _ = true
 
--- all reserved words, each with its token: the names of registers, the mnemonics of one word, their other names, and the
--- keywords
+-- all reserved words, each with its token: the names of registers, the mnemonics of one word, their other names, and
+-- the keywords
 abbrev pub reserved_words : List (List ℕ × Token)
 reserved_words =
     map (λ r. (byte_name r, t.Byte r)) byte_registers ++ map (λ r. (word_name r, t.Word r)) word_registers

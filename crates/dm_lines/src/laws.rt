@@ -10,8 +10,8 @@ pub fn pieces_are_read()
     ensures { PiecesAreRead }
 {}
 
-/// The law that the operand that an instruction's text is read as is written as what that text shows, which `dm_text::words`
-/// reads as that instruction. It does nothing when called.
+/// The law that the operand that an instruction's text is read as is written as what that text shows, which
+/// `dm_text::words` reads as that instruction. It does nothing when called.
 #[tactic(auto, using(crate::proofs::OwnTerms::own_terms_are_written))]
 pub fn own_terms_are_written()
     ensures { OwnTermsAreWritten }

@@ -18,8 +18,8 @@ pub use laws::{
     texts_are_plain, texts_are_read,
 };
 pub use lexing::Tokens;
-pub use placing::{byte, outline, word_at, written};
+pub use placing::{byte, expression_word, outline, written_of};
 pub use statement::{Bytes, Instruction, Item, Items, Statement, Words};
-pub use statements::read_line;
-pub use term::{Amount, Term, Value};
+pub use statements::line_statement;
+pub use term::{Amount, Expression, Term};
 pub use token::{Name, Token};

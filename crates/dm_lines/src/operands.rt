@@ -5,7 +5,7 @@ ghost use Rattle.std.specs.Prelude.{◌≡◌, ◌<◌, ◌≤◌, ◌+◌, ◌�
 ghost use Rattle.dm_lines.specs.Operands.{is_close, is_comma, minus, amount_of, added_of, parsed_value, amount_word, inside, base_at, based, memory_operand, memory_of, far_pointer, from_number, term_of, parts, term_pair, terms_of};
 ghost use Rattle.dm_lines.specs.inner.Operands.{seen, option_now, parts_behind};
 
-use crate::term::{Amount, Term, Value};
+use crate::term::{Amount, Expression, Term};
 use crate::token::Token;
 use dm_ins::{Base, WordRegister};
 use dm_text::words::Size;
@@ -47,26 +47,26 @@ fn added(tokens: &[Token]) -> Option<Amount>
 }
 
 /// The number that the tokens are, as a value without a label.
-fn number(tokens: &[Token]) -> Option<Value>
+fn number(tokens: &[Token]) -> Option<Expression>
     ensures value { result ≡ option_map (λ n. record { label = None; amount = n }) (amount_of tokens.now) }
     ensures some { IfSome result (λ _. 0 < length tokens.now) }
 {
     let amount = amount(tokens)?;
-    Some(Value {
+    Some(Expression {
         label: None,
         amount,
     })
 }
 
 /// The value that the tokens are: a number, or a label and a number that is added to it.
-pub(crate) fn value(tokens: &[Token]) -> Option<Value>
+pub(crate) fn value(tokens: &[Token]) -> Option<Expression>
     ensures value { result ≡ parsed_value tokens.now }
     ensures some { IfSome result (λ _. 0 < length tokens.now) }
 {
     match tokens {
         [Token::Name(label), rest @ ..] => {
             let amount = added(rest)?;
-            Some(Value {
+            Some(Expression {
                 label: Some(*label),
                 amount,
             })

@@ -6,7 +6,7 @@ ghost use Rattle.dm_text.specs.words.StandIns.{is_move};
 ghost use Rattle.dm_lines.specs.Placing.{displaced, standing, low_byte_of, amount_byte, distance_of, is_count_of_one, number_at, label_at, numeral_at, written_of, number_outline, label_outline, numeral_outline, word_outline, outline_of};
 
 use crate::operands::word;
-use crate::term::{Amount, Term, Value};
+use crate::term::{Amount, Expression, Term};
 use dm_ins::{Address, Base, Mnemonic};
 use dm_text::words::{Numeral, Written};
 
@@ -25,7 +25,7 @@ fn moved_by(amount: Amount, place: u16) -> Option<u16>
 
 /// The word of a value whose label, if it has one, has the value `place`. A number alone counts modulo 65,536; for a
 /// label and what is added to it, None outside 0 to FFFFh.
-pub fn word_at(value: Value, place: u16) -> Option<u16>
+pub fn expression_word(value: Expression, place: u16) -> Option<u16>
     ensures { result ≡ standing value place }
 {
     match value.label {
@@ -118,7 +118,7 @@ fn label(mnemonic: Mnemonic, target: u16, next: u16) -> Numeral
 
 /// A value as a byte, a word, a target and a shift count; None where a label and what is added to it lie outside 0 to
 /// FFFFh.
-fn numeral(mnemonic: Mnemonic, value: Value, place: u16, next: u16) -> Option<Numeral>
+fn numeral(mnemonic: Mnemonic, value: Expression, place: u16, next: u16) -> Option<Numeral>
     ensures { result ≡ numeral_at mnemonic value place next }
 {
     match value.label {
@@ -139,7 +139,7 @@ fn at(base: Base, displacement: u16) -> Address
 
 /// What an operand is written as, where its label, if it has one, has the value `place` and the next instruction is
 /// at `next`; None where a label and what is added to it lie outside 0 to FFFFh.
-pub fn written(mnemonic: Mnemonic, term: &Term, place: u16, next: u16) -> Option<Written>
+pub fn written_of(mnemonic: Mnemonic, term: &Term, place: u16, next: u16) -> Option<Written>
     ensures { result ≡ written_of mnemonic term.now place next }
 {
     match term {
@@ -151,7 +151,7 @@ pub fn written(mnemonic: Mnemonic, term: &Term, place: u16, next: u16) -> Option
             Some(Written::Memory(*size, at(*base, word(*amount))))
         }
         Term::Address(size, value) => {
-            let displacement = word_at(*value, place)?;
+            let displacement = expression_word(*value, place)?;
             Some(Written::Memory(*size, at(Base::Direct, displacement)))
         }
         Term::Number(value) => {
@@ -199,7 +199,7 @@ fn label_alone(mnemonic: Mnemonic) -> Numeral
 }
 
 /// A value as a byte, a word, a target and a shift count in an outline.
-fn numeral_alone(mnemonic: Mnemonic, value: Value) -> Numeral
+fn numeral_alone(mnemonic: Mnemonic, value: Expression) -> Numeral
     ensures { result ≡ numeral_outline mnemonic value }
 {
     match value.label {
@@ -209,7 +209,7 @@ fn numeral_alone(mnemonic: Mnemonic, value: Value) -> Numeral
 }
 
 /// The word of a value in an outline: 0 if it has a label.
-fn word_alone(value: Value) -> u16
+fn word_alone(value: Expression) -> u16
     ensures { result ≡ word_outline value }
 {
     match value.label {

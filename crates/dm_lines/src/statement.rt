@@ -2,7 +2,7 @@
 
 ghost use Rattle.std.specs.Prelude.{◌≡◌, []};
 
-use crate::term::{Amount, Term, Value};
+use crate::term::{Amount, Expression, Term};
 use crate::token::Name;
 use arrayvec::ArrayVec;
 use dm_ins::{Mnemonic, Prefixes};
@@ -20,7 +20,7 @@ pub struct Instruction {
 pub type Bytes = ArrayVec<Amount, 255>;
 
 /// The values of a DW: each stands for one word.
-pub type Words = ArrayVec<Value, 128>;
+pub type Words = ArrayVec<Expression, 128>;
 
 /// The items of a line's data. They are kept apart from its statement, so that a statement is small, and are used
 /// again for each line.

@@ -198,7 +198,7 @@ fn read_statement(tokens: &[Token], items: &mut Items) -> Option<Statement>
 /// 255 bytes. The data of a DB or a DW is put into `items`. What `tokens` and `items` hold before does not matter, and
 /// both may be overwritten: they are there so that they are not made anew for each line.
 #[tactic(auto, unfolding(crate::specs::Statements::line_statement))]
-pub fn read_line(line: &[u8], tokens: &mut Tokens, items: &mut Items) -> Option<Statement>
+pub fn line_statement(line: &[u8], tokens: &mut Tokens, items: &mut Items) -> Option<Statement>
     ensures { option_map (seen_statement items.new) result ≡ line_statement line.now }
 {
     if 255 < line.len() {

@@ -27,7 +27,7 @@ impl Default for Amount {
 
 /// A number, or a label and a number that is added to it.
 #[derive(Clone, Copy, Debug, Default, PartialEq, Eq)]
-pub struct Value {
+pub struct Expression {
     pub label: Option<Name>,
     pub amount: Amount,
 }
@@ -44,9 +44,9 @@ pub enum Term {
     /// it.
     Memory(Size, Base, Amount),
     /// A memory operand at a number or a label, and the size word before it.
-    Address(Size, Value),
+    Address(Size, Expression),
     /// A number or a label: an immediate value, a target, or the count 1 of a shift.
-    Number(Value),
+    Number(Expression),
     /// A far pointer: a segment and an offset.
     Far(u16, u16),
 }

@@ -27,8 +27,8 @@ impl Machine {
         self.parts.console.set_more(true);
     }
 
-    /// Says that no more console input comes after what is left. A read by handle that finds no byte then returns a count
-    /// of 0, the end of the input.
+    /// Says that no more console input comes after what is left. A read by handle that finds no byte then returns a
+    /// count of 0, the end of the input.
     pub fn close_input(&mut self)
         ensures { self.new ≡ record self.old { console = record self.old.console { more = false } } }
     {

@@ -17,13 +17,13 @@ pub use low::{divide_by_low, on_low_pair, on_low_place};
 pub use numbers::Number;
 pub use pairs::{
     Addition, AdditionWithCarry, Changing, Combining, Comparison, Complement, Decrement, Dividing,
-    Increment, Input, Joining, Multiplication, Negation, Pair, PairOperation, Place,
+    Increment, Input, Joining, Multiplication, Negation, OperandPair, OperandPlace, PairOperation,
     PlaceOperation, Shifting, ShiftingOnce, Subtraction, SubtractionWithBorrow, Testing, on_pair,
     on_place,
 };
 pub use shifts::{
-    ArithmeticShift, LeftRotation, LeftRotationThroughCarry, LeftShift, Moving, RightRotation,
-    RightRotationThroughCarry, RightShift, shift_left_once, shift_right_once,
+    ArithmeticShift, LeftRotation, LeftRotationThroughCarry, LeftShift, RightRotation,
+    RightRotationThroughCarry, RightShift, ShiftOrRotate, shift_left_once, shift_right_once,
 };
 pub use stack::{
     InterruptOperation, StackOperation, act_on_interrupt, act_on_interrupt_low, pop_flags, pop_to,

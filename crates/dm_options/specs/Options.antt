@@ -29,7 +29,8 @@ pub record IsGiven (text : Option Text) (b : Bool) : Type 0 where
   pub not_given : text ≡ Some (codes "false") → b ≡ false
   pub unknown : text ≡ None → b ≡ false
 
--- o has the values of the options and files that `dm run`, `dm check`, `dm debug` and `dm gdb` share, as the rows have them
+-- o has the values of the options and files that `dm run`, `dm check`, `dm debug` and `dm gdb` share, as the rows have
+-- them
 pub record HasMachineOptions (rows : List Row) (o : MachineOptions) : Type 0 where
   pub steps : HasNumber 64 (one_of (codes "steps") rows) o.steps
   pub ems_pages : HasNumber 32 (one_of (codes "ems") rows) o.ems_pages

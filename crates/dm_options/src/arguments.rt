@@ -102,8 +102,8 @@ fn files_arg<'a>(alloc: Global) -> Arg<'a>
         .help("The program, COM or EXE, then files that it can start; at most 16 MiB each")
 }
 
-/// Adds the options and files that `run`, `debug`, `check` and `gdb` share to a command; `steps` is `--steps`. An `Err` is a
-/// failed allocation.
+/// Adds the options and files that `run`, `debug`, `check` and `gdb` share to a command; `steps` is `--steps`. An `Err`
+/// is a failed allocation.
 fn with_machine_args<'a>(
     alloc: Global,
     command: Command<'a>,

@@ -2,7 +2,8 @@
 
 use thiserror::Error;
 
-/// The options and files that `dm run`, `dm check`, `dm debug` and `dm gdb` share: how the machine is made, and what it runs.
+/// The options and files that `dm run`, `dm check`, `dm debug` and `dm gdb` share: how the machine is made, and what it
+/// runs.
 #[derive(Debug, Drop)]
 pub struct MachineOptions<'a> {
     /// The largest number of steps that the machine makes, for `dm gdb` each time that it goes on, from `--steps`.

@@ -155,10 +155,11 @@ fn found_options<'a>(alloc: Global, matches: &ArgMatches<'a>) -> Result<Options<
 ///
 /// `dm run [--steps N] [--ems PAGES] [--xms KIB] [--upper] [--tail TEXT] FILES...`: N is a decimal number below 2^64,
 /// PAGES and KIB are decimal numbers below 2^32, and there is at least one file. A number may begin with `+`. The
-/// defaults are 100000000 (1000000 for `dm gdb`), 64, 1024 and the empty text. A line with an option twice, or with an unknown one, is wrong.
+/// defaults are 100000000 (1000000 for `dm gdb`), 64, 1024 and the empty text. A line with an option twice, or with an
+/// unknown one, is wrong.
 ///
-/// `dm check` takes the same, and `--no-free` and `--json`, which may be left out. `dm debug` and `dm gdb` take what `dm run` does, and `--input FILE`, which may be left out. `dm asm IN OUT` and
-/// `dm disasm IN` take paths alone.
+/// `dm check` takes the same, and `--no-free` and `--json`, which may be left out. `dm debug` and `dm gdb` take what
+/// `dm run` does, and `--input FILE`, which may be left out. `dm asm IN OUT` and `dm disasm IN` take paths alone.
 ///
 /// # Errors
 ///

@@ -1,7 +1,7 @@
 -- Who allocated what there is, and who freed what is free, as a run shows it: the step, and the caller in the program;
 -- and which processes ran.
--- Source: LIM EMS 4.0, section 2 (handles); XMS 3.0 (handles, upper memory blocks, high memory area, A20); MS-DOS Programmer's Reference, "Arena header", functions
--- 48h, 49h and 4Ah.
+-- Source: LIM EMS 4.0, section 2 (handles); XMS 3.0 (handles, upper memory blocks, high memory area, A20); MS-DOS
+-- Programmer's Reference, "Arena header", functions 48h, 49h and 4Ah.
 use Rattle.std.specs.Prelude.{ℕ, ◌+◌, ◌-◌, ◌/◌, ◌==◌, ◌&&◌, not, nat_lt, is_some, Bool, if◌then◌else◌, List, [], ◌∷◌, replicate, slice_get, slice_index_or, Option, Some, None}
 use Rattle.std.specs.List.{list_any}
 use Rattle.dm_space.specs.Memory.{linear}
@@ -20,9 +20,9 @@ use Rattle.dm_origins.specs.declared.handles.Since.{Since}
 use Rattle.dm_origins.specs.declared.handles.Since.TheVariants.{Unused, Used}
 use Rattle.dm_origins.specs.declared.uppers.UpperSince.{UpperSince}
 
--- what is known: of each handle of expanded memory (from 0) and of extended memory (from 1), of the high memory area and of
--- A20 whether it is in use, and since when; the upper memory blocks that are, up to 64, and since when; of each paragraph
--- below 10000h, the last step that freed it; and the processes, in the order of their starts
+-- what is known: of each handle of expanded memory (from 0) and of extended memory (from 1), of the high memory area
+-- and of A20 whether it is in use, and since when; the upper memory blocks that are, up to 64, and since when; of each
+-- paragraph below 10000h, the last step that freed it; and the processes, in the order of their starts
 pub record Known : Type 0 where
   pub handles : List Since
   pub blocks : List Since
@@ -106,8 +106,8 @@ covers p b = (b.owner == 0) && not (nat_lt p b.segment) && not (nat_lt (b.segmen
 abbrev pub is_free_in : List Header → ℕ → Bool
 is_free_in headers p = list_any (covers p) headers
 
--- the last step that freed the paragraph, after a step with the origin o that made a list of blocks of another: that step
--- if the paragraph is in a free block now, and was in none before
+-- the last step that freed the paragraph, after a step with the origin o that made a list of blocks of another: that
+-- step if the paragraph is in a free block now, and was in none before
 abbrev pub freed_in : List Header → List Header → Origin → ℕ → Option Origin → Option Origin
 freed_in old new o p x = if is_free_in new p && not (is_free_in old p) then Some o else x
 

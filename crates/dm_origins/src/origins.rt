@@ -19,9 +19,9 @@ use dm_xms::Xms;
 use std::alloc::{AllocError, Global};
 use std::marker::Model;
 
-/// Of each handle of expanded and of extended memory and each upper memory block, which step allocated it; of the high memory
-/// area and of A20, which step took it or turned it on; of each paragraph below 10000h, which step was the last that freed
-/// it; and the processes that ran.
+/// Of each handle of expanded and of extended memory and each upper memory block, which step allocated it; of the high
+/// memory area and of A20, which step took it or turned it on; of each paragraph below 10000h, which step was the last
+/// that freed it; and the processes that ran.
 ///
 /// Contracts see all of them.
 #[derive(Drop)]
@@ -47,8 +47,8 @@ impl Model for Origins {
 }
 
 impl Origins {
-    /// What is known before a run: what is in use, whether A20 is on (`on`), and the process that is present. An `Err` is a
-    /// failed allocation.
+    /// What is known before a run: what is in use, whether A20 is on (`on`), and the process that is present. An `Err`
+    /// is a failed allocation.
     #[tactic(auto, unfolding(crate::specs::Origins::nothing_known))]
     pub fn new(
         alloc: Global,
@@ -89,9 +89,9 @@ impl Origins {
         look_at_handles(&mut self.handles, ems, Some(origin));
     }
 
-    /// Looks at the handles of extended memory, the upper memory blocks, the high memory area and A20 (`on`) after a call of
-    /// the extended memory driver: the step allocated those that were not in use, took the area if it was free, and turned
-    /// A20 on if it was off.
+    /// Looks at the handles of extended memory, the upper memory blocks, the high memory area and A20 (`on`) after a
+    /// call of the extended memory driver: the step allocated those that were not in use, took the area if it was free,
+    /// and turned A20 on if it was off.
     pub fn note_blocks(&mut self, xms: &Xms, on: bool, origin: Origin)
         ensures { self.new ≡ with_extended_memory self.old xms.now on (Some origin) }
     {

@@ -127,8 +127,8 @@ within_span {u} xs l v p from n k s laid is h fits =
     let long = ap (λ (w : Stored). length (part_bytes w p)) (sym is) ∙ ap length (span_bytes xs l u s laid p from n h) ∙ part_length xs from n (span_fits xs l u s laid p from n h) in
     omega (arith, fits, long)
 
--- the len bytes of a part from the byte `at` of the region on are none of the hole, where that begins at `hole` and ends
--- as it did
+-- the len bytes of a part from the byte `at` of the region on are none of the hole, where that begins at `hole` and
+-- ends as it did
 pub span_outside : (h : Holed) (l : Layout) (u : Bool) → IsKept h l u → (p : Part) (start n at len hole end : ℕ) → IsSpan l p start n → start ≤ at → at + len ≤ start + n
     → (at + len ≤ 0x310000 → at + len ≤ hole) → end ≡ h.to → (at + len ≤ hole) ⊎ ((end ≤ at) ⊎ (end ≤ hole))
 span_outside h l u k Low start n at len hole end is le fits low same = inl (low (omega (arith, fits, is.0, is.1)))

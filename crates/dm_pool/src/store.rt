@@ -320,8 +320,8 @@ impl Store {
             .part_mut(POOL + place.base * UNIT, place.units * UNIT)
     }
 
-    /// The spot of byte `k` of a block, by which [`Store::byte`] and [`Store::set_byte`] find it. It stays the same while
-    /// the block is neither given back nor resized.
+    /// The spot of byte `k` of a block, by which [`Store::byte`] and [`Store::set_byte`] find it. It stays the same
+    /// while the block is neither given back nor resized.
     pub fn spot(&self, block: Block, k: usize) -> usize
         requires { IsLive self.now.blocks block × (k < length (get_or self.now.blocks.contents block [])) }
         ensures spot { IsSpot self.now (OfBlock block) k result }
@@ -442,9 +442,9 @@ impl Store {
         }
     }
 
-    /// All bytes of the store, and where the free list of its pool begins, as a test of the free list reads them. Blocks
-    /// do not overlap in the bytes of the pool. Once the pool is in use, the free ones of these can be read, and list
-    /// the gaps, rising, from the first run on; before, it has no block.
+    /// All bytes of the store, and where the free list of its pool begins, as a test of the free list reads them.
+    /// Blocks do not overlap in the bytes of the pool. Once the pool is in use, the free ones of these can be read, and
+    /// list the gaps, rising, from the first run on; before, it has no block.
     pub fn free_list(&self) -> RunList<'_>
         ensures region { result.region.now.bytes ≡ self.now.low ++ (self.now.scratch ++ drop 0x310000 result.region.now.bytes) }
         ensures sizes { (length self.now.low ≡ 0x110000) × (length self.now.scratch ≡ 0x200000) }

@@ -576,7 +576,8 @@ fn is_cut(
     Ok(())
 }
 
-/// Definitions: dm_cli Messages Prints HasPrinted stop_text; dm_cli Checking told_status; dm_console writers.Out HasFailed AppendsPart
+/// Definitions: dm_cli Messages Prints HasPrinted stop_text; dm_cli Checking told_status
+/// Definitions: dm_console writers.Out HasFailed AppendsPart
 #[test]
 fn failing_messages_are_cut(rt: HostRuntime) -> Result<(), Fail> {
     let lines = [

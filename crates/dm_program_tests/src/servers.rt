@@ -50,8 +50,9 @@ const START: [Row; 26] = [
     ("qXfer:features:read:target.xml:ffffffff,ffffffff", "l"),
 ];
 
-/// Registers that are set: of AX the low word; EIP keeps CS (0103h, that is 1030h to 1102Fh) where it reaches, otherwise CS is
-/// the highest segment below; the flags are those of POPF. A20 is off, so that FFFF:FFFF is seen at 0FFEFh.
+/// Registers that are set: of AX the low word; EIP keeps CS (0103h, that is 1030h to 1102Fh) where it reaches,
+/// otherwise CS is the highest segment below; the flags are those of POPF. A20 is off, so that FFFF:FFFF is seen at
+/// 0FFEFh.
 const SETTINGS: [Row; 35] = [
     ("P0=785634ff", "OK"),
     ("p0", "78560000"),
@@ -90,8 +91,8 @@ const SETTINGS: [Row; 35] = [
     ("Gff", ""),
 ];
 
-/// What `monitor` hands on: R, M, O where nothing was printed, an empty line, G, a step, an earlier one, and one behind the
-/// end.
+/// What `monitor` hands on: R, M, O where nothing was printed, an empty line, G, a step, an earlier one, and one behind
+/// the end.
 const COMMANDS: [Row; 11] = [
     (
         "qRcmd,52",
@@ -124,8 +125,8 @@ const COMMANDS: [Row; 11] = [
 /// The program is ended, and then there is no thread.
 const ENDED: [Row; 2] = [("vKill;1", "OK"), ("qfThreadInfo", "l")];
 
-/// A step, a breakpoint behind INT 21h, an edit of the exit code, the end, and requests after it: the machine stands at the
-/// entry point of INT 21h, F000:0084.
+/// A step, a breakpoint behind INT 21h, an edit of the exit code, the end, and requests after it: the machine stands at
+/// the entry point of INT 21h, F000:0084.
 const RUN: [Row; 18] = [
     ("s", "T05"),
     ("p0", "00090000"),
@@ -147,9 +148,9 @@ const RUN: [Row; 18] = [
     ("p20", "8400"),
 ];
 
-/// Two steps with edits before, between and behind them, and back: the edits of a step come back with it, and later ones are
-/// gone. Back over INT 21h, which pushes six bytes from 1102Eh down, the flags highest. Then the program starts again, without
-/// edits; INT 21h hits a watchpoint on what it pushes, forwards and back.
+/// Two steps with edits before, between and behind them, and back: the edits of a step come back with it, and later
+/// ones are gone. Back over INT 21h, which pushes six bytes from 1102Eh down, the flags highest. Then the program
+/// starts again, without edits; INT 21h hits a watchpoint on what it pushes, forwards and back.
 const BACK: [Row; 34] = [
     ("M20000,1:41", "OK"),
     ("s", "T05"),
@@ -188,13 +189,14 @@ const BACK: [Row; 34] = [
 ];
 
 /// MOV AL,5; MOV [0120h],AL; MOV BL,[0120h]; MOV SI,0120h; MOV DI,0130h; MOV CX,3; REP MOVSB; MOV BX,40h; MOV AH,4Ah;
-/// INT 21h; MOV AX,4C00h; INT 21h. DS:0120h is 1030h + 120h = 1150h, and ES:0130h 1160h; the program's header is at 1020h.
+/// INT 21h; MOV AX,4C00h; INT 21h. DS:0120h is 1030h + 120h = 1150h, and ES:0130h 1160h; the program's header is at
+/// 1020h.
 const WATCHED: &[u8] =
     b"\xB0\x05\xA2\x20\x01\x8A\x1E\x20\x01\xBE\x20\x01\xBF\x30\x01\xB9\x03\x00\xF3\xA4\xBB\x40\x00\xB4\x4A\xCD\x21\xB8\x00\x4C\xCD\x21";
 
-/// A byte that is written, then read; the second repetition of REP MOVSB reads 1151h, with one left, and the third writes
-/// 1162h; function 4Ah writes the header's size at 1023h. Empty ranges, and addresses past FFFF:FFFF, are never hit; the bytes
-/// of the instructions do not count, and a byte that is removed no longer does.
+/// A byte that is written, then read; the second repetition of REP MOVSB reads 1151h, with one left, and the third
+/// writes 1162h; function 4Ah writes the header's size at 1023h. Empty ranges, and addresses past FFFF:FFFF, are never
+/// hit; the bytes of the instructions do not count, and a byte that is removed no longer does.
 const WATCHES: [Row; 37] = [
     ("Z3,1130,20", "OK"),
     ("Z2,1150,0", "OK"),
@@ -410,8 +412,9 @@ fn sends(
     Ok(())
 }
 
-/// Streams, and what is sent for them. The sums: qC is 71h + 43h = B4h, QC1 is 51h + 43h + 31h = C5h, c is 63h, O6869 is
-/// 4Fh + 36h + 38h + 36h + 39h = 12Ch, W00 is 57h + 60h = B7h, T0e is 54h + 30h + 65h = E9h, T02 is 54h + 30h + 32h = B6h.
+/// Streams, and what is sent for them. The sums: qC is 71h + 43h = B4h, QC1 is 51h + 43h + 31h = C5h, c is 63h, O6869
+/// is 4Fh + 36h + 38h + 36h + 39h = 12Ch, W00 is 57h + 60h = B7h, T0e is 54h + 30h + 65h = E9h, T02 is 54h + 30h + 32h
+/// = B6h.
 ///
 /// Definitions: dm_gdb Connections Takes Hears Obeys replied console_packet is_kill is_detach is_quiet makes_steps
 #[test]

@@ -25,8 +25,8 @@ unlisted_line n = if n == 0 then [] else left_out_line n
 abbrev pub lines_text : List Listed → List ℕ
 lines_text ls = flat_map listed_line ls
 
--- what follows those lines: a line for each finding that is repeated; a line about those that are left out, if there are
--- any; and a line with the numbers of all errors and notes
+-- what follows those lines: a line for each finding that is repeated; a line about those that are left out, if there
+-- are any; and a line with the numbers of all errors and notes
 unfoldable pub summary_text : Reported → List ℕ
 summary_text r =
     flat_map again_line r.listed ++ unlisted_line r.unlisted

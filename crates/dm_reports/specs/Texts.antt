@@ -118,8 +118,8 @@ origin_text f (Some o) = codes ", " ++ origin_verb f ++ codes " by step " ++ dec
 abbrev pub told_text : Found → List ℕ
 told_text f = finding_text f.act f.finding ++ origin_text f.finding f.origin
 
--- what was found and where: the step's number, where in its code the program performed it, the call or instruction, what
--- was found, and which step allocated or freed what it is about
+-- what was found and where: the step's number, where in its code the program performed it, the call or instruction,
+-- what was found, and which step allocated or freed what it is about
 unfoldable pub found_text : Found → List ℕ
 found_text f =
     codes "step " ++ decimal f.step ++ codes ", " ++ site_text f.site ++ codes " " ++ act_text f.act ++ codes ": " ++ told_text f

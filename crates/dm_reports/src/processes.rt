@@ -1,5 +1,5 @@
-//! The lines of `dm check` about the processes of a run. Each function `put_..` appends its text to `out`; an `Err` is a
-//! failed allocation.
+//! The lines of `dm check` about the processes of a run. Each function `put_..` appends its text to `out`; an `Err` is
+//! a failed allocation.
 
 ghost use Rattle.std.specs.Prelude.{◌≡◌, ◌++◌, OnOk};
 ghost use Rattle.std.specs.List.{flat_map};

@@ -134,7 +134,8 @@ fn put_block_kept(out: &mut Vec<u8>, handle: u16, kib: u16, locked: bool) -> Res
     out.extend_from_slice(lock_of(locked))
 }
 
-/// What follows the pages of a handle of expanded memory: `, map not restored` if it has a saved map, otherwise nothing.
+/// What follows the pages of a handle of expanded memory: `, map not restored` if it has a saved map, otherwise
+/// nothing.
 fn map_of(saved: bool) -> &'static [u8]
     ensures { result.now ≡ map_text saved }
 {

@@ -3,8 +3,8 @@
 use Rattle.std.specs.Prelude.{ℕ, ◌==◌, ◌||◌, if◌then◌else◌, List, [], ◌∷◌, ◌++◌, length, take, drop, Option, Some, None}
 use Rattle.std.specs.Str.{bytes_eq}
 use Rattle.dm_requests.specs.commands.Numbers.{◌>>=◌, number_of}
-use Rattle.dm_requests.specs.declared.request.Access.{Access}
-use Rattle.dm_requests.specs.declared.request.Access.TheVariants.{Execute, Write, Read, Either}
+use Rattle.dm_requests.specs.declared.request.WatchedAccess.{WatchedAccess}
+use Rattle.dm_requests.specs.declared.request.WatchedAccess.TheVariants.{Execute, Write, Read, Either}
 use Rattle.dm_requests.specs.declared.request.Point.{Point}
 
 -- the bytes before the first mark, with `front` before them, and the bytes after it; None if there is no mark
@@ -25,8 +25,8 @@ abbrev pub after_prefix : List ℕ → List ℕ → Option (List ℕ)
 after_prefix prefix bytes = if bytes_eq (take (length prefix) bytes) prefix then Some (drop (length prefix) bytes) else None
 
 -- the access that a type of `Z` and `z` stands for; None for any other byte
-abbrev pub access_of : ℕ → Option Access
-access_of b =
+abbrev pub watched_access : ℕ → Option WatchedAccess
+watched_access b =
     if b == 48 || b == 49 then Some Execute
     else if b == 50 then Some Write
     else if b == 51 then Some Read
@@ -36,7 +36,7 @@ access_of b =
 -- the point of a type, an address and a length; None if the type is none
 abbrev pub point_with : ℕ → List ℕ → Option Point
 point_with digit bytes = do
-  access ← access_of digit
+  access ← watched_access digit
   numbers ← two_numbers bytes
   Some (record { access = access; address = numbers.0; length = numbers.1 })
 

@@ -57,7 +57,8 @@ verb_with name bytes =
     else if bytes_eq name (codes "Kill") then request.EndProgram
     else request.Unknown
 
--- the request of a packet that begins with `v`, by the bytes after it: a name, with bytes after a semicolon if there is one
+-- the request of a packet that begins with `v`, by the bytes after it: a name, with bytes after a semicolon if there is
+-- one
 abbrev pub named_verb : List ℕ → Request
 named_verb bytes =
     option_map_or (λ parts. verb_with parts.0 parts.1) (cut_at 59 [] bytes)

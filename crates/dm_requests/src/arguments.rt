@@ -3,11 +3,11 @@
 ghost use Rattle.std.specs.Prelude.{◌≡◌, IfOk, [], option_map};
 ghost use Rattle.hex.specs.Hex.{decode_of};
 ghost use Rattle.dm_requests.specs.commands.Numbers.{if_good};
-ghost use Rattle.dm_requests.specs.Arguments.{cut_at, two_numbers, after_prefix, access_of, point_of};
+ghost use Rattle.dm_requests.specs.Arguments.{cut_at, two_numbers, after_prefix, watched_access, point_of};
 
 use crate::commands::read_number;
 use crate::packets::Payload;
-use crate::request::{Access, Point};
+use crate::request::{Point, WatchedAccess};
 use hex::FromHexError;
 use std::alloc::{AllocError, Global};
 
@@ -40,14 +40,14 @@ pub(crate) fn after_prefix<'a>(prefix: &[u8], bytes: &'a [u8]) -> Option<&'a [u8
 }
 
 /// The access that a type of `Z` and `z` stands for, 0 to 4; None for any other byte.
-fn access_of(digit: u8) -> Option<Access>
-    ensures { result ≡ access_of digit }
+fn watched_access(digit: u8) -> Option<WatchedAccess>
+    ensures { result ≡ watched_access digit }
 {
     match digit {
-        b'0' | b'1' => Some(Access::Execute),
-        b'2' => Some(Access::Write),
-        b'3' => Some(Access::Read),
-        b'4' => Some(Access::Either),
+        b'0' | b'1' => Some(WatchedAccess::Execute),
+        b'2' => Some(WatchedAccess::Write),
+        b'3' => Some(WatchedAccess::Read),
+        b'4' => Some(WatchedAccess::Either),
         _ => None,
     }
 }
@@ -58,7 +58,7 @@ pub(crate) fn point_of(bytes: &[u8]) -> Option<Point>
 {
     match bytes {
         [digit, b',', rest @ ..] => {
-            let access = access_of(*digit)?;
+            let access = watched_access(*digit)?;
             let (address, length) = two_numbers(rest)?;
             Some(Point {
                 access,

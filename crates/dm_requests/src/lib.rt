@@ -1,9 +1,10 @@
 //! The requests of GDB's remote serial protocol: what a packet's bytes ask for.
 //!
-//! Source: the GDB manual, appendix "GDB Remote Serial Protocol", sections "Packets", "General Query Packets" and "vCont".
+//! Source: the GDB manual, appendix "GDB Remote Serial Protocol", sections "Packets", "General Query Packets" and
+//! "vCont".
 //!
-//! Module `packets` has the packets that carry them, and `commands` the lines of the debugger, which are read in the same
-//! way.
+//! Module `packets` has the packets that carry them, and `commands` the lines of the debugger, which are read in the
+//! same way.
 #![tactic(auto)]
 
 mod arguments;
@@ -14,4 +15,4 @@ mod reading;
 mod request;
 
 pub use reading::read_request;
-pub use request::{Access, Point, Request};
+pub use request::{Point, Request, WatchedAccess};

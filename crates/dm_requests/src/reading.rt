@@ -20,8 +20,8 @@ fn memory(bytes: &[u8]) -> Request
     }
 }
 
-/// The request to write bytes at an address, of which there must be as many as `count`; malformed if there are others, or
-/// none were spelled.
+/// The request to write bytes at an address, of which there must be as many as `count`; malformed if there are others,
+/// or none were spelled.
 fn set_bytes(address: u32, count: u32, bytes: Option<Payload>) -> Request
     ensures { result ≡ set_bytes address count bytes }
 {

@@ -4,7 +4,7 @@ use crate::packets::Payload;
 
 /// What a breakpoint or watchpoint stops at.
 #[derive(Clone, Copy, Debug, PartialEq, Eq)]
-pub enum Access {
+pub enum WatchedAccess {
     /// An instruction that begins at the address (types 0 and 1).
     Execute,
     /// A write to a byte (type 2).
@@ -18,7 +18,7 @@ pub enum Access {
 /// A breakpoint or a watchpoint: linear addresses, from one up. A breakpoint is at the first of them.
 #[derive(Clone, Copy, Debug, PartialEq, Eq)]
 pub struct Point {
-    pub access: Access,
+    pub access: WatchedAccess,
     /// A linear address.
     pub address: u32,
     /// How many bytes are watched.
@@ -50,8 +50,8 @@ pub enum Request {
     Step,
     /// `c`, or `vCont` with `c` or `C` first: steps up to a stop.
     Continue,
-    /// `vCont` with `r START,END` first: steps up to a stop, or as long as the linear address of CS:IP is START or above
-    /// and below END.
+    /// `vCont` with `r START,END` first: steps up to a stop, or as long as the linear address of CS:IP is START or
+    /// above and below END.
     Range(u32, u32),
     /// `bs`: one step back.
     StepBack,

@@ -1,7 +1,7 @@
 -- INT 21h, the handles of the console: MS-DOS Programmer's Reference, "Read File or Device" (3Fh), "Write File or
 -- Device" (40h). Handles 0 to 2 are the console, each in both directions; that 3 and 4 are bad is this machine's own.
--- Where more console input may come, 3Fh does not return without a byte: it stops the machine, and nothing changes. Each
--- call else returns by popping IP, CS and FLAGS, then sets or clears CF, and counts the step.
+-- Where more console input may come, 3Fh does not return without a byte: it stops the machine, and nothing changes.
+-- Each call else returns by popping IP, CS and FLAGS, then sets or clears CF, and counts the step.
 use Rattle.std.specs.Prelude.{ℕ, nat_lt, ◌==◌, ◌&&◌, Bool, true, false, if◌then◌else◌, List, take, drop, length}
 use Rattle.dm_proc.specs.Writes.{bytes_from}
 use Rattle.dm_services.specs.declared.state.stop.Stop.TheVariants.{InputEnded}

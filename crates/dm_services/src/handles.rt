@@ -28,8 +28,8 @@ fn waits(parts: &Parts) -> bool
 }
 
 /// 3Fh: takes the next CX bytes of the console input, or all if fewer are left, and writes them from DS:DX up. AX
-/// becomes their count, 0 if no input is left; CF is clear. A handle in BX above 2 is error 6. Returns `InputEnded`, with
-/// nothing changed, if CX is above 0, no input is left, and more may come; otherwise it never stops the machine.
+/// becomes their count, 0 if no input is left; CF is clear. A handle in BX above 2 is error 6. Returns `InputEnded`,
+/// with nothing changed, if CX is above 0, no input is left, and more may come; otherwise it never stops the machine.
 #[tactic(auto, unfolding(crate::specs::Handles::read_handle))]
 pub(crate) fn read_handle(parts: &mut Parts) -> Option<Stop>
     ensures answer { OrMemory parts.old (read_handle parts.old) result parts.new }

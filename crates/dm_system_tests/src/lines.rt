@@ -168,7 +168,8 @@ fn each_command_has_its_letters(rt: HostRuntime) -> Result<(), Fail> {
 }
 
 /// Definitions: dm_requests commands.Commands command_of of_words command_named alone with_one with_two at_address
-/// Definitions: dm_requests commands.Names command_word letter_name pair_name uppercase; dm_requests commands.Words words_of words_behind ended
+/// Definitions: dm_requests commands.Names command_word letter_name pair_name uppercase
+/// Definitions: dm_requests commands.Words words_of words_behind ended
 #[test]
 fn spaces_part_words(rt: HostRuntime) -> Result<(), Fail> {
     check(&rt, rt.alloc(), SPACES)

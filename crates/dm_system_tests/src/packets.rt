@@ -7,8 +7,8 @@ use std::alloc::Global;
 use std::process::Abort;
 use std::test::Fail;
 
-/// Streams, with what is read from each: `[..]` is a packet, `damaged` and `long` are packets that are refused, `stop` is
-/// 03h, `again` a `-`.
+/// Streams, with what is read from each: `[..]` is a packet, `damaged` and `long` are packets that are refused, `stop`
+/// is 03h, `again` a `-`.
 const STREAMS: [(&[u8], &str); 26] = [
     (b"", ""),
     (b"$#00", "[]"),
@@ -94,8 +94,8 @@ fn streams_hold_packets(rt: HostRuntime) -> Result<(), Fail> {
     Ok(())
 }
 
-/// A packet of 4000h bytes is read, one of 4001h is too long, and the next one is read again. (The sum of 4000h times 61h
-/// is a multiple of 256.)
+/// A packet of 4000h bytes is read, one of 4001h is too long, and the next one is read again. (The sum of 4000h times
+/// 61h is a multiple of 256.)
 ///
 /// Definitions: dm_requests packets.Reading one_more packet_of
 #[test]

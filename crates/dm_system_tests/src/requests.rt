@@ -3,7 +3,7 @@
 
 use crate::checks::same;
 use dm_requests::packets::Payload;
-use dm_requests::{Access, Point, Request, read_request};
+use dm_requests::{Point, Request, WatchedAccess, read_request};
 use std::alloc::Global;
 use std::process::Abort;
 use std::test::Fail;
@@ -114,10 +114,10 @@ fn put_digits(text: &mut String, bytes: &Payload) -> Result<(), Fail> {
 
 fn put_point(text: &mut String, point: &Point) -> Result<(), Fail> {
     let access = match point.access {
-        Access::Execute => "Execute",
-        Access::Write => "Write",
-        Access::Read => "Read",
-        Access::Either => "Either",
+        WatchedAccess::Execute => "Execute",
+        WatchedAccess::Write => "Write",
+        WatchedAccess::Read => "Read",
+        WatchedAccess::Either => "Either",
     };
     let address = point.address;
     let length = point.length;
@@ -200,8 +200,9 @@ fn check_payload(rt: &impl Abort, alloc: Global, payload: &[u8], wanted: &str) -
     Ok(())
 }
 
-/// Definitions: dm_requests Requests request_of memory_request set_memory_of register_of set_register_of set_registers_of insertion removal feature_of command_of
-/// Definitions: dm_requests Arguments cut_at two_numbers access_of point_of
+/// Definitions: dm_requests Requests request_of memory_request set_memory_of register_of set_register_of
+/// Definitions: dm_requests Requests set_registers_of insertion removal feature_of command_of
+/// Definitions: dm_requests Arguments cut_at two_numbers watched_access point_of
 #[test]
 fn requests_have_arguments(rt: HostRuntime) -> Result<(), Fail> {
     for (payload, wanted) in NUMBERED {

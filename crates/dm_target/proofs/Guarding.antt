@@ -13,8 +13,8 @@ use Rattle.dm_touches.specs.declared.elements.Element.TheVariants as element
 use Rattle.dm_touches.specs.declared.elements.Elements.{Elements}
 use Rattle.dm_touches.specs.Elements.{far, linear_of}
 use Rattle.dm_touches.specs.quiet.Marks.{level_at, lies_below, passes_if, pass, IsQuiet, Marked}
-use Rattle.dm_requests.specs.declared.request.Access.{Access}
-use Rattle.dm_requests.specs.declared.request.Access.TheVariants.{Execute, Write, Read, Either}
+use Rattle.dm_requests.specs.declared.request.WatchedAccess.{WatchedAccess}
+use Rattle.dm_requests.specs.declared.request.WatchedAccess.TheVariants.{Execute, Write, Read, Either}
 use Rattle.dm_requests.specs.declared.request.Point.{Point}
 use Rattle.dm_target.specs.Watching.{by_access, is_in_range, is_met, is_touched}
 use Rattle.dm_target.specs.inner.Looking.{HasLevel, IsGuarded, IsGuardedAt, Keeps, level_of}
@@ -90,7 +90,7 @@ at_next n old new xs i e less k h f m d low high = elim (cases_eq m i) [
   | inr other ↦ at_kept n old new (get_or xs m d) k (h m d low (omega (arith, high, other)))
 ]
 
-guarded_by : (access : Access) (ms : List ℕ) (p : Point) → (level_of access ≡ 1 → HasLevel 1 ms p) → (level_of access ≡ 2 → HasLevel 2 ms p) → HasLevel (level_of access) ms p
+guarded_by : (access : WatchedAccess) (ms : List ℕ) (p : Point) → (level_of access ≡ 1 → HasLevel 1 ms p) → (level_of access ≡ 2 → HasLevel 2 ms p) → HasLevel (level_of access) ms p
 guarded_by Execute ms p one two = λ a e. omega arith
 guarded_by Write ms p one two = one refl
 guarded_by Read ms p one two = two refl
@@ -139,7 +139,7 @@ elements_more p q h a20 e t =
 unmet : (ms : List ℕ) (p : Point) (level : ℕ) (a20 : Bool) (e : Elements) → HasLevel level ms p → pass (lies_below ms level) a20 e ≡ true → is_met a20 e p ≡ false
 unmet ms p level a20 e h t = ap not (elements_more (lies_below ms level) (λ a. not (is_in_range p a)) (λ a x. missed ms p level a h x) a20 e t)
 
-untouched_by : (access : Access) (ms : List ℕ) (p : Point) (a20 : Bool) (rs ws : Elements) → HasLevel (level_of access) ms p → IsQuiet ms a20 rs ws → by_access access (is_met a20 rs p) (is_met a20 ws p) ≡ false
+untouched_by : (access : WatchedAccess) (ms : List ℕ) (p : Point) (a20 : Bool) (rs ws : Elements) → HasLevel (level_of access) ms p → IsQuiet ms a20 rs ws → by_access access (is_met a20 rs p) (is_met a20 ws p) ≡ false
 untouched_by Execute ms p a20 rs ws h q = refl
 untouched_by Write ms p a20 rs ws h q = unmet ms p 1 a20 ws h q.writes
 untouched_by Read ms p a20 rs ws h q = unmet ms p 2 a20 rs h q.reads

@@ -1,4 +1,5 @@
--- Going on: steps up to a breakpoint, the end of a range of addresses, a hit of a watchpoint, a stop, or a number of steps.
+-- Going on: steps up to a breakpoint, the end of a range of addresses, a hit of a watchpoint, a stop, or a number of
+-- steps.
 -- Source: GDB manual, "GDB Remote Serial Protocol", "Packets" (`s`, `c`, `Z0` to `Z4`) and "vCont" (ranges).
 use Rattle.std.specs.Prelude.{◌≡◌, ◌≢◌, ℕ, ◌+◌, ◌<◌, Bool, true, false, ◌||◌, ◌==◌, nat_lt, nat_le, List, [], Option, Some, None}
 use Rattle.std.specs.List.{list_any}
@@ -11,7 +12,7 @@ use Rattle.dm_services.specs.state.State.{State}
 use Rattle.dm_machine.specs.Run.{IsRun}
 use Rattle.dm_target.specs.declared.going.Pause.{Pause}
 use Rattle.dm_target.specs.declared.going.Pause.TheVariants.{Arrived, Hit, Stopped}
-use Rattle.dm_target.specs.declared.going.Span.{Span}
+use Rattle.dm_target.specs.declared.going.StepRange.{StepRange}
 use Rattle.dm_target.specs.Memory.{linear_of}
 use Rattle.dm_target.specs.Watching.{Hits}
 
@@ -24,26 +25,26 @@ abbrev pub is_among : List ℕ → ℕ → Bool
 is_among points address = list_any (λ p. p == address) points
 
 -- whether an address is outside the range; if there is none, it is not
-abbrev pub is_outside : Option Span → ℕ → Bool
+abbrev pub is_outside : Option StepRange → ℕ → Bool
 is_outside None address = false
 is_outside (Some span) address = nat_lt address span.start || nat_le span.end address
 
 -- whether the machine stands at a breakpoint, or outside the range
-abbrev pub has_arrived : List ℕ → Option Span → State → Bool
+abbrev pub has_arrived : List ℕ → Option StepRange → State → Bool
 has_arrived points span s = is_among points (place_of s) || is_outside span (place_of s)
 
--- n steps, one after the other, lead from s to this state; none of them led to a breakpoint or out of the range, or hit a
--- watchpoint
-pub data Passes (points : List ℕ) (watches : List Point) (span : Option Span) (s : State) : ℕ → State → Type 0 where
+-- n steps, one after the other, lead from s to this state; none of them led to a breakpoint or out of the range, or hit
+-- a watchpoint
+pub data Passes (points : List ℕ) (watches : List Point) (span : Option StepRange) (s : State) : ℕ → State → Type 0 where
   here : Passes points watches span s 0 s
   further : (n : ℕ) (t u : State) → Passes points watches span s n t → IsRun t 1 AllSteps u → Hits watches t u None → has_arrived points span u ≡ false
       → Passes points watches span s (n + 1) u
 
--- At most `most` steps from s, but none after one that led to a breakpoint or out of the range, or hit a watchpoint, end for
--- this reason in t. Such a step was made (`arrived`, `hit`), all were made (`whole`), or a stop came earlier (`cut`); if
--- there is neither breakpoint nor watchpoint nor range, the steps are a run (`plain`). Before a service or driver the watched
--- bytes are kept; for want of memory for them the steps end there (`short`)
-pub data Continues (points : List ℕ) (watches : List Point) (span : Option Span) (s : State) (most : ℕ) (pause : Pause) (t : State) : Type 0 where
+-- At most `most` steps from s, but none after one that led to a breakpoint or out of the range, or hit a watchpoint,
+-- end for this reason in t. Such a step was made (`arrived`, `hit`), all were made (`whole`), or a stop came earlier
+-- (`cut`); if there is neither breakpoint nor watchpoint nor range, the steps are a run (`plain`). Before a service or
+-- driver the watched bytes are kept; for want of memory for them the steps end there (`short`)
+pub data Continues (points : List ℕ) (watches : List Point) (span : Option StepRange) (s : State) (most : ℕ) (pause : Pause) (t : State) : Type 0 where
   plain : (why : Stop) → points ≡ [] → watches ≡ [] → span ≡ None → pause ≡ Stopped why → IsRun s most why t → Continues points watches span s most pause t
   arrived : (made : ℕ) (before : State) → made < most → pause ≡ Arrived → Passes points watches span s made before → IsRun before 1 AllSteps t → Hits watches before t None
       → has_arrived points span t ≡ true → Continues points watches span s most pause t

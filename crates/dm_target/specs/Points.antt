@@ -1,10 +1,10 @@
 -- Breakpoints and watchpoints that are set.
--- Source: GDB manual, "GDB Remote Serial Protocol", "Packets" (`Z` and `z`: to set what is set, or to remove what is not, changes
--- nothing).
+-- Source: GDB manual, "GDB Remote Serial Protocol", "Packets" (`Z` and `z`: to set what is set, or to remove what is
+-- not, changes nothing).
 use Rattle.std.specs.Prelude.{ℕ, ◌==◌, ◌&&◌, Bool, if◌then◌else◌, List, [], ◌∷◌, ◌++◌, position, remove, Option, Some, None}
 use Rattle.std.specs.List.{list_any}
-use Rattle.dm_requests.specs.declared.request.Access.{Access}
-use Rattle.dm_requests.specs.declared.request.Access.TheVariants.{Execute, Write, Read, Either}
+use Rattle.dm_requests.specs.declared.request.WatchedAccess.{WatchedAccess}
+use Rattle.dm_requests.specs.declared.request.WatchedAccess.TheVariants.{Execute, Write, Read, Either}
 use Rattle.dm_requests.specs.declared.request.Point.{Point}
 use Rattle.dm_target.specs.Going.{is_among}
 
@@ -14,7 +14,7 @@ pub record Set : Type 0 where
   pub watches : List Point
 
 -- the number of an access in a packet
-abbrev pub type_of : Access → ℕ
+abbrev pub type_of : WatchedAccess → ℕ
 type_of Execute = 0
 type_of Write = 2
 type_of Read = 3
@@ -50,7 +50,7 @@ abbrev pub without_watch : List Point → Point → List Point
 without_watch watches point = without_place (position (is_same point) watches) watches
 
 -- what is set, with a breakpoint or watchpoint more; of a breakpoint the length does not matter
-abbrev pub with_point_as : Access → Set → Point → Set
+abbrev pub with_point_as : WatchedAccess → Set → Point → Set
 with_point_as Execute s point = record s { breaks = with_break s.breaks point.address }
 with_point_as _ s point = record s { watches = with_watch s.watches point }
 
@@ -58,7 +58,7 @@ abbrev pub with_point : Set → Point → Set
 with_point s point = with_point_as point.access s point
 
 -- what is set, without a breakpoint or watchpoint
-abbrev pub without_point_as : Access → Set → Point → Set
+abbrev pub without_point_as : WatchedAccess → Set → Point → Set
 without_point_as Execute s point = record s { breaks = without_break s.breaks point.address }
 without_point_as _ s point = record s { watches = without_watch s.watches point }
 

@@ -1,5 +1,6 @@
 -- The registers by their numbers: those of the feature `org.gnu.gdb.i386.core`, and three of this server's own.
--- Source: GDB manual, "Target Descriptions", "i386 Features"; the registers `ip`, `sp` and `steps` are this server's own.
+-- Source: GDB manual, "Target Descriptions", "i386 Features"; the registers `ip`, `sp` and `steps` are this server's
+-- own.
 use Rattle.std.specs.Prelude.{ℕ, Bool, ◌==◌, nat_lt, if◌then◌else◌, List, [], ◌∷◌, slice_index, replicate}
 use Rattle.std.specs.Int.{to_le_bytes, w16, w32, w64}
 use Rattle.dm_alu.specs.Flags.{flags_word}
@@ -9,8 +10,8 @@ use Rattle.dm_services.specs.state.State.{State}
 use Rattle.dm_views.specs.Digits.{in_turn}
 use Rattle.dm_target.specs.Memory.{linear_of}
 
--- the registers 0 to 15: EAX, ECX, EDX, EBX, ESP, EBP, ESI, EDI, EIP, EFLAGS, CS, SS, DS, ES, FS, GS; ESP and EIP are linear
--- addresses, the others the 16-bit registers, and FS and GS 0
+-- the registers 0 to 15: EAX, ECX, EDX, EBX, ESP, EBP, ESI, EDI, EIP, EFLAGS, CS, SS, DS, ES, FS, GS; ESP and EIP are
+-- linear addresses, the others the 16-bit registers, and FS and GS 0
 abbrev pub core_values : Cpu → Memory → List ℕ
 core_values c m =
     c.ax ∷ c.cx ∷ c.dx ∷ c.bx ∷ linear_of m c.ss c.sp ∷ c.bp ∷ c.si ∷ c.di ∷ linear_of m c.cs c.ip ∷ flags_word c.flags

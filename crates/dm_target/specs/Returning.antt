@@ -1,6 +1,6 @@
 -- Going back to the last hit: a state at a breakpoint, or one from which a step hits a watchpoint.
--- Source: GDB manual, "Reverse Execution" (`reverse-continue`) and "Packets" (`bc`). That going back stops before the step
--- that hits a watchpoint is this server's own choice.
+-- Source: GDB manual, "Reverse Execution" (`reverse-continue`) and "Packets" (`bc`). That going back stops before the
+-- step that hits a watchpoint is this server's own choice.
 use Rattle.std.specs.Prelude.{◌≡◌, ℕ, ◌+◌, ◌<◌, ◌≤◌, true, false, List, Some, None}
 use Rattle.dm_requests.specs.declared.request.Point.{Point}
 use Rattle.dm_services.specs.declared.state.stop.Stop.TheVariants.{Steps as AllSteps}
@@ -16,7 +16,8 @@ use Rattle.dm_target.specs.Watching.{Hits}
 abbrev pub Misses : List Point → State → Type 0
 Misses watches s = (t : State) → IsRun s 1 AllSteps t → Hits watches s t None
 
--- s is a hit, which is told as this: the step from it hits a watchpoint; or s stands at a breakpoint, and the step hits none
+-- s is a hit, which is told as this: the step from it hits a watchpoint; or s stands at a breakpoint, and the step hits
+-- none
 pub data Meets (points : List ℕ) (watches : List Point) (s : State) : Undone → Type 0 where
   hits : (point : Point) (t : State) → IsRun s 1 AllSteps t → Hits watches s t (Some point) → Meets points watches s (Hit point)
   stands : is_among points (place_of s) ≡ true → Misses watches s → Meets points watches s Back
@@ -30,8 +31,8 @@ pub record IsNoHit (points : List ℕ) (watches : List Point) (s : State) : Type
 abbrev pub AreClear : List ℕ → List Point → Past → ℕ → ℕ → Type 0
 AreClear points watches p from end = (k : ℕ) (s : State) → from ≤ k → k < end → Was p k s → IsNoHit points watches s
 
--- the history p goes back to the last hit before its present state, and becomes q; and what is told of it. Where there is
--- none, it goes back to its origin (`to_start`); where it stands there already, it stays (`begun`)
+-- the history p goes back to the last hit before its present state, and becomes q; and what is told of it. Where there
+-- is none, it goes back to its origin (`to_start`); where it stands there already, it stays (`begun`)
 pub data Returns (points : List ℕ) (watches : List Point) (p : Past) : Undone → Past → Type 0 where
   begun : p.machine.steps ≤ p.origin.steps → Returns points watches p Begun p
   to_start : (q : Past) → p.origin.steps < p.machine.steps → GoesBack p p.origin.steps q → AreClear points watches p p.origin.steps p.machine.steps

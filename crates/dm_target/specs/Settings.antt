@@ -7,8 +7,8 @@ use Rattle.dm_cpu.specs.declared.cpu.Cpu.{Cpu}
 use Rattle.dm_space.specs.Memory.{Memory}
 use Rattle.dm_target.specs.Memory.{linear_of, segment_below}
 
--- the number that the bytes of a register spell, the lowest first: four bytes for the registers 0 to 13, two for 32 and 33.
--- None for other bytes, and for other registers, which cannot be set
+-- the number that the bytes of a register spell, the lowest first: four bytes for the registers 0 to 13, two for 32 and
+-- 33. None for other bytes, and for other registers, which cannot be set
 abbrev pub register_value : ℕ → List ℕ → Option ℕ
 register_value n (a ∷ b ∷ c ∷ d ∷ []) = if nat_lt n 14 then Some (a + 256 * b + (65536 * c + 16777216 * d)) else None
 register_value n (a ∷ b ∷ []) = if n == 32 || n == 33 then Some (a + 256 * b) else None
@@ -22,8 +22,8 @@ is_reached n v = not ((n == 4 || n == 8) && nat_lt 0x10FFEF v)
 abbrev pub reaches : ℕ → ℕ → Bool
 reaches segment address = nat_le (segment * 16) address && nat_le address (segment * 16 + 0xFFFF)
 
--- segment and offset of a linear address: those that there were, if the address is theirs; the same segment, if it reaches
--- the address; otherwise the highest segment below it
+-- segment and offset of a linear address: those that there were, if the address is theirs; the same segment, if it
+-- reaches the address; otherwise the highest segment below it
 abbrev pub place_for : Memory → ℕ → ℕ → ℕ → ℕ × ℕ
 place_for m segment offset address =
     if linear_of m segment offset == address then (segment, offset)

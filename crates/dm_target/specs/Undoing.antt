@@ -16,8 +16,8 @@ use Rattle.dm_target.specs.declared.undoing.Undone.{Undone}
 use Rattle.dm_target.specs.declared.undoing.Undone.TheVariants.{Begun, Back, Hit}
 use Rattle.dm_target.specs.Watching.{is_changed, is_touched}
 
--- the first of these watchpoints, in their order, that the step from s hit, which led to t; None if it hit none. A service or
--- driver acts in the step (`acted`), or an instruction is performed (`performed`)
+-- the first of these watchpoints, in their order, that the step from s hit, which led to t; None if it hit none. A
+-- service or driver acts in the step (`acted`), or an instruction is performed (`performed`)
 pub record HitBy (watches : List Point) (s t : State) (hit : Option Point) : Type 0 where
   pub acted : (what : EntryPoint) → entry_point_at s.cpu.cs s.cpu.ip ≡ Some what → hit ≡ find (is_changed t.memory s.memory) watches
   pub performed : (i : Ins) (length : ℕ) → entry_point_at s.cpu.cs s.cpu.ip ≡ None → BeginsWith (fetched s.memory s.cpu) i length
@@ -28,7 +28,8 @@ abbrev pub undone_by : Option Point → Undone
 undone_by None = Back
 undone_by (Some point) = Hit point
 
--- the history p goes back a step and becomes this one, unless it begins at its present state; and what is told of the step
+-- the history p goes back a step and becomes this one, unless it begins at its present state; and what is told of the
+-- step
 pub data Undoes (watches : List Point) (p : Past) : Undone → Past → Type 0 where
   begun : p.machine.steps ≤ p.origin.steps → Undoes watches p Begun p
   undone : (hit : Option Point) (q : Past) → p.origin.steps < p.machine.steps → GoesBack p (p.machine.steps - 1) q → HitBy watches q.machine p.machine hit

@@ -1,4 +1,5 @@
-//! Going on: steps up to a breakpoint, the end of a range of addresses, a hit of a watchpoint, a stop, or a number of steps.
+//! Going on: steps up to a breakpoint, the end of a range of addresses, a hit of a watchpoint, a stop, or a number of
+//! steps.
 
 ghost use Rattle.std.specs.Prelude.{◌≡◌, All, IfSome};
 ghost use Rattle.dm_target.specs.Going.{is_among, is_outside, place_of, has_arrived, Continues};
@@ -15,7 +16,7 @@ use std::alloc::Global;
 
 /// The linear addresses of a range that is stepped through: `start` and those above it, below `end`.
 #[derive(Clone, Copy, Debug, PartialEq, Eq)]
-pub struct Span {
+pub struct StepRange {
     pub start: u32,
     pub end: u32,
 }
@@ -47,7 +48,7 @@ pub fn is_among(points: &[u32], address: u32) -> bool
 }
 
 /// Whether an address is outside the range; if there is none, it is not.
-fn is_outside(span: Option<Span>, address: u32) -> bool
+fn is_outside(span: Option<StepRange>, address: u32) -> bool
     ensures { result ≡ is_outside span address }
 {
     match span {
@@ -57,7 +58,7 @@ fn is_outside(span: Option<Span>, address: u32) -> bool
 }
 
 /// Whether the machine stands at a breakpoint, or outside the range.
-fn has_arrived(points: &[u32], span: Option<Span>, machine: &Machine) -> bool
+fn has_arrived(points: &[u32], span: Option<StepRange>, machine: &Machine) -> bool
     ensures { result ≡ has_arrived points.now span machine.now }
 {
     let address = place_of(machine);
@@ -69,7 +70,7 @@ fn has_arrived(points: &[u32], span: Option<Span>, machine: &Machine) -> bool
 fn look_on(
     alloc: Global,
     history: &mut History,
-    span: Option<Span>,
+    span: Option<StepRange>,
     points: &[u32],
     watches: &[Point],
 ) -> Option<Pause>
@@ -86,13 +87,13 @@ fn look_on(
     None
 }
 
-/// Makes at most `most` steps, as `go_on` does. `marks` are those of the watchpoints, if there are any, and `pairs` is room
-/// for breakpoints.
+/// Makes at most `most` steps, as `go_on` does. `marks` are those of the watchpoints, if there are any, and `pairs` is
+/// room for breakpoints.
 fn go_marked(
     alloc: Global,
     history: &mut History,
     most: u64,
-    span: Option<Span>,
+    span: Option<StepRange>,
     points: &[u32],
     watches: &[Point],
     marks: &Option<Marks>,
@@ -124,14 +125,14 @@ fn go_marked(
     Pause::Stopped(Stop::Steps)
 }
 
-/// Makes at most `most` steps, but none after one that led to a breakpoint or out of the range, or hit a watchpoint, and
-/// returns why the steps ended. Nothing but the machine changes. Allocations for speed may
-/// fail; where the watched bytes cannot be kept before a service or driver, the steps end as if the machine wanted memory.
+/// Makes at most `most` steps, but none after one that led to a breakpoint or out of the range, or hit a watchpoint,
+/// and returns why the steps ended. Nothing but the machine changes. Allocations for speed may fail; where the watched
+/// bytes cannot be kept before a service or driver, the steps end as if the machine wanted memory.
 pub fn go_on(
     alloc: Global,
     history: &mut History,
     most: u64,
-    span: Option<Span>,
+    span: Option<StepRange>,
     points: &[u32],
     watches: &[Point],
 ) -> Pause

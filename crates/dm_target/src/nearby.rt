@@ -5,10 +5,10 @@ ghost use Rattle.dm_machine.specs.Unmarked.{GoesUnmarked};
 ghost use Rattle.dm_machine.specs.Near.{GoesNear};
 ghost use Rattle.dm_target.specs.inner.Looking.{HasLevel, IsGuarded, IsGuardedAt, Keeps, PassesNear, level_of, pair_at, pairs_at, pairs_of};
 
-use crate::going::Span;
+use crate::going::StepRange;
 use dm_history::History;
 use dm_machine::Breakpoint;
-use dm_requests::{Access, Point};
+use dm_requests::{Point, WatchedAccess};
 use dm_touches::quiet::Marks;
 use std::alloc::{AllocError, Global};
 
@@ -16,15 +16,15 @@ use std::alloc::{AllocError, Global};
 const PARAGRAPHS: u64 = 0x1_1000;
 
 /// What the range of a watchpoint is marked with: 1 where writes count, 2 where reads do.
-fn level_of(access: Access) -> u8
+fn level_of(access: WatchedAccess) -> u8
     ensures is { result ≡ level_of access }
     ensures most { result ≤ 2 }
 {
     match access {
-        Access::Execute => 0,
-        Access::Write => 1,
-        Access::Read => 2,
-        Access::Either => 2,
+        WatchedAccess::Execute => 0,
+        WatchedAccess::Write => 1,
+        WatchedAccess::Read => 2,
+        WatchedAccess::Either => 2,
     }
 }
 
@@ -71,7 +71,8 @@ fn marks_of(alloc: Global, watches: &[Point]) -> Result<Marks, AllocError>
     Ok(marks)
 }
 
-/// Appends the pair of the segment with this linear address, if the segment reaches it. An `Err` is a failed allocation.
+/// Appends the pair of the segment with this linear address, if the segment reaches it. An `Err` is a failed
+/// allocation.
 fn put_pair(pairs: &mut Vec<Breakpoint>, segment: u16, address: u64) -> Result<(), AllocError>
     ensures { OnOk result (pairs.new.items ≡ pairs.old.items ++ pair_at segment address) }
 {
@@ -91,7 +92,8 @@ fn put_pairs_at(pairs: &mut Vec<Breakpoint>, segment: u16, address: u32) -> Resu
     put_pair(pairs, segment, address as u64 + 0x10_0000)
 }
 
-/// Replaces `pairs` by the pairs of the segment whose linear address may be one of these. An `Err` is a failed allocation.
+/// Replaces `pairs` by the pairs of the segment whose linear address may be one of these. An `Err` is a failed
+/// allocation.
 fn put_pairs(pairs: &mut Vec<Breakpoint>, segment: u16, points: &[u32]) -> Result<(), AllocError>
     ensures pairs { OnOk result (pairs.new.items ≡ pairs_of segment points.now) }
     ensures small { segment < 65536 }
@@ -116,8 +118,8 @@ pub(crate) fn marks_if_any(alloc: Global, watches: &[Point]) -> Option<Marks>
     }
 }
 
-/// Makes at most `most` steps with these marks, if there are any, and returns how many: steps of instructions in the segment
-/// that CS has, that touch nothing that is marked, none but the last of which leads to one of the pairs.
+/// Makes at most `most` steps with these marks, if there are any, and returns how many: steps of instructions in the
+/// segment that CS has, that touch nothing that is marked, none but the last of which leads to one of the pairs.
 fn run_marked(history: &mut History, most: u64, pairs: &[Breakpoint], marks: &Option<Marks>) -> u64
     ensures near { GoesNear pairs.now history.old.machine result history.new.machine }
     ensures unmarked { IfSome marks.now (λ m. GoesUnmarked m history.old.machine result history.new.machine) }
@@ -132,7 +134,7 @@ fn run_marked(history: &mut History, most: u64, pairs: &[Breakpoint], marks: &Op
 }
 
 /// Whether steps can be made at once: they do not end outside a range, and there are marks if there are watchpoints.
-fn may_pass(span: Option<Span>, watches: &[Point], marks: &Option<Marks>) -> bool
+fn may_pass(span: Option<StepRange>, watches: &[Point], marks: &Option<Marks>) -> bool
     ensures span { IsTrue result → span ≡ None }
     ensures marks { IsTrue result → marks.now ≡ None → watches.now ≡ [] }
 {
@@ -142,13 +144,13 @@ fn may_pass(span: Option<Span>, watches: &[Point], marks: &Option<Marks>) -> boo
     }
 }
 
-/// Makes at most `most` steps that hit no watchpoint, none but the last of which leads to a breakpoint, and returns how many.
-/// It may make none: it makes none where steps end outside a range, nor where there are watchpoints and no marks. `pairs` is
-/// room for breakpoints. Nothing but the machine changes.
+/// Makes at most `most` steps that hit no watchpoint, none but the last of which leads to a breakpoint, and returns how
+/// many. It may make none: it makes none where steps end outside a range, nor where there are watchpoints and no marks.
+/// `pairs` is room for breakpoints. Nothing but the machine changes.
 pub(crate) fn pass(
     history: &mut History,
     most: u64,
-    span: Option<Span>,
+    span: Option<StepRange>,
     points: &[u32],
     watches: &[Point],
     marks: &Option<Marks>,

@@ -5,7 +5,7 @@ ghost use Rattle.std.specs.List.{list_any};
 ghost use Rattle.dm_target.specs.Points.{is_same, none_set, type_of, with_break, with_point, with_watch, without_break, without_point, without_watch};
 
 use crate::going::is_among;
-use dm_requests::{Access, Point};
+use dm_requests::{Point, WatchedAccess};
 use std::alloc::{AllocError, Global};
 use std::marker::Model;
 
@@ -27,14 +27,14 @@ impl Model for Points {
 }
 
 /// The number of an access in a packet.
-fn type_of(access: Access) -> u8
+fn type_of(access: WatchedAccess) -> u8
     ensures { result ≡ type_of access }
 {
     match access {
-        Access::Execute => 0,
-        Access::Write => 2,
-        Access::Read => 3,
-        Access::Either => 4,
+        WatchedAccess::Execute => 0,
+        WatchedAccess::Write => 2,
+        WatchedAccess::Read => 3,
+        WatchedAccess::Either => 4,
     }
 }
 
@@ -135,8 +135,8 @@ impl Points {
         }
     }
 
-    /// Sets a breakpoint or watchpoint, unless it is set. Of a breakpoint the length does not matter. Any address and length
-    /// will do: no step reaches an address above FFFF:FFFF.
+    /// Sets a breakpoint or watchpoint, unless it is set. Of a breakpoint the length does not matter. Any address and
+    /// length will do: no step reaches an address above FFFF:FFFF.
     ///
     /// # Errors
     ///
@@ -146,7 +146,7 @@ impl Points {
         ensures err { OnErr result (self.new ≡ self.old) }
     {
         match point.access {
-            Access::Execute => self.set_break(point.address),
+            WatchedAccess::Execute => self.set_break(point.address),
             _ => self.set_watch(point),
         }
     }
@@ -156,7 +156,7 @@ impl Points {
         ensures { self.new ≡ without_point self.old point }
     {
         match point.access {
-            Access::Execute => self.clear_break(point.address),
+            WatchedAccess::Execute => self.clear_break(point.address),
             _ => self.clear_watch(point),
         }
     }

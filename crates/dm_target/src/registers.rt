@@ -10,8 +10,8 @@ use std::alloc::{AllocError, Global};
 /// How many registers there are.
 const COUNT: u32 = 35;
 
-/// The registers 0 to 15, in 32 bits: EAX, ECX, EDX, EBX, ESP, EBP, ESI, EDI, EIP, EFLAGS, CS, SS, DS, ES, FS, GS. ESP and
-/// EIP are linear addresses, the others the 16-bit registers, and FS and GS 0.
+/// The registers 0 to 15, in 32 bits: EAX, ECX, EDX, EBX, ESP, EBP, ESI, EDI, EIP, EFLAGS, CS, SS, DS, ES, FS, GS. ESP
+/// and EIP are linear addresses, the others the 16-bit registers, and FS and GS 0.
 fn core_values(machine: &Machine) -> [u32; 16]
     ensures { result ≡ core_values machine.now.cpu machine.now.memory }
 {

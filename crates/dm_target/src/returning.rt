@@ -49,8 +49,8 @@ fn stand(branch: &History, end: u64, points: &[u32], last: Option<u64>) -> (Opti
     (last, false)
 }
 
-/// Goes on to the next hit, or to `end`. `last` is the last hit so far. Returns the last one then, and whether it is the last
-/// one before `end`. Nothing but the machine changes. An `Err` is a failed allocation.
+/// Goes on to the next hit, or to `end`. `last` is the last hit so far. Returns the last one then, and whether it is
+/// the last one before `end`. Nothing but the machine changes. An `Err` is a failed allocation.
 fn look_further(
     alloc: Global,
     branch: &mut History,
@@ -87,8 +87,8 @@ fn found_with(last: Option<u64>, is_last: bool) -> Option<Found>
     }
 }
 
-/// Looks for hits from the branch's state on up to `end`: None if there is none, else the last one, or one after which there
-/// may be others. An `Err` is a failed allocation.
+/// Looks for hits from the branch's state on up to `end`: None if there is none, else the last one, or one after which
+/// there may be others. An `Err` is a failed allocation.
 fn survey(
     alloc: Global,
     branch: &mut History,
@@ -110,8 +110,8 @@ fn survey(
     Ok(found_with(last, false))
 }
 
-/// Where the next part to be looked at begins, whose end this is: at `low` or later. Where a hit is known, it is the later half
-/// of what is left; otherwise `part` steps, or those from a copy on.
+/// Where the next part to be looked at begins, whose end this is: at `low` or later. Where a hit is known, it is the
+/// later half of what is left; otherwise `part` steps, or those from a copy on.
 fn begin(history: &History, low: u64, end: u64, part: u64, last: Option<u64>) -> u64
     requires since { history.now.origin.steps ≤ low }
     requires before { low < end }
@@ -131,8 +131,8 @@ fn begin(history: &History, low: u64, end: u64, part: u64, last: Option<u64>) ->
     wish.max(low).min(end - 1)
 }
 
-/// Looks at the part of the history from the step `wish`, or from the last edits after it, up to `end`: returns where it begins,
-/// and what was found. An `Err` is a failed allocation.
+/// Looks at the part of the history from the step `wish`, or from the last edits after it, up to `end`: returns where
+/// it begins, and what was found. An `Err` is a failed allocation.
 fn look_at(
     alloc: Global,
     history: &History,
@@ -152,7 +152,8 @@ fn look_at(
     Ok((from, found))
 }
 
-/// The last hit before the present state, by its count of steps; None if there is none. An `Err` is a failed allocation.
+/// The last hit before the present state, by its count of steps; None if there is none. An `Err` is a failed
+/// allocation.
 fn seek(
     alloc: Global,
     history: &History,
@@ -241,9 +242,9 @@ fn go_back(history: &mut History, step: u64) -> Result<(), AllocError>
     Ok(())
 }
 
-/// Goes back to the last state before the present one at which the machine stands at one of these breakpoints, or from which a
-/// step hits one of these watchpoints, and tells which; where there is none, to the state where the history begins. A step
-/// that ends the program hits nothing. Later edits are dropped; nothing but the history changes.
+/// Goes back to the last state before the present one at which the machine stands at one of these breakpoints, or from
+/// which a step hits one of these watchpoints, and tells which; where there is none, to the state where the history
+/// begins. A step that ends the program hits nothing. Later edits are dropped; nothing but the history changes.
 ///
 /// # Errors
 ///

@@ -19,7 +19,7 @@ use crate::memory::{LAST, byte_at, reads_as};
 use dm_decode::decode;
 use dm_history::History;
 use dm_machine::{Machine, Stop};
-use dm_requests::{Access, Point};
+use dm_requests::{Point, WatchedAccess};
 use dm_space::Space;
 use dm_space::entry_points::entry_point_at;
 use dm_touches::{Element, Elements, FarAddress, Touched, touched};
@@ -33,14 +33,14 @@ fn is_in_range(point: &Point, address: u32) -> bool
 }
 
 /// Whether a watchpoint counts what is read or written.
-fn by_access(access: Access, read: bool, written: bool) -> bool
+fn by_access(access: WatchedAccess, read: bool, written: bool) -> bool
     ensures { result ≡ by_access access read written }
 {
     match access {
-        Access::Execute => false,
-        Access::Write => written,
-        Access::Read => read,
-        Access::Either => read || written,
+        WatchedAccess::Execute => false,
+        WatchedAccess::Write => written,
+        WatchedAccess::Read => read,
+        WatchedAccess::Either => read || written,
     }
 }
 
@@ -216,8 +216,8 @@ fn act(alloc: Global, history: &mut History, watches: &[Point]) -> Option<Pause>
     pause_at(stop, hit)
 }
 
-/// Makes one step, and looks whether it hits a watchpoint: None if it hits none, else why going on pauses. Nothing but the
-/// machine changes.
+/// Makes one step, and looks whether it hits a watchpoint: None if it hits none, else why going on pauses. Nothing but
+/// the machine changes.
 pub(crate) fn look(alloc: Global, history: &mut History, watches: &[Point]) -> Option<Pause>
     ensures looks { Looks watches.now history.old.machine result history.new.machine }
     ensures origin { history.new.origin ≡ history.old.origin }

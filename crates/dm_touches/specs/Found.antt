@@ -1,5 +1,6 @@
 -- What is found of the bytes that an instruction touches: free memory, headers of the arena, windows that show no page,
--- the ROM, and no memory. Of each kind there is at most one finding for a block, a header or a window: of the first byte.
+-- the ROM, and no memory. Of each kind there is at most one finding for a block, a header or a window: of the first
+-- byte.
 -- Source: MS-DOS Programmer's Reference, "Arena header"; LIM EMS 4.0, section 2 (windows).
 use Rattle.std.specs.Prelude.{ℕ, ◌+◌, ◌-◌, ◌*◌, ◌%◌, ◌==◌, ◌&&◌, not, nat_lt, is_some, Bool, if◌then◌else◌, List, [], ◌∷◌, ◌++◌, slice_index_or, Option, Some, None}
 use Rattle.std.specs.List.{flat_map}
@@ -82,8 +83,8 @@ abbrev pub of_headers : Bool → List FarAddress → List FarAddress → Option 
 of_headers a20 rs ws None headers = flat_map (of_header a20 rs ws) headers
 of_headers a20 rs ws (Some at) headers = []
 
--- what is found of the bytes that the instruction of `length` bytes at CS:IP touches: at the blocks, in the order of the
--- list, which may break at a segment (`broken`), and then by the map
+-- what is found of the bytes that the instruction of `length` bytes at CS:IP touches: at the blocks, in the order of
+-- the list, which may break at a segment (`broken`), and then by the map
 unfoldable pub touch_findings : Guest → Ins → ℕ → Option ℕ → List Header → List Finding
 touch_findings g i length broken headers =
     of_headers g.memory.a20 (bytes_of (reads g i length)) (bytes_of (writes g i length)) broken headers

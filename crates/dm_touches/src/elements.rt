@@ -10,7 +10,8 @@ pub struct FarAddress {
     pub offset: u16,
 }
 
-/// A byte or a word in memory, at a segment and an offset. The high byte of a word is at the next offset, modulo 65,536.
+/// A byte or a word in memory, at a segment and an offset. The high byte of a word is at the next offset, modulo
+/// 65,536.
 #[derive(Clone, Copy, Debug, PartialEq, Eq)]
 pub enum Element {
     Byte(u16, u16),

@@ -393,8 +393,8 @@ fn writes_by(
 }
 
 /// The bytes of memory that the instruction of `len` bytes at CS:IP reads and writes, beside its own: at most three
-/// elements each. Of a string instruction one repetition counts, none if CX is 0. A byte that the instruction changes is
-/// among those that it writes.
+/// elements each. Of a string instruction one repetition counts, none if CX is 0. A byte that the instruction changes
+/// is among those that it writes.
 #[tactic(auto, unfolding(crate::specs::Touches::reads, crate::specs::Touches::writes))]
 pub fn touched(ins: &Ins, len: u8, cpu: &Cpu, space: &Space) -> Touched
     ensures reads { result.reads ≡ reads (guest cpu.now space.now.memory) ins.now len }

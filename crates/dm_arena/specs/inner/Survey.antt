@@ -1,5 +1,5 @@
--- One walk for functions 48h and 49h: what it finds in the joined list, and where runs of free blocks begin. For private
--- contracts and proofs alone.
+-- One walk for functions 48h and 49h: what it finds in the joined list, and where runs of free blocks begin. For
+-- private contracts and proofs alone.
 use Rattle.std.specs.Prelude.{Bool, List, None, Some, false, true, ℕ, ◌++◌, ◌∷◌, ◌≡◌, ◌≤◌}
 use Rattle.std.specs.Bool.{OnFalse}
 use Rattle.dm_space.specs.Memory.{Memory}
@@ -16,13 +16,14 @@ use Rattle.dm_arena.specs.Blocks.{join, largest}
 use Rattle.dm_arena.specs.declared.fit.Choice.{Choice}
 use Rattle.dm_arena.specs.inner.Walks.{FindsOther, IsChoosing, IsJoinedFront, IsJoining, IsJoiningAll, pick}
 
--- r is the first block of the joined list of L, and K the headers of L after it; if r is one block, L is its header and K
+-- r is the first block of the joined list of L, and K the headers of L after it; if r is one block, L is its header and
+-- K
 pub record IsRunFront (upper : Bool) (S : Memory) (L : List Header) (r : Run) (K : List Header) : Type 0 where
   pub front : IsJoinedFront upper S L r.entry K
   pub single : OnFalse r.several (L ≡ r.entry.header ∷ K)
 
--- e is the first block of L with the free blocks after it taken in so far, and K the headers that are left; if none is taken
--- in, L is the header of e and K
+-- e is the first block of L with the free blocks after it taken in so far, and K the headers that are left; if none is
+-- taken in, L is the header of e and K
 pub record IsRunOpen (upper : Bool) (S : Memory) (L : List Header) (e : Entry) (several : Bool) (K : List Header) : Type 0 where
   pub joining : IsJoining upper S L e K
   pub single : OnFalse several (L ≡ e.header ∷ K)
@@ -45,8 +46,8 @@ pub record IsSurveying (upper : Bool) (S : Memory) (L : List Header) (strategy :
   pub choosing : IsChoosing upper S L strategy n None h choice K
   pub joins : MayJoin upper several S L from h K
 
--- what a walk over L finds: the block that the strategy takes for n paragraphs, the size of the largest that it looks at,
--- and a segment up to which no run of free blocks is to be joined
+-- what a walk over L finds: the block that the strategy takes for n paragraphs, the size of the largest that it looks
+-- at, and a segment up to which no run of free blocks is to be joined
 pub record IsSurvey (upper : Bool) (S : Memory) (L : List Header) (strategy : Strategy) (n : ℕ) (s : Survey) : Type 0 where
   pub block_is : s.choice.block ≡ pick upper strategy n None (join upper L)
   pub largest_is : s.choice.largest ≡ largest upper strategy (join upper L)
@@ -59,7 +60,8 @@ pub record IsOwnedAt (upper : Bool) (S : Memory) (segment : ℕ) (e : Entry) : T
   pub found : FindsOther upper S first_header segment (Some e)
   pub fits : next e.header ≤ 0xFFFF
 
--- why no block is found: memory spells no clear list, or no block of the list begins at the segment, or the link block does
+-- why no block is found: memory spells no clear list, or no block of the list begins at the segment, or the link block
+-- does
 abbrev pub IsNowhere : Bool → Memory → ℕ → ArenaRefusal → Type 0
 IsNowhere upper S segment Destroyed = NoArena S first_header
 IsNowhere upper S segment NoBlock = ((L : List Header) × IsArena S first_header L) × FindsOther upper S first_header segment None

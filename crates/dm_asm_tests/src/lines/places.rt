@@ -7,7 +7,7 @@
 
 use crate::checks::same;
 use crate::lines::rows::{Reader, part, put_written};
-use dm_lines::{Instruction, Item, outline, written};
+use dm_lines::{Instruction, Item, outline, written_of};
 use std::alloc::Global;
 use std::process::Abort;
 use std::test::Fail;
@@ -68,12 +68,12 @@ fn check_row(rt: &impl Abort, alloc: Global, row: &str) -> Result<(), Fail> {
     let mut text = String::new(alloc);
     put_written(
         &mut text,
-        written(words.mnemonic, &words.first, place, next),
+        written_of(words.mnemonic, &words.first, place, next),
     )?;
     text.push(',')?;
     put_written(
         &mut text,
-        written(words.mnemonic, &words.second, place, next),
+        written_of(words.mnemonic, &words.second, place, next),
     )?;
     same(rt, row, text.as_str().trim(), part(row, 2)?.trim());
     let mut alone = String::new(alloc);
@@ -83,7 +83,8 @@ fn check_row(rt: &impl Abort, alloc: Global, row: &str) -> Result<(), Fail> {
 }
 
 /// Definitions: dm_lines Placing written_of numeral_at number_at label_at standing displaced amount_byte
-/// Definitions: dm_lines Placing outline_of numeral_outline number_outline label_outline; dm_text words.StandIns is_move
+/// Definitions: dm_lines Placing outline_of numeral_outline number_outline label_outline
+/// Definitions: dm_text words.StandIns is_move
 #[test]
 fn labels_have_places(rt: HostRuntime) -> Result<(), Fail> {
     for row in PLACES.lines() {

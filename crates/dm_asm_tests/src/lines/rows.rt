@@ -11,7 +11,9 @@
 use crate::checks::same;
 use arrayvec::ArrayVec;
 use dm_ins::{Prefixes, Repeat};
-use dm_lines::{Amount, Instruction, Item, Items, Name, Statement, Term, Tokens, Value, read_line};
+use dm_lines::{
+    Amount, Expression, Instruction, Item, Items, Name, Statement, Term, Tokens, line_statement,
+};
 use dm_text::mnemonic_name;
 use dm_text::words::{Numeral, Written};
 use std::alloc::Global;
@@ -40,7 +42,7 @@ fn put_amount(text: &mut String, amount: Amount) -> Result<(), Fail> {
     Ok(())
 }
 
-fn put_value(text: &mut String, value: &Value) -> Result<(), Fail> {
+fn put_value(text: &mut String, value: &Expression) -> Result<(), Fail> {
     if let Some(label) = &value.label {
         put_name(text, label)?;
         text.push('+')?;
@@ -152,7 +154,7 @@ impl Reader {
 
     /// The statement of a line.
     pub(crate) fn read(&mut self, line: &[u8]) -> Option<Statement> {
-        read_line(line, &mut self.tokens, &mut self.items)
+        line_statement(line, &mut self.tokens, &mut self.items)
     }
 
     /// Tests a line.

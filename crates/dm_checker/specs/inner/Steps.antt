@@ -38,13 +38,13 @@ pub record IsUnlisted (s : State) : Type 0 where
   pub call : call_of s.cpu ≡ None
   pub none : (i : Ins) (length : ℕ) → BeginsWith (fetched s.memory s.cpu) i length → ⊥
 
--- a finding with its step: the step's number, the process, where in its code the program performed it, what it performed,
--- and who allocated or freed, by what is known after it
+-- a finding with its step: the step's number, the process, where in its code the program performed it, what it
+-- performed, and who allocated or freed, by what is known after it
 abbrev pub found_by : Before → ℕ → Known → Act → Finding → Found
 found_by b step k a f = record { step = step; process = b.present; site = b.site; act = a; finding = f; origin = origin_of k b.a20 f }
 
--- the report `new` is the report `old` with the findings `more` added, or, without `free`, those that are not about free
--- memory
+-- the report `new` is the report `old` with the findings `more` added, or, without `free`, those that are not about
+-- free memory
 abbrev pub ReportsMore : Bool → Reported → Reported → List Found → Type 0
 ReportsMore free old new more = (fs : List Found) → old ≡ report_of (reported free fs) → new ≡ report_of (reported free (fs ++ more))
 
@@ -61,8 +61,8 @@ pub record Touches (s : State) (w : Watch) (old new : List Finding) : Type 0 whe
   pub going : (t : State) → Answers s None t → FindsTouched s (shown_of w) more
   pub calling : (call : Call) → call_of s.cpu ≡ Some call → FindsTouched s (shown_of w) more
 
--- `new` is `old` with what is found of the step from s to t appended, but for the bytes that it touches; w is what memory
--- shows of the arena before it
+-- `new` is `old` with what is found of the step from s to t appended, but for the bytes that it touches; w is what
+-- memory shows of the arena before it
 pub record Looks (s t : State) (w : Watch) (old new : List Finding) : Type 0 where
   pub more : List Finding
   pub is : new ≡ old ++ more
@@ -72,8 +72,8 @@ pub record Looks (s t : State) (w : Watch) (old new : List Finding) : Type 0 whe
 abbrev pub IsPart : State → State → Type 0
 IsPart s t = (t ≡ s) ⊎ ((stop : Option Stop) × Answers s stop t)
 
--- `found` is what is found of a call of `step` from s to t, whether the machine goes on (None) or stops. k is what is known
--- before it of who allocated and who freed, and l what is known after it
+-- `found` is what is found of a call of `step` from s to t, whether the machine goes on (None) or stops. k is what is
+-- known before it of who allocated and who freed, and l what is known after it
 abbrev pub FindsAtAny : State → Option Stop → State → Known → Known → List Found → Type 0
 FindsAtAny s None t k l found = FindsAt s t l found
 FindsAtAny s (Some stop) t k l found = FindsAtStop s stop t k found

@@ -19,8 +19,8 @@ pub record IsTakenBy (most : ℕ) (c : Connected) (byte : ℕ) (d : Connected) (
   pub takes : Takes most c byte sent d
   pub written : Appends before after sent
 
--- what is sent for the byte was not written whole or not flushed, with this fault: an allocation failed, and nothing was
--- written; or a write failed after a first part, or the flush
+-- what is sent for the byte was not written whole or not flushed, with this fault: an allocation failed, and nothing
+-- was written; or a write failed after a first part, or the flush
 pub data IsUntaken (most : ℕ) (c : Connected) (byte : ℕ) (before after : Option (List ℕ)) (opened failures : ℕ) : Fault → Type 0 where
   lacking : Keeps before after → failures ≡ opened → IsUntaken most c byte before after opened failures OutOfMemory
   partly : (sent : List ℕ) (d : Connected) (fault : Fault) → Takes most c byte sent d → sent ≢ [] → AppendsPart before after sent → HasFailed opened failures → IsWriteFault fault

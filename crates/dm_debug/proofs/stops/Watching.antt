@@ -8,7 +8,7 @@ use Rattle.dm_space.proofs.Copies.{length-values, values-more}
 use Rattle.dm_services.specs.state.State.{State}
 use Rattle.dm_debug.specs.declared.stops.events.Event.{Event}
 use Rattle.dm_debug.specs.declared.stops.events.Event.TheVariants.{At, Address, Change, Call, Function}
-use Rattle.dm_debug.specs.declared.stops.going.Ending.{Ending}
+use Rattle.dm_debug.specs.declared.stops.going.RunEnd.{RunEnd}
 use Rattle.dm_debug.specs.stops.Events.{byte_at, bytes_for, bytes_there, comes, first_come, first_from, has_come}
 use Rattle.dm_debug.specs.stops.Runs.{RunsTo}
 use Rattle.dm_debug.specs.stops.Runs as runs
@@ -34,7 +34,7 @@ first_seen start events ws t o are is =
     sym (is ∙ ap (λ (l : List Watched). first_from (λ (w : Watched). comes t w.event w.before) 0 l) are ∙ first_kept start t 0 events)
 
 -- a run up to events that began with the memory of its first state
-pub goes_runs : (s : State) (most : ℕ) (events : List Event) (ending : Ending) (t : State) → GoesTo s.memory s most events ending t → RunsTo s most events ending t
+pub goes_runs : (s : State) (most : ℕ) (events : List Event) (ending : RunEnd) (t : State) → GoesTo s.memory s most events ending t → RunsTo s most events ending t
 goes_runs s most events ending t (watching.came made place before fewer is p step there) = runs.came made place before fewer is p step there
 goes_runs s most events ending t (watching.whole is p) = runs.whole is p
 goes_runs s most events ending t (watching.cut made before why fewer is other p step) = runs.cut made before why fewer is other p step

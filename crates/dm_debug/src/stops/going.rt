@@ -20,15 +20,16 @@ use std::alloc::{AllocError, Global};
 
 /// Why a run up to events has ended.
 #[derive(Clone, Copy, Debug, PartialEq, Eq)]
-pub enum Ending {
+pub enum RunEnd {
     /// The machine stopped, or all steps were made.
     Stopped(Stop),
     /// The last step led to an event, the first in the list that came: its place in the list, from 0.
     Came(usize),
 }
 
-/// Makes at least one step and at most `most`, none but the last of which leads to an event, and returns how many; an `Err` is
-/// why the machine stopped instead. `quick` says that marks tell whether events can come, and `pairs` is room for breakpoints.
+/// Makes at least one step and at most `most`, none but the last of which leads to an event, and returns how many; an
+/// `Err` is why the machine stopped instead. `quick` says that marks tell whether events can come, and `pairs` is room
+/// for breakpoints.
 fn advance(
     machine: &mut Machine,
     most: u64,
@@ -58,8 +59,8 @@ fn advance(
     }
 }
 
-/// Makes at most `most` steps, as `run_to` does. `watches` are the events with the bytes before the run, `quick` says that
-/// marks tell whether events can come, and `pairs` is room for breakpoints.
+/// Makes at most `most` steps, as `run_to` does. `watches` are the events with the bytes before the run, `quick` says
+/// that marks tell whether events can come, and `pairs` is room for breakpoints.
 fn go(
     machine: &mut Machine,
     most: u64,
@@ -68,7 +69,7 @@ fn go(
     quick: bool,
     marks: &Option<Marks>,
     pairs: &mut Vec<Breakpoint>,
-) -> Ending
+) -> RunEnd
     requires loaded { HasProgram machine.old }
     requires quick { IsTrue quick → list_all is_quick events.now ≡ true }
     requires places { marks.now ≡ None → list_all is_place events.now ≡ true }
@@ -79,17 +80,17 @@ fn go(
     let mut left = most;
     for _ in 0..most {
         if left == 0 {
-            return Ending::Stopped(Stop::Steps);
+            return RunEnd::Stopped(Stop::Steps);
         }
         match advance(machine, left, events, quick, marks, pairs) {
             Ok(made) => left -= made,
-            Err(stop) => return Ending::Stopped(stop),
+            Err(stop) => return RunEnd::Stopped(stop),
         }
         if let Some(place) = first_come(watches, machine) {
-            return Ending::Came(place);
+            return RunEnd::Came(place);
         }
     }
-    Ending::Stopped(Stop::Steps)
+    RunEnd::Stopped(Stop::Steps)
 }
 
 /// Marks on the memory that these events look at; None if all are places. An `Err` is a failed allocation.
@@ -103,8 +104,8 @@ fn marks_if_any(alloc: Global, events: &[Event]) -> Result<Option<Marks>, AllocE
     Ok(Some(marks_of(alloc, events)?))
 }
 
-/// Makes at most `most` steps, but none after the first one that leads to one of the events, and returns why the steps ended.
-/// A program must be loaded.
+/// Makes at most `most` steps, but none after the first one that leads to one of the events, and returns why the steps
+/// ended. A program must be loaded.
 ///
 /// # Errors
 ///
@@ -114,14 +115,14 @@ pub fn run_to(
     machine: &mut Machine,
     most: u64,
     events: &[Event],
-) -> Result<Ending, AllocError>
+) -> Result<RunEnd, AllocError>
     requires { HasProgram machine.old }
     ensures ok { IfOk result (λ ending. RunsTo machine.old most events.now ending machine.new) }
     ensures err { OnErr result (machine.new ≡ machine.old) }
     ensures loaded { HasProgram machine.new }
 {
     if most == 0 || events.is_empty() {
-        return Ok(Ending::Stopped(machine.run(most)));
+        return Ok(RunEnd::Stopped(machine.run(most)));
     }
     let watches = watches_of(alloc, events, machine.space())?;
     let mut pairs = Vec::new(alloc);

@@ -8,4 +8,4 @@ mod memory;
 mod nearby;
 
 pub use events::{Event, Range};
-pub use going::{Ending, run_to};
+pub use going::{RunEnd, run_to};

@@ -14,7 +14,8 @@ use dm_machine::{Breakpoint, Machine};
 use dm_touches::quiet::Marks;
 use std::alloc::AllocError;
 
-/// Appends the pair of the segment with this linear address, if the segment reaches it. An `Err` is a failed allocation.
+/// Appends the pair of the segment with this linear address, if the segment reaches it. An `Err` is a failed
+/// allocation.
 fn put_pair(pairs: &mut Vec<Breakpoint>, segment: u16, address: u64) -> Result<(), AllocError>
     ensures { OnOk result (pairs.new.items ≡ pairs.old.items ++ pair_at segment address) }
 {
@@ -46,8 +47,8 @@ fn put_pairs_for(pairs: &mut Vec<Breakpoint>, segment: u16, event: &Event) -> Re
     Ok(())
 }
 
-/// Replaces `pairs` by the pairs at which events that are places may come, while CS is the segment. An `Err` is a failed
-/// allocation.
+/// Replaces `pairs` by the pairs at which events that are places may come, while CS is the segment. An `Err` is a
+/// failed allocation.
 fn put_pairs(pairs: &mut Vec<Breakpoint>, segment: u16, events: &[Event]) -> Result<(), AllocError>
     ensures pairs { OnOk result (pairs.new.items ≡ pairs_of segment events.now) }
     ensures small { segment < 65536 }
@@ -76,8 +77,8 @@ pub(crate) fn are_places(events: &[Event]) -> bool
     events.iter().all(|event| is_place(event))
 }
 
-/// Makes at most `most` steps with these marks, if there are any, and returns how many: steps of instructions in the segment
-/// that CS has, that touch nothing that is marked, none but the last of which leads to one of the pairs.
+/// Makes at most `most` steps with these marks, if there are any, and returns how many: steps of instructions in the
+/// segment that CS has, that touch nothing that is marked, none but the last of which leads to one of the pairs.
 fn run_marked(machine: &mut Machine, most: u64, pairs: &[Breakpoint], marks: &Option<Marks>) -> u64
     requires { HasProgram machine.old }
     ensures near { GoesNear pairs.now machine.old result machine.new }
@@ -91,9 +92,9 @@ fn run_marked(machine: &mut Machine, most: u64, pairs: &[Breakpoint], marks: &Op
     }
 }
 
-/// Makes at most `most` steps, none but the last of which leads to an event, and returns how many. It may make none. `quick`
-/// says that marks tell whether events can come; where there are no marks all events are places. `pairs` is room for
-/// breakpoints.
+/// Makes at most `most` steps, none but the last of which leads to an event, and returns how many. It may make none.
+/// `quick` says that marks tell whether events can come; where there are no marks all events are places. `pairs` is
+/// room for breakpoints.
 pub(crate) fn pass(
     machine: &mut Machine,
     most: u64,

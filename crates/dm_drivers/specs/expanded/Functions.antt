@@ -124,8 +124,8 @@ call c CountPages = on_cpu c (settled c.cpu (handles.count_pages c.x c.cpu.dx) (
 -- handles in use
 call c ListPages = after_list c (names.list_pages c.x c.cpu.es c.cpu.di) (λ count. record c.cpu { bx = count })
 -- with AL = 0 the map of the windows is written at ES:DI, with 1 they are set from the map at DS:SI, with 2 the map at
--- DS:SI is read, that of the windows written at ES:DI, and then they are set, and with 3 AL becomes the size of a map in
--- bytes, 16; status 8Fh for another value
+-- DS:SI is read, that of the windows written at ES:DI, and then they are set, and with 3 AL becomes the size of a map
+-- in bytes, 16; status 8Fh for another value
 call c WholeMap = after_call c (whole_map c.x (byte_of c.cpu Al) c.cpu.es c.cpu.di c.cpu.ds c.cpu.si) (numbered c.cpu)
 -- windows show pages of the handle in DX, or nothing, as CX pairs at DS:SI say, which name windows by number
 -- (AL = 0) or by segment (AL = 1); the other windows stay. Status 8Fh for another value of AL

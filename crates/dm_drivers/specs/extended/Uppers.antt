@@ -1,6 +1,6 @@
 -- The registers that a call on upper memory blocks returns (XMS 3.0, functions 10h to 12h). Success sets AX to 1; an
--- error sets AX to 0 and BL to its code. Registers that are not named stay; so does memory, and after an error so do the
--- tables.
+-- error sets AX to 0 and BL to its code. Registers that are not named stay; so does memory, and after an error so do
+-- the tables.
 use Rattle.std.specs.Prelude.{Result, Ok, Err}
 use Rattle.dm_cpu.specs.declared.cpu.Cpu.{Cpu}
 use Rattle.dm_xms.specs.declared.uppers.UpperRefusal.{UpperRefusal}

@@ -67,8 +67,8 @@ pub enum Function {
     Unknown,
 }
 
-/// The function of the extended memory driver with this number, which calls have in AH; `Unknown` for a number that the driver does not
-/// have.
+/// The function of the extended memory driver with this number, which calls have in AH; `Unknown` for a number that the
+/// driver does not have.
 #[inline(always)]
 pub fn function_of(number: u8) -> Function
     ensures { result ≡ function_of number }

@@ -23,7 +23,8 @@ pub struct Process {
 /// How many bytes of an environment are searched for its end.
 const MOST: u16 = 0x8000;
 
-/// The offset of the two zeros behind the variables of the environment at a segment; 8000h if there are none below that.
+/// The offset of the two zeros behind the variables of the environment at a segment; 8000h if there are none below
+/// that.
 fn end_of_variables(space: &Space, segment: u16) -> u16
     ensures end { result ≡ end_of_variables space.now.memory segment }
     ensures most { result ≤ 0x8000 }

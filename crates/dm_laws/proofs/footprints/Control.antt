@@ -1,4 +1,5 @@
--- The stack, interrupts, jumps, calls, returns and quotients in two memories that show the same bytes where they are read.
+-- The stack, interrupts, jumps, calls, returns and quotients in two memories that show the same bytes where they are
+-- read.
 use Rattle.std.proofs.Common.{◌≡◌, ℕ, ◌+◌, ◌*◌, ◌%◌, ◌<◌, Bool, true, false, List, [], Option, Some, None, refl, sym, ◌∙◌, ap, ap₂, subst, arith}
 use Rattle.std.specs.Prelude.{All, if◌then◌else◌}
 use Rattle.std.proofs.lemmas.List.Elements.{All-nil, All-weaker}

@@ -1,4 +1,5 @@
--- Moves, arithmetic, logic, shifts, products and quotients in two memories that show the same bytes where they are read.
+-- Moves, arithmetic, logic, shifts, products and quotients in two memories that show the same bytes where they are
+-- read.
 use Rattle.std.proofs.Common.{◌≡◌, ℕ, ◌-◌, ◌%◌, Bool, false, [], Option, Some, refl, ap, ap₂}
 use Rattle.std.specs.Prelude.{All}
 use Rattle.dm_space.specs.Memory.{Memory}

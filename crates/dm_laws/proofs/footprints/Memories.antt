@@ -1,5 +1,5 @@
--- Stores into memories of one map: where both have the same byte before, and where the bytes are stored, both have the same
--- byte afterwards.
+-- Stores into memories of one map: where both have the same byte before, and where the bytes are stored, both have the
+-- same byte afterwards.
 use Rattle.std.proofs.Common.{◌≡◌, ◌≢◌, ℕ, zero, suc, ◌-◌, ◌/◌, ◌%◌, nat_lt, Bool, true, false, List, [], ◌∷◌, map, length, get_or, set, Option, Some, None, refl, sym, ◌∙◌, ap, subst, arith, inl, inr, get_or-set_other}
 use Rattle.std.proofs.lemmas.Bool.{cases_eq}
 use Rattle.std.proofs.lemmas.List.Elements.{All-head, All-tail}

@@ -30,8 +30,8 @@ use Rattle.dm_laws.specs.footprints.Footprints.{StoredByte, stored}
 
 -- ---- the same done in two memories
 
--- guest a comes from memory m, and guest b from memory n, by one list of stores, at these addresses; their registers and flags
--- are the same
+-- guest a comes from memory m, and guest b from memory n, by one list of stores, at these addresses; their registers
+-- and flags are the same
 pub record Done (m n : Memory) (a b : Guest) (fs : List FarAddress) : Type 0 where
   pub registers : b.cpu ≡ a.cpu
   pub stores : List StoredByte

@@ -1,5 +1,5 @@
--- The instructions whose effect goes by their first operand though they read no memory for it: jumps and returns. In the table
--- it is a displacement, a number, or none.
+-- The instructions whose effect goes by their first operand though they read no memory for it: jumps and returns. In
+-- the table it is a displacement, a number, or none.
 use Rattle.std.proofs.Common.{◌≡◌, ℕ, Bool, true, false, cond, not, List, Option, Some, None, refl, sym, ◌∙◌, ap, subst}
 use Rattle.std.specs.List.{list_all}
 use Rattle.std.proofs.Math.Bool.{Bool-set}

@@ -88,7 +88,8 @@ pub record IsUnpacked (n : ℕ) : Type 0 where
 abbrev pub unpacked : ℕ → ℕ
 unpacked n = n % 16
 
--- AL is the digit of a sum, and 10 for the carry flag makes the number; AH, which was h, has taken the carry, modulo 256
+-- AL is the digit of a sum, and 10 for the carry flag makes the number; AH, which was h, has taken the carry, modulo
+-- 256
 pub record HasUnpackedSum (y : Accumulator) (number h : ℕ) : Type 0 where
   pub digit : low y.ax < 10
   pub sum : low y.ax + 10 * from_bool y.flags.carry ≡ number

@@ -34,8 +34,8 @@ ArePacked (p ∷ L) = IsPacked p.a × IsPacked p.b × ArePacked L
 abbrev pub loaded : Accumulator → ℕ → Accumulator
 loaded x d = record x { ax = word_of_halves (high x.ax) d }
 
--- one place of a sum: AL takes the first byte, ADC adds the second one, DAA adjusts; and one of a difference, by SBB and
--- DAS
+-- one place of a sum: AL takes the first byte, ADC adds the second one, DAA adjusts; and one of a difference, by SBB
+-- and DAS
 abbrev pub place_added : Accumulator → Places → Accumulator
 place_added x p = by_adjustment DecimalAddition (by_addition (loaded x p.a) p.b x.flags.carry)
 

@@ -24,9 +24,9 @@ pub record Divides (w : Width) (n d : ℕ) : Type 0 where
 abbrev pub UnsignedDivisionDivides : Type 0
 UnsignedDivisionDivides = (w : Width) (n d : ℕ) → Divides w n d
 
--- by the signed numbers that the values stand for: the quotient times the divisor, and the remainder, make the dividend;
--- the remainder is nearer to zero than the divisor, and not on the other side of zero than the dividend; the quotient is
--- from -127 to 127, or from -32,767 to 32,767
+-- by the signed numbers that the values stand for: the quotient times the divisor, and the remainder, make the
+-- dividend; the remainder is nearer to zero than the divisor, and not on the other side of zero than the dividend; the
+-- quotient is from -127 to 127, or from -32,767 to 32,767
 pub record IsSignedQuotient (w : Width) (n d : ℕ) (r : Division) : Type 0 where
   pub number : signed w r.quotient *ℤ signed w d +ℤ signed w r.remainder ≡ signed_double w n
   pub less : unsigned_abs (signed w r.remainder) < unsigned_abs (signed w d)

@@ -1,5 +1,5 @@
--- What shifts and rotates mean: a shift by a + b bits is one by a bits and then one by b; to the left they double, to the
--- right they halve; a rotate undoes the one in the other direction, and a whole turn changes nothing.
+-- What shifts and rotates mean: a shift by a + b bits is one by a bits and then one by b; to the left they double, to
+-- the right they halve; a rotate undoes the one in the other direction, and a whole turn changes nothing.
 -- Source: Intel 8086 Family User's Manual, section 2.7, Bit Manipulation Instructions, Shifts and Rotates.
 use Rattle.std.specs.Prelude.{pos, false, ℕ, ◌%◌, ◌*ℤ◌, ◌*◌, ◌+ℤ◌, ◌+◌, ◌/◌, ◌<◌, ◌^◌, ◌≡◌}
 use Rattle.dm_alu.specs.declared.flags.Flags.{Flags}

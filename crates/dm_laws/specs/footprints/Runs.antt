@@ -1,5 +1,5 @@
--- What a run of instructions depends on: registers, flags, the map of memory, and the bytes that are fetched or read before the
--- run itself has written them.
+-- What a run of instructions depends on: registers, flags, the map of memory, and the bytes that are fetched or read
+-- before the run itself has written them.
 use Rattle.std.specs.Prelude.{◌≡◌, ◌⊎◌, ℕ, ◌<◌, List, [], ◌++◌, map, All}
 use Rattle.std.specs.List.{range_with_len}
 use Rattle.dm_space.specs.EightBytes.{sixteen_after}
@@ -17,9 +17,9 @@ use Rattle.dm_laws.specs.footprints.Footprints.{seen, IsAmong, StoredByte, store
 abbrev pub own : Cpu → ℕ → List FarAddress
 own c length = map (λ k. far c.cs (up c.ip k)) (range_with_len 0 length)
 
--- instructions lead from guest g to this guest, each with which the bytes at CS:IP begin; they write at these addresses, in
--- this order. Each byte that is fetched or read is among the inputs, or the run has written it before. SP is a word (numbers of
--- definitions have no bound)
+-- instructions lead from guest g to this guest, each with which the bytes at CS:IP begin; they write at these
+-- addresses, in this order. Each byte that is fetched or read is among the inputs, or the run has written it before. SP
+-- is a word (numbers of definitions have no bound)
 pub data LeadsWriting (g : Guest) (inputs : List FarAddress) : List FarAddress → Guest → Type 0 where
   no_instruction : LeadsWriting g inputs [] g
   one_more : (written : List FarAddress) (k : Guest) (i : Ins) (length : ℕ) → LeadsWriting g inputs written k
@@ -27,8 +27,8 @@ pub data LeadsWriting (g : Guest) (inputs : List FarAddress) : List FarAddress �
       → All (λ f. IsAmong g.memory inputs f ⊎ IsAmong g.memory written f) (own k.cpu length ++ bytes_of (reads k i length))
       → LeadsWriting g inputs (written ++ bytes_of (writes k i length)) (effect k i length)
 
--- from guest h a run leads, too, with the same inputs, that writes at the same addresses: it leaves the same registers and flags
--- as the one from g to k, and stores the same bytes
+-- from guest h a run leads, too, with the same inputs, that writes at the same addresses: it leaves the same registers
+-- and flags as the one from g to k, and stores the same bytes
 pub record RunsTheSame (g h k : Guest) (inputs written : List FarAddress) : Type 0 where
   pub end : Guest
   pub run : LeadsWriting h inputs written end

@@ -13,9 +13,9 @@ use Rattle.dm_laws.specs.footprints.Runs.{own}
 abbrev pub guest_of : State → Guest
 guest_of s = guest s.cpu s.memory
 
--- where neither a service nor a driver acts in state s, but an instruction: state t whose program has not ended makes a step by
--- the same instruction, which does the same there, if t agrees with s on registers, on the map, on the bytes that the
--- instruction is decoded from, and on those that it reads. All else of both may differ
+-- where neither a service nor a driver acts in state s, but an instruction: state t whose program has not ended makes a
+-- step by the same instruction, which does the same there, if t agrees with s on registers, on the map, on the bytes
+-- that the instruction is decoded from, and on those that it reads. All else of both may differ
 abbrev pub StepsDependOnReads : Type 0
 StepsDependOnReads =
     (s t : State) (i : Ins) (length : ℕ) → entry_point_at s.cpu.cs s.cpu.ip ≡ None → t.exited ≡ None → BeginsWith (fetched s.memory s.cpu) i length

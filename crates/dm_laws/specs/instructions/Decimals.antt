@@ -1,5 +1,5 @@
--- The laws of decimal digits over instructions: ADD or ADC and DAA, SUB or SBB and DAS, ADD or ADC and AAA, SUB or SBB and
--- AAS, MUL and AAM, AAD and DIV, one after the other.
+-- The laws of decimal digits over instructions: ADD or ADC and DAA, SUB or SBB and DAS, ADD or ADC and AAA, SUB or SBB
+-- and AAS, MUL and AAM, AAD and DIV, one after the other.
 -- Source: Intel 8086 Family User's Manual, section 2.7, Arithmetic Instructions: packed and unpacked decimal numbers.
 use Rattle.std.specs.Prelude.{Bool, false, true, ℕ, ◌*◌, ◌+◌, ◌<◌, ◌≡◌}
 use Rattle.std.specs.Int.{from_bool}

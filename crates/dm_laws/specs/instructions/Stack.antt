@@ -15,8 +15,8 @@ use Rattle.dm_operations.specs.declared.stack.StackOperation.TheVariants.{Pop, P
 use Rattle.dm_operations.specs.Stack.{pushed_value, stack_effect}
 use Rattle.dm_laws.specs.instructions.WellFormed.{IsWellFormed}
 
--- memory has the sizes of the machine, and the word below the stack's top is at two places that keep what is written: it
--- is not in ROM, nor where no memory is, nor does a window show one byte of it twice
+-- memory has the sizes of the machine, and the word below the stack's top is at two places that keep what is written:
+-- it is not in ROM, nor where no memory is, nor does a window show one byte of it twice
 pub record HasRoomOnStack (g : Guest) : Type 0 where
   pub fits : Fits g.memory
   pub low : IsWritable (place g.memory (linear g.memory.a20 g.cpu.ss (down g.cpu.sp 2)))

@@ -35,6 +35,7 @@ pub record IsWellFormed (g : Guest) : Type 0 where
   pub registers : HasWords g.cpu
   pub memory : HasBytes g.memory
 
--- an instruction that some bytes spell leaves a well-formed guest well-formed; `len` is its length, as far as IP goes on
+-- an instruction that some bytes spell leaves a well-formed guest well-formed; `len` is its length, as far as IP goes
+-- on
 abbrev pub InstructionsKeepWellFormed : Type 0
 InstructionsKeepWellFormed = (g : Guest) (i : Ins) (bytes : List ℕ) (len : ℕ) → IsWellFormed g → Spells i bytes → IsWellFormed (effect g i len)

@@ -50,10 +50,10 @@ pub record LeavesBlocks (taken : List Header) {upper : Bool} {ps : Processes} {c
   pub at_first : IsArena l.execs.starts.middle first_header taken
   pub at_last : IsArena l.last first_header taken
 
--- the list of blocks is back: what memory spells after the end is what it spelled before the call, once free blocks side
--- by side are joined in both. No block had the child's segment as its owner before; and where upper memory belongs to
--- the arena, the list does not come to have a header at the link block's segment by this, which only a list could that
--- passes over that segment
+-- the list of blocks is back: what memory spells after the end is what it spelled before the call, once free blocks
+-- side by side are joined in both. No block had the child's segment as its owner before; and where upper memory belongs
+-- to the arena, the list does not come to have a header at the link block's segment by this, which only a list could
+-- that passes over that segment
 abbrev pub ArenaIsBack : Type 0
 ArenaIsBack =
     (upper : Bool) (ps rs : Processes) (c r : Cpu) (m f : Memory) (store : List (List ℕ × List ℕ)) (strategy : Strategy) (code : ℕ)

@@ -14,9 +14,9 @@ IsNoService None = Unit {0}
 IsNoService (Some (entry_point.Service service)) = ⊥
 IsNoService (Some (entry_point.Driver driver)) = Unit {0}
 
--- no state is without a step: the program has ended, a driver acts, the bytes at CS:IP begin with an instruction, or they
--- begin with none. It is said by two negations, as the definition does not say how to find out which: `decode` does. (That
--- services have results is proved by `serve` of `dm_services`, which returns one unless memory runs out)
+-- no state is without a step: the program has ended, a driver acts, the bytes at CS:IP begin with an instruction, or
+-- they begin with none. It is said by two negations, as the definition does not say how to find out which: `decode`
+-- does. (That services have results is proved by `serve` of `dm_services`, which returns one unless memory runs out)
 abbrev pub StepIsPossible : Type 0
 StepIsPossible = (s : State) → IsNoService (entry_point_at s.cpu.cs s.cpu.ip) → ((x : Answer) → MakesStep s x → ⊥) → ⊥
 

@@ -1,5 +1,5 @@
--- That console input may come in pieces: a program which does not ask how much of it is there makes the same steps as with
--- all of it from the start.
+-- That console input may come in pieces: a program which does not ask how much of it is there makes the same steps as
+-- with all of it from the start.
 use Rattle.std.specs.Prelude.{◌≡◌, ◌+◌, ◌++◌, ◌==◌, ◌&&◌, ℕ, nat_lt, length, Bool, true, false, List, [], ◌∷◌, Option, Some, None}
 use Rattle.std.specs.List.{concat}
 use Rattle.dm_space.specs.declared.entry_points.EntryPoint.{EntryPoint}
@@ -33,8 +33,8 @@ is_used_up (byte ∷ rest) = false
 abbrev pub polls_in_vain : State → Bool
 polls_in_vain s = byte_of s.cpu Dl == 0xFF && is_used_up s.console.input
 
--- whether a function of INT 21h returns, in this state, how much input there is: 0Bh that there is none, 06h (and 0Ch with
--- it) likewise, and 3Fh fewer bytes than CX
+-- whether a function of INT 21h returns, in this state, how much input there is: 0Bh that there is none, 06h (and 0Ch
+-- with it) likewise, and 3Fh fewer bytes than CX
 abbrev pub asks_by : State → Function → Bool
 asks_by s function.EchoCharacter = false
 asks_by s function.WriteCharacter = false
@@ -74,8 +74,8 @@ asks_at s (Some (entry_point.Service service.Dos)) = asks_by s (function_of (byt
 abbrev pub asks : State → Bool
 asks s = asks_at s (entry_point_at s.cpu.cs s.cpu.ip)
 
--- a step that does not ask how much input there is, and does not stop for want of it, is the same with more input after it,
--- whether or not still more may come
+-- a step that does not ask how much input there is, and does not stop for want of it, is the same with more input after
+-- it, whether or not still more may come
 abbrev pub StepsTakeMoreInput : Type 0
 StepsTakeMoreInput =
     (s : State) (x : Answer) (bytes : List ℕ) (more : Bool) → MakesStep s x → asks s ≡ false → (x.stop ≡ Some InputEnded → ⊥)
@@ -86,15 +86,15 @@ pub data GoesUnasked (s : State) : ℕ → State → Type 0 where
   here : GoesUnasked s 0 s
   further : (n : ℕ) (t u : State) → GoesUnasked s n t → asks t ≡ false → MakesStep t (record { stop = None; state = u }) → GoesUnasked s (n + 1) u
 
--- so many steps lead from the first state to the last, none of which ended the program or asked how much input there is,
--- where each of these pieces of input was supplied, one after another, between two of the steps
+-- so many steps lead from the first state to the last, none of which ended the program or asked how much input there
+-- is, where each of these pieces of input was supplied, one after another, between two of the steps
 pub data GoesByPieces : State → List (List ℕ) → ℕ → State → Type 0 where
   whole : (s t : State) (n : ℕ) → GoesUnasked s n t → GoesByPieces s [] n t
   piece : (s t u : State) (n m : ℕ) (bytes : List ℕ) (pieces : List (List ℕ)) → GoesUnasked s n t → GoesByPieces (supplied bytes t.console.more t) pieces m u
       → GoesByPieces s (bytes ∷ pieces) (n + m) u
 
--- where a program runs on input that comes in pieces, and no step asks how much of it is there, the same steps are made with
--- all the pieces after the input from the start, whether or not more may come then
+-- where a program runs on input that comes in pieces, and no step asks how much of it is there, the same steps are made
+-- with all the pieces after the input from the start, whether or not more may come then
 abbrev pub PiecesAreOneInput : Type 0
 PiecesAreOneInput =
     (s t : State) (pieces : List (List ℕ)) (n : ℕ) (more : Bool) → GoesByPieces s pieces n t → Goes (supplied (concat pieces) more s) n (supplied [] more t)

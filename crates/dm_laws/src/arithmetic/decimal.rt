@@ -18,8 +18,8 @@ pub fn unpacked_digits_add()
     ensures { UnpackedDigitsAdd }
 {}
 
-/// SUB or SBB and then AAS subtract a digit from another one in AL, also in ASCII. The borrow goes into CF and comes from
-/// AH.
+/// SUB or SBB and then AAS subtract a digit from another one in AL, also in ASCII. The borrow goes into CF and comes
+/// from AH.
 pub fn unpacked_digits_subtract()
     ensures { UnpackedDigitsSubtract }
 {}
@@ -34,8 +34,8 @@ pub fn unpacked_digits_divide()
     ensures { UnpackedDigitsDivide }
 {}
 
-/// Packed decimal numbers of any length are added byte by byte, from the lowest on, by ADC and DAA, and subtracted by SBB
-/// and DAS.
+/// Packed decimal numbers of any length are added byte by byte, from the lowest on, by ADC and DAA, and subtracted by
+/// SBB and DAS.
 pub fn numbers_add_and_subtract()
     ensures { NumbersAddAndSubtract }
 {}

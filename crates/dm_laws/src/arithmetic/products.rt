@@ -1,8 +1,8 @@
 //! Laws of products and quotients: MUL, IMUL, DIV and IDIV. Each is the contract of a function that does nothing.
 ghost use Rattle.dm_laws.specs.arithmetic.Products.{DivisionUndoesMultiplication, SignedDivisionDivides, SignedDivisionUndoesMultiplication, UnsignedDivisionDivides};
 
-/// The quotient of DIV times the divisor, and the remainder, which is less than the divisor, make the dividend. There is
-/// a quotient wherever one fits.
+/// The quotient of DIV times the divisor, and the remainder, which is less than the divisor, make the dividend. There
+/// is a quotient wherever one fits.
 pub fn unsigned_division_divides()
     ensures { UnsignedDivisionDivides }
 {}

@@ -9,8 +9,8 @@ pub fn instructions_keep_well_formed()
     ensures { InstructionsKeepWellFormed }
 {}
 
-/// MOVS, STOS and LODS with a repeat prefix do as many elements as CX says, one a repetition. CX counts down to 0, and IP
-/// is at the instruction until then.
+/// MOVS, STOS and LODS with a repeat prefix do as many elements as CX says, one a repetition. CX counts down to 0, and
+/// IP is at the instruction until then.
 pub fn repetition_is_elements()
     ensures { RepetitionIsElements }
 {}
@@ -25,8 +25,8 @@ pub fn push_then_pop_keeps_registers()
     ensures { PushThenPopKeepsRegisters }
 {}
 
-/// ADD or ADC of AL and then DAA or AAA, SUB or SBB and then DAS or AAS, and MUL of a byte and then AAM compute in decimal
-/// digits.
+/// ADD or ADC of AL and then DAA or AAA, SUB or SBB and then DAS or AAS, and MUL of a byte and then AAM compute in
+/// decimal digits.
 pub fn instructions_compute_in_decimal()
     ensures { InstructionsComputeInDecimal }
 {}

@@ -1,5 +1,5 @@
-//! Laws of what instructions do. They bind the definition of [`dm_exec`], by which instructions are proved: no code runs
-//! here.
+//! Laws of what instructions do. They bind the definition of [`dm_exec`], by which instructions are proved: no code
+//! runs here.
 
 mod laws;
 

@@ -1,15 +1,15 @@
-//! Laws of a child's start (function 4Bh) and its end (4Ch and the like) together: each is the contract of a function that
-//! does nothing.
+//! Laws of a child's start (function 4Bh) and its end (4Ch and the like) together: each is the contract of a function
+//! that does nothing.
 ghost use Rattle.dm_laws.specs.processes.Lives.{ArenaIsBack, ParentGoesOn, VectorsAreBack};
 
-/// After a child's end its parent goes on: the processes are as they were, with the exit code for 4Dh, and the registers
-/// are those that a successful call of 4Bh returns, whatever the child has done.
+/// After a child's end its parent goes on: the processes are as they were, with the exit code for 4Dh, and the
+/// registers are those that a successful call of 4Bh returns, whatever the child has done.
 pub fn parent_goes_on()
     ensures { ParentGoesOn }
 {}
 
-/// A child that leaves the list of blocks as it was at its start leaves, once it has ended, the list that there was before
-/// the call, once free blocks side by side are joined in both.
+/// A child that leaves the list of blocks as it was at its start leaves, once it has ended, the list that there was
+/// before the call, once free blocks side by side are joined in both.
 pub fn arena_is_back()
     ensures { ArenaIsBack }
 {}

@@ -1,5 +1,5 @@
-//! Laws of processes: what a child that has ended leaves to its parent. They bind the definitions of [`dm_proc`], by which
-//! the calls themselves are proved: no code runs here.
+//! Laws of processes: what a child that has ended leaves to its parent. They bind the definitions of [`dm_proc`], by
+//! which the calls themselves are proved: no code runs here.
 
 mod laws;
 

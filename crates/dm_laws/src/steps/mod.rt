@@ -1,4 +1,5 @@
-//! Laws of single steps. They bind the definition of [`dm_machine`], by which steps and runs are proved: no code runs here.
+//! Laws of single steps. They bind the definition of [`dm_machine`], by which steps and runs are proved: no code runs
+//! here.
 
 mod laws;
 

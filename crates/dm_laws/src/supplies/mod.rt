@@ -1,5 +1,5 @@
-//! Laws of console input that comes while a program runs. They bind the definitions of [`dm_services`] and [`dm_machine`], by which steps and
-//! runs are proved: no code runs here.
+//! Laws of console input that comes while a program runs. They bind the definitions of [`dm_services`] and
+//! [`dm_machine`], by which steps and runs are proved: no code runs here.
 
 mod laws;
 

@@ -1,5 +1,5 @@
--- The reserved words as the code has them: each is one of an enumeration, has a spelling and a meaning, and is looked up by
--- its first byte. For private contracts and proofs alone.
+-- The reserved words as the code has them: each is one of an enumeration, has a spelling and a meaning, and is looked
+-- up by its first byte. For private contracts and proofs alone.
 use Rattle.std.specs.Prelude.{ℕ, Bool, true, false, ◌==◌, List, [], ◌∷◌, ◌++◌, map, slice_index, Option, option_map, codes}
 use Rattle.dm_ins.specs.declared.action.Mnemonic.{Mnemonic}
 use Rattle.dm_ins.specs.declared.action.Mnemonic.TheVariants as op

@@ -1,5 +1,5 @@
--- The findings about what a program has allocated at its end, by the tables and the map of memory: it left that, or, if it
--- stays resident, holds it.
+-- The findings about what a program has allocated at its end, by the tables and the map of memory: it left that, or, if
+-- it stays resident, holds it.
 -- Source: LIM EMS 4.0, section 2 (handles, pages, saved maps, windows); XMS 3.0 (handles, locks, upper memory blocks,
 -- the high memory area, A20).
 use Rattle.std.specs.Prelude.{ℕ, zero, suc, ◌+◌, ◌==◌, ◌&&◌, nat_lt, not, is_some, Bool, if◌then◌else◌, List, [], ◌∷◌, ◌++◌, slice_index_or, slice_get, Option, Some, None}
@@ -27,8 +27,8 @@ told resident k = (if resident then Held k else Left k) ∷ []
 
 -- ---- expanded memory
 
--- the finding about a handle of expanded memory, with the number of its pages, which may be 0, and whether it has a saved
--- map. Handle 0 is always in use: there is a finding of it only if it has pages or a saved map
+-- the finding about a handle of expanded memory, with the number of its pages, which may be 0, and whether it has a
+-- saved map. Handle 0 is always in use: there is a finding of it only if it has pages or a saved map
 abbrev pub pages_kept : Bool → ℕ → ℕ → Bool → List Finding
 pages_kept resident handle pages saved = if (handle == 0) && (pages == 0) && not saved then [] else told resident (kept.Handle handle pages saved)
 
@@ -72,8 +72,8 @@ switches_kept resident area on = (if area then told resident kept.Area else []) 
 
 -- ---- all of it: there are 64 handles of expanded and 64 of extended memory, and at most 64 upper memory blocks
 
--- all that is found of a program that has ended, or stays resident: handles of expanded memory, windows, blocks of extended memory, upper
--- memory blocks, the high memory area and A20
+-- all that is found of a program that has ended, or stays resident: handles of expanded memory, windows, blocks of
+-- extended memory, upper memory blocks, the high memory area and A20
 unfoldable pub leaks : Bool → State → List Finding
 leaks resident s =
     of_each (handle_kept resident s.ems) 64 ++ of_each (window_kept resident s.memory) 4

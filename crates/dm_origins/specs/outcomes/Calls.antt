@@ -66,8 +66,8 @@ keeps _ = false
 abbrev pub is_ending : Function → Bool
 is_ending f = ends_for_good f || keeps f
 
--- whether a call of a function of INT 21h with these registers may start a process: 4Bh, but not with AL = 3, which loads
--- an overlay (any other AL but 0 is an error)
+-- whether a call of a function of INT 21h with these registers may start a process: 4Bh, but not with AL = 3, which
+-- loads an overlay (any other AL but 0 is an error)
 abbrev pub is_starting : Cpu → Function → Bool
 is_starting c LoadProgram = not (byte_of c Al == 3)
 is_starting c _ = false
@@ -142,8 +142,8 @@ may_be_refused LoadProgram = true
 may_be_refused Unknown = true
 may_be_refused f = is_arena_function f
 
--- what is found of a call, by the registers before (c) and after it (d): that it failed, that it is interrupt 0, by which
--- a division error ends the process, or an interrupt that is not served; none otherwise
+-- what is found of a call, by the registers before (c) and after it (d): that it failed, that it is interrupt 0, by
+-- which a division error ends the process, or an interrupt that is not served; none otherwise
 abbrev pub call_findings : Cpu → Cpu → Option Call → List Finding
 call_findings c d None = []
 call_findings c d (Some DivideError) = DivisionError ∷ []

@@ -1,5 +1,6 @@
-//! The findings about what a program has allocated at its end (LIM EMS 4.0, section 2; XMS 3.0): it left that, or, if it
-//! stays `resident`, holds it. Each function `put_..` appends its findings to `out`; an `Err` is a failed allocation.
+//! The findings about what a program has allocated at its end (LIM EMS 4.0, section 2; XMS 3.0): it left that, or, if
+//! it stays `resident`, holds it. Each function `put_..` appends its findings to `out`; an `Err` is a failed
+//! allocation.
 
 ghost use Rattle.std.specs.Prelude.{◌≡◌, ◌++◌, ◌<◌, ◌+◌, None, OnOk, slice_index_or};
 ghost use Rattle.dm_origins.specs.leaks.Leaks.{told, pages_kept, handle_kept, window_kept, block_kept, upper_kept, switches_kept, of_each, leaks};
@@ -27,8 +28,8 @@ fn put(out: &mut Vec<Finding>, resident: bool, kept: Kept) -> Result<(), AllocEr
     Ok(())
 }
 
-/// Appends that a program has a handle of expanded memory, with the number of its pages, and whether it has a saved map;
-/// handle 0 only if it has either.
+/// Appends that a program has a handle of expanded memory, with the number of its pages, and whether it has a saved
+/// map; handle 0 only if it has either.
 fn put_pages(
     out: &mut Vec<Finding>,
     resident: bool,
@@ -172,8 +173,8 @@ fn put_uppers(out: &mut Vec<Finding>, resident: bool, xms: &Xms) -> Result<(), A
     Ok(())
 }
 
-/// Appends all that the machine's program left, or, if it stays `resident`, holds: expanded memory and windows, extended memory, upper memory blocks, the
-/// high memory area and A20.
+/// Appends all that the machine's program left, or, if it stays `resident`, holds: expanded memory and windows,
+/// extended memory, upper memory blocks, the high memory area and A20.
 #[tactic(auto, unfolding(crate::specs::leaks::Leaks::leaks))]
 pub fn put_leaks(
     out: &mut Vec<Finding>,

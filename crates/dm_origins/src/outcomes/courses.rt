@@ -1,5 +1,5 @@
-//! Which calls start and end processes (MS-DOS Programmer's Reference, functions 00h, 31h, 4Bh and 4Ch, interrupts 20h and
-//! 0).
+//! Which calls start and end processes (MS-DOS Programmer's Reference, functions 00h, 31h, 4Bh and 4Ch, interrupts 20h
+//! and 0).
 
 ghost use Rattle.std.specs.Prelude.{◌≡◌};
 ghost use Rattle.dm_origins.specs.outcomes.Courses.{ends_process, has_started};

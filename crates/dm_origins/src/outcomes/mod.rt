@@ -1,5 +1,5 @@
-//! What a call does, by the registers before and after it: whether it may write headers of the arena, whether it starts or
-//! ends a process, and what is found of it.
+//! What a call does, by the registers before and after it: whether it may write headers of the arena, whether it starts
+//! or ends a process, and what is found of it.
 
 mod appending;
 mod calls;

@@ -8,8 +8,8 @@ use Rattle.dm_requests.specs.declared.packets.received.Received.TheVariants.{Pac
 use Rattle.dm_requests.specs.packets.Checks.{checksum_of, is_checked}
 use Rattle.dm_requests.specs.packets.Escapes.{unescaped}
 
--- where a stream stands: between packets; or after the bytes of a packet that follow its `$`; or after its `#`; or after
--- its first check digit. A packet's content is its bytes between `$` and `#`; None if they are more than 4000h
+-- where a stream stands: between packets; or after the bytes of a packet that follow its `$`; or after its `#`; or
+-- after its first check digit. A packet's content is its bytes between `$` and `#`; None if they are more than 4000h
 pub data Reading : Type 0 where
   between : Reading
   within : Option (List ℕ) → Reading
@@ -21,8 +21,8 @@ abbrev pub one_more : Option (List ℕ) → ℕ → Option (List ℕ)
 one_more None b = None
 one_more (Some content) b = if length content == 0x4000 then None else Some (content ++ b ∷ [])
 
--- a packet that is not too long, by its content and its check digits: damaged if these are wrong, or if the content ends
--- in an escape
+-- a packet that is not too long, by its content and its check digits: damaged if these are wrong, or if the content
+-- ends in an escape
 abbrev pub whole_packet : List ℕ → ℕ → ℕ → Received
 whole_packet content high low =
     if is_checked (checksum_of content) high low then option_map_or Packet (unescaped content) Damaged else Damaged

@@ -28,8 +28,8 @@ impl Model for Link {
     ghost view = { λ l. record { acknowledges = l.acknowledges; last = l.last.items } };
 }
 
-/// The bytes of the packet that carries `payload`: `$`, the payload with `#`, `$`, `*` and `}` escaped, `#`, and two check
-/// digits in lower case.
+/// The bytes of the packet that carries `payload`: `$`, the payload with `#`, `$`, `*` and `}` escaped, `#`, and two
+/// check digits in lower case.
 ///
 /// # Errors
 ///

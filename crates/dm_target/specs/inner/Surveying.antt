@@ -43,8 +43,8 @@ pub data IsStand (points : List ℕ) (m : State) (end : ℕ) (last : Option ℕ)
   here : m.steps < end → is_among points (place_of m) ≡ true → IsStand points m end last (Some m.steps) false
   before : m.steps < end → is_among points (place_of m) ≡ false → IsStand points m end last last false
 
--- what looking further has shown, which led to t: the last hit before `end`, if all was looked at; otherwise the last one before
--- or at t, and there is one
+-- what looking further has shown, which led to t: the last hit before `end`, if all was looked at; otherwise the last
+-- one before or at t, and there is one
 abbrev pub IsLookedAt : List ℕ → List Point → State → ℕ → State → Option ℕ → Bool → Type 0
 IsLookedAt points watches o end t found true = Seen points watches o found end
 IsLookedAt points watches o end t None false = ⊥

@@ -50,8 +50,8 @@ kept_details kept.Area = no_details
 kept_details kept.Line = no_details
 
 -- what the finding is about: the header of a list and its contents, or a byte of it; a block, its owner, and a byte in
--- it; a window, and a byte in it; a byte elsewhere; the code of an error; paragraphs that were wanted and are available;
--- and what a program has allocated at its end. A failed allocation has the code 8, not enough memory
+-- it; a window, and a byte in it; a byte elsewhere; the code of an error; paragraphs that were wanted and are
+-- available; and what a program has allocated at its end. A failed allocation has the code 8, not enough memory
 abbrev pub details_of : Finding → Details
 details_of (Overwritten at old new) = record no_details { header = at; old_contents = contents_record old; new_contents = contents_record new }
 details_of (MappedAway at) = record no_details { header = at }

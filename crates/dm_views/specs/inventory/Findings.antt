@@ -16,7 +16,7 @@ use Rattle.dm_findings.specs.Findings.{is_error}
 use Rattle.dm_findings.specs.Repeats as findings
 use Rattle.dm_findings.specs.Repeats.{left_kind}
 use Rattle.dm_views.specs.declared.inventory.findings.Act as performed
-use Rattle.dm_views.specs.declared.inventory.findings.Place.{Place}
+use Rattle.dm_views.specs.declared.inventory.findings.CodePlace.{CodePlace}
 use Rattle.dm_views.specs.declared.inventory.findings.FoundRecord.{FoundRecord}
 use Rattle.dm_views.specs.inventory.Pages.{truth_number}
 use Rattle.dm_views.specs.inventory.Details.{details_of}
@@ -48,12 +48,12 @@ act_of (act.Instruction ins next) = record { how = 0; interrupt = 0; function = 
 act_of (act.Call call) = call_record call
 
 -- a place in the code of a program, and whether the instruction that was performed ends there
-abbrev pub place_record : Site → Place
+abbrev pub place_record : Site → CodePlace
 place_record (At segment offset) = record { cs = segment; ip = offset; before = 0 }
 place_record (Before segment offset) = record { cs = segment; ip = offset; before = 1 }
 
 -- where something was allocated or freed; zeros where that is not known
-abbrev pub origin_place : Option Origin → Place
+abbrev pub origin_place : Option Origin → CodePlace
 origin_place None = record { cs = 0; ip = 0; before = 0 }
 origin_place (Some o) = place_record o.site
 

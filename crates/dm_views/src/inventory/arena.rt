@@ -1,4 +1,5 @@
-//! The headers of the arena as records (MS-DOS Programmer's Reference, "Arena header"). An `Err` is a failed allocation.
+//! The headers of the arena as records (MS-DOS Programmer's Reference, "Arena header"). An `Err` is a failed
+//! allocation.
 ghost use Rattle.std.specs.Prelude.{◌≡◌, ◌++◌, false, IfOk, List, None, Some};
 ghost use Rattle.dm_blocks.specs.declared.header.Header.{Header};
 ghost use Rattle.dm_blocks.specs.Chain.{first_header, link_header, signature_byte, IsArena};
@@ -15,9 +16,10 @@ const FIRST: u8 = 0;
 
 const SECOND: u8 = 1;
 
-/// A header of the arena: its own segment, its owner (0 for a free block, 8 for DOS, otherwise the segment of a program's
-/// prefix), the size of its block in paragraphs, its signature (5Ah, `Z`, in the last header of its list, otherwise 4Dh,
-/// `M`), and its list (0 for the first one, 1 for that of upper memory where the first does not lead to it).
+/// A header of the arena: its own segment, its owner (0 for a free block, 8 for DOS, otherwise the segment of a
+/// program's prefix), the size of its block in paragraphs, its signature (5Ah, `Z`, in the last header of its list,
+/// otherwise 4Dh, `M`), and its list (0 for the first one, 1 for that of upper memory where the first does not lead to
+/// it).
 #[repr(C)]
 #[derive(Clone, Copy, Debug, PartialEq, Eq)]
 pub struct ArenaBlock {
@@ -79,8 +81,8 @@ fn end_of(walked: Walked<'_>) -> Option<u16>
     }
 }
 
-/// Appends the records of the second list, that of upper memory, and returns the segment where it breaks. `first` is the
-/// walk at the end of the first list.
+/// Appends the records of the second list, that of upper memory, and returns the segment where it breaks. `first` is
+/// the walk at the end of the first list.
 fn put_second(out: &mut Vec<ArenaBlock>, first: Headers<'_>) -> Result<Option<u16>, AllocError>
     requires first { first.second ≡ false }
     requires over { first.at ≡ None }
@@ -90,10 +92,10 @@ fn put_second(out: &mut Vec<ArenaBlock>, first: Headers<'_>) -> Result<Option<u1
     Ok(end_of(walked))
 }
 
-/// Appends the record of each header of the arena, in the order of the lists, and returns the segment where a list breaks,
-/// as no header can follow there; None if all is whole. If upper memory belongs to the arena (`upper`) and the first list
-/// is whole but does not lead to it, the second list follows, from the link block on. There are at most FF00h headers in a
-/// list.
+/// Appends the record of each header of the arena, in the order of the lists, and returns the segment where a list
+/// breaks, as no header can follow there; None if all is whole. If upper memory belongs to the arena (`upper`) and the
+/// first list is whole but does not lead to it, the second list follows, from the link block on. There are at most
+/// FF00h headers in a list.
 ///
 /// # Errors
 ///

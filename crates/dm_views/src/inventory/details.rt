@@ -5,8 +5,8 @@ ghost use Rattle.dm_views.specs.inventory.Details.{contents_record, no_details, 
 use crate::inventory::pages::number_of;
 use dm_findings::{Finding, Kept};
 
-/// The error code of a failed allocation of the arena: not enough memory (MS-DOS Programmer's Reference, INT 21h function
-/// 59h).
+/// The error code of a failed allocation of the arena: not enough memory (MS-DOS Programmer's Reference, INT 21h
+/// function 59h).
 const NOT_ENOUGH_MEMORY: u16 = 8;
 
 /// Bytes 0 to 4 of an arena header: signature, owner, and size in paragraphs.
@@ -18,7 +18,8 @@ pub struct Contents {
     pub size: u16,
 }
 
-/// What a finding is about, by the names of the members of `dm check --json`. A number that its kind does not have is 0.
+/// What a finding is about, by the names of the members of `dm check --json`. A number that its kind does not have is
+/// 0.
 #[repr(C)]
 #[derive(Clone, Copy, Debug, PartialEq, Eq)]
 pub struct Details {
@@ -36,8 +37,8 @@ pub struct Details {
     pub offset: u16,
     /// A window of the frame, 0 to 3.
     pub window: u16,
-    /// A handle; how many pages it has, and whether the windows are saved under it (1, otherwise 0); the KiB of its block,
-    /// and whether that is locked.
+    /// A handle; how many pages it has, and whether the windows are saved under it (1, otherwise 0); the KiB of its
+    /// block, and whether that is locked.
     pub handle: u16,
     pub pages: u16,
     pub saved: u16,

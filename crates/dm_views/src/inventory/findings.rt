@@ -8,9 +8,9 @@ use crate::inventory::pages::number_of;
 use dm_findings::{Call, Finding, Kept, Listed, Origin, Site};
 use std::alloc::AllocError;
 
-/// What was performed in a step. `how` is 0 for an instruction, whose last byte is before the offset `next`; 1 for a call
-/// by the interrupt of this number; 2 for one with the number of a function in AH; 3 for a far call of the extended memory
-/// driver, with that number. The other fields are 0.
+/// What was performed in a step. `how` is 0 for an instruction, whose last byte is before the offset `next`; 1 for a
+/// call by the interrupt of this number; 2 for one with the number of a function in AH; 3 for a far call of the
+/// extended memory driver, with that number. The other fields are 0.
 #[repr(C)]
 #[derive(Clone, Copy, Debug, PartialEq, Eq)]
 pub struct Act {
@@ -23,7 +23,7 @@ pub struct Act {
 /// A place in the code of a program: an instruction is there, or (`before` is 1) ends there.
 #[repr(C)]
 #[derive(Clone, Copy, Debug, PartialEq, Eq)]
-pub struct Place {
+pub struct CodePlace {
     pub cs: u16,
     pub ip: u16,
     pub before: u16,
@@ -38,15 +38,15 @@ pub struct FoundRecord {
     /// How many findings after it repeat it, and the step of the last that does, or its own.
     pub more: u64,
     pub last: u64,
-    /// The step that freed the memory that the finding is about, or allocated what a program has at its end; 0 if that is
-    /// not known.
+    /// The step that freed the memory that the finding is about, or allocated what a program has at its end; 0 if that
+    /// is not known.
     pub origin_step: u64,
     /// Its kind, 0 to 24, and whether it is an error (1) or a note (0).
     pub kind: u32,
     pub is_error: u32,
     /// Where the step was performed, and where that of `origin_step` was.
-    pub at: Place,
-    pub origin_at: Place,
+    pub at: CodePlace,
+    pub origin_at: CodePlace,
     /// What was performed.
     pub act: Act,
     /// The process that performed it: the segment of its prefix.
@@ -157,22 +157,22 @@ fn act_of(act: &dm_findings::Act) -> Act
 }
 
 /// A place in the code of a program.
-fn place_of(site: Site) -> Place
+fn place_of(site: Site) -> CodePlace
     ensures { result ≡ place_record site }
 {
     match site {
-        Site::At(cs, ip) => Place { cs, ip, before: 0 },
-        Site::Before(cs, ip) => Place { cs, ip, before: 1 },
+        Site::At(cs, ip) => CodePlace { cs, ip, before: 0 },
+        Site::Before(cs, ip) => CodePlace { cs, ip, before: 1 },
     }
 }
 
 /// Where something was allocated or freed; zeros where that is not known.
-fn origin_place(origin: Option<Origin>) -> Place
+fn origin_place(origin: Option<Origin>) -> CodePlace
     ensures { result ≡ origin_place origin }
 {
     match origin {
         Some(origin) => place_of(origin.site),
-        None => Place {
+        None => CodePlace {
             cs: 0,
             ip: 0,
             before: 0,

@@ -11,6 +11,6 @@ mod pages;
 pub use arena::{ArenaBlock, list_arena};
 pub use details::{Contents, Details};
 pub use extended::{ExtendedBlock, UpperBlock, list_extended, list_uppers};
-pub use findings::{Act, FoundRecord, Place, list_findings};
+pub use findings::{Act, CodePlace, FoundRecord, list_findings};
 pub use laws::the_arena_has_one_list;
 pub use pages::{PageHandle, Window, list_handles, list_windows};

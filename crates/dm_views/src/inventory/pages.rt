@@ -1,5 +1,5 @@
-//! The handles of expanded memory as records, and what the windows of the frame show (LIM EMS 4.0, section 2). An `Err` is
-//! a failed allocation.
+//! The handles of expanded memory as records, and what the windows of the frame show (LIM EMS 4.0, section 2). An `Err`
+//! is a failed allocation.
 ghost use Rattle.std.specs.Prelude.{◌≡◌, ◌<◌, ◌++◌, OnOk};
 ghost use Rattle.dm_views.specs.inventory.Rows.{row_of};
 ghost use Rattle.dm_views.specs.inventory.Pages.{truth_number, handle_row, handle_rows, window_record, window_rows};
@@ -12,8 +12,8 @@ use std::alloc::AllocError;
 /// The number of handles of expanded memory (0 to 63).
 const HANDLES: u16 = 64;
 
-/// A handle of expanded memory in use: its number, how many pages of 16 KiB it has, whether the windows are saved under it
-/// (1, otherwise 0), and its name, eight zeros if it has none. Its pages are 0, 1, 2 and so on.
+/// A handle of expanded memory in use: its number, how many pages of 16 KiB it has, whether the windows are saved under
+/// it (1, otherwise 0), and its name, eight zeros if it has none. Its pages are 0, 1, 2 and so on.
 #[repr(C)]
 #[derive(Clone, Copy, Debug, PartialEq, Eq)]
 pub struct PageHandle {

@@ -13,7 +13,7 @@ returns-in_err-machine-clause-does g c =
     rw (p.1, p.2) (not_started _ c.in_err-machine.ensures.fault (Keeps-refl _) refl refl)
 
 pub returns-clause-does : goal.returns-clause-does
-returns-clause-does g c = check_of_run _ _ _ _ c.in_ok-machine.ensures.started _ _ _ _ _ _ _ (rw (c.form_of.ensures) at c.check_machine.ensures.does)
+returns-clause-does g c = check_of_run _ _ _ _ c.in_ok-machine.ensures.started _ _ _ _ _ _ _ (rw (c.format_of.ensures) at c.check_machine.ensures.does)
 
 pub returns-in_err-machine-clause-reads : goal.returns-in_err-machine-clause-reads
 returns-in_err-machine-clause-reads g c =

@@ -1,5 +1,5 @@
--- Events with the bytes that their ranges had before a run, and runs seen from their steps. Private contracts and proofs
--- alone name these.
+-- Events with the bytes that their ranges had before a run, and runs seen from their steps. Private contracts and
+-- proofs alone name these.
 use Rattle.std.specs.Prelude.{◌≡◌, ◌≢◌, ℕ, ◌<◌, List, Some}
 use Rattle.dm_space.specs.Memory.{Memory}
 use Rattle.dm_services.specs.declared.state.stop.Stop.{Stop}
@@ -8,8 +8,8 @@ use Rattle.dm_services.specs.state.State.{State}
 use Rattle.dm_machine.specs.Run.{IsRun}
 use Rattle.dm_debug.specs.declared.stops.events.Event.{Event}
 use Rattle.dm_debug.specs.declared.stops.events.Event.TheVariants.{Change}
-use Rattle.dm_debug.specs.declared.stops.going.Ending.{Ending}
-use Rattle.dm_debug.specs.declared.stops.going.Ending.TheVariants.{Came, Stopped}
+use Rattle.dm_debug.specs.declared.stops.going.RunEnd.{RunEnd}
+use Rattle.dm_debug.specs.declared.stops.going.RunEnd.TheVariants.{Came, Stopped}
 use Rattle.dm_debug.specs.stops.Events.{bytes_for, bytes_there, first_come}
 use Rattle.dm_debug.specs.stops.Runs.{Passes}
 
@@ -28,7 +28,7 @@ abbrev pub watch_of : Memory → Event → Watched
 watch_of m e = record { event = e; before = bytes_for m e }
 
 -- a run up to events, of one step or more and with one event or more, that began with this memory
-pub data GoesTo (start : Memory) (s : State) (most : ℕ) (events : List Event) (ending : Ending) (t : State) : Type 0 where
+pub data GoesTo (start : Memory) (s : State) (most : ℕ) (events : List Event) (ending : RunEnd) (t : State) : Type 0 where
   came : (made place : ℕ) (before : State) → made < most → ending ≡ Came place → Passes start events s made before → IsRun before 1 AllSteps t
       → first_come start events t ≡ Some place → GoesTo start s most events ending t
   whole : ending ≡ Stopped AllSteps → Passes start events s most t → GoesTo start s most events ending t

@@ -1,5 +1,5 @@
 use Rattle.std.proofs.Common.{◌∙◌}
-use Rattle.dm_requests.specs.declared.request.Access.TheVariants.{Execute}
+use Rattle.dm_requests.specs.declared.request.WatchedAccess.TheVariants.{Execute}
 use Rattle.dm_requests.specs.declared.request.Point.{Point}
 use Rattle.dm_target.proofs.Watched.{cut_next, changed_here, changed_later}
 use Rattle.dm_target.proofs.watching.first_changed.Goals as goal
