@@ -203,6 +203,7 @@ def elsewhere():
         yield f"a step that reads a word at an odd offset in {where}", Row("MOV", where, "MOV AX,[BX]", setup=(*full, "MOV BX,2FFFh"))
         for whole in ("MOVSB", "MOVSW", "STOSB", "STOSW"):
             yield f"a repetition of {whole} upwards in {where}", repeated(whole, where, "REP", full, before=("MOV SI,1000h", "MOV DI,2000h"))
+    yield from in_a_window()
     for whole in ("MOVSB", "MOVSW", "STOSB", "STOSW"):
         yield f"a repetition of {whole} upwards, 1,000 of them", repeated(whole, "", "REP", (), kind="1,000", repeats=1000)
     yield "a repetition of MOVSB, overlapping by one byte", repeated("MOVSB", "", "REP", (), before=("MOV SI,5000h", "MOV DI,5001h"), kind="overlapping")
@@ -227,6 +228,21 @@ def elsewhere():
     yield "XMS function 0Bh (16 bytes within a block), with its CALL", Row(
         "XMS", "0Bh", XMS, before="MOV AH,0Bh", steps=2, setup=block
     )
+
+
+def in_a_window():
+    """What else is measured of a window: bytes, the stack, single string instructions, and repetitions of the other kinds."""
+    full, at = (*PAGE, "MOV AX,0E000h", "MOV DS,AX", "MOV ES,AX", *REGISTERS), ("MOV SI,1000h", "MOV DI,2000h")
+    for what, body in (("reads a byte", "MOV AL,[BX]"), ("writes a byte", "MOV [BX],AL"), ("adds a word to one", "ADD AX,[BX]"), ("adds to a word", "ADD [BX],AX")):
+        yield f"a step that {what} in a window", Row(body[:3], "a window", body, setup=full)
+    for body in ("PUSH AX", "POP AX"):
+        yield f"a step that makes {body[:-3]} in a window", Row(body[:-3], "a window", body, before="MOV SP,2000h", setup=(*PAGE, "MOV AX,0E000h", "MOV SS,AX"))
+    for whole in ("MOVSB", "CMPSB", "STOSB", "LODSB", "SCASB"):
+        yield f"a step that makes {whole} in a window", Row(whole, "a window", whole, before=at, setup=full)
+    for whole, prefix, more in (("LODSB", "REP", ()), ("CMPSB", "REPE", ()), ("SCASB", "REPNE", ("MOV AX,101h",))):
+        yield f"a repetition of {whole} in a window", repeated(whole, "a window", prefix, (*full, *more), before=at)
+    for whole in ("MOVSB", "STOSB"):
+        yield f"a repetition of {whole} downwards in a window", repeated(whole, "a window", "REP", (*full, "STD"), before=at)
 
 
 # A program that keeps its own memory below 4000h.

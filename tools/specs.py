@@ -11,6 +11,8 @@ USE = re.compile(r"^\s*(?:ghost |pub )?use Rattle\.([\w.]+?)(?:\.\{([^}]*)\})?(?
 PATH = re.compile(r"Rattle\.([\w.]+)")
 # A name, and the names after its dots: `rows.allocate`, `s.cpu.bx`.
 WORD = re.compile(r"[A-Za-z_][\w'>=-]*(?:\.[A-Za-z_][\w'-]*)*|◌[^\s◌]+◌")
+# A `use` over several lines.
+LONG_USE = re.compile(r"^(?:ghost |pub )?use Rattle\.[\w.]+\.\{[^{};]*\n[^{};]*\};?", re.M)
 CLAUSE = re.compile(r"^\s+(?:requires|ensures)\b")
 FUNCTION = re.compile(r"^\s*(pub(?:\(crate\))? )?(?:extern \"C\" )?fn (\w+)")
 TRIED = re.compile(r"^\s*(?:#|///) Definitions: (.*)$")
@@ -103,7 +105,7 @@ class Specs:
                     self.read_file(crate, module, path)
 
     def read_file(self, crate, module, path):
-        lines = text_of(path).split("\n")
+        lines = lines_of(path)
         end = next((at for at, line in enumerate(lines) if not line.startswith("--")), len(lines))
         self.heads[path] = [line[2:].strip() for line in lines[:end]]
         self.files[path] = found = []
@@ -150,7 +152,7 @@ class Specs:
         exported = exports(os.path.dirname(path))
         module = os.path.relpath(path, f"crates/{crate}/src")[: -len(".rt")].removesuffix("/mod").replace("/", ".")
         file = os.path.splitext(os.path.basename(path))[0]
-        lines = text_of(path).split("\n")
+        lines = lines_of(path)
         whole, inner, block, trait, function, docs, is_open = {}, {}, None, None, None, [], False
         for number, line in enumerate(lines, 1):
             used, begun, impl, kind = USE.match(line), FUNCTION.match(line), BLOCK.match(line), TYPE.match(line)
@@ -360,6 +362,11 @@ def head_of(lines):
         if line.rstrip().endswith(("{", "{}", ";")):
             break
     return found
+
+
+def lines_of(path):
+    """The lines of a file. A `use` that goes over several lines is one line, and as many empty ones follow it."""
+    return LONG_USE.sub(lambda it: " ".join(it[0].split()).replace(",}", "}").replace(", }", "}") + "\n" * it[0].count("\n"), text_of(path)).split("\n")
 
 
 def imported(used):

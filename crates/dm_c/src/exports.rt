@@ -7,7 +7,7 @@ ghost use Rattle.dm_c.specs.Statuses.{version_number};
 ghost use Rattle.dm_c.specs.Calls.{IsCall, IsNone};
 ghost use Rattle.dm_c.specs.Handles.{Makes, CopiesTo};
 ghost use Rattle.dm_host_calls.specs.Events.{EventsTo};
-ghost use Rattle.dm_host_calls.specs.Machines.{AddsTo, LoadsTo, RunsTo, RunsUntilTo, StepsTo, RegistersTo, SetsRegistersTo, ReadsTo, WritesTo, ReadsLinearTo, WritesLinearTo, OutputTo, OutputCountTo, SetsMoreTo, SuppliesTo, InputLeftTo, CommandsTo, ChecksTo, AnswersTo};
+ghost use Rattle.dm_host_calls.specs.Machines.{AddsTo, LoadsTo, RunsBy, RunsUntilTo, StepsTo, RegistersTo, SetsRegistersTo, ReadsTo, WritesTo, ReadsLinearTo, WritesLinearTo, OutputTo, OutputCountTo, SetsMoreTo, SuppliesTo, InputLeftTo, CommandsTo, ChecksTo, AnswersTo};
 
 use crate::copies;
 use crate::handle::MachineHandle;
@@ -135,7 +135,7 @@ pub extern "C" fn dm_c_run(
     steps: u64,
     stopped: &mut Stopped,
 ) -> u32
-    ensures { IsCall machine.old.inside.value machine.new.inside.value ((result ≡ 1) × (stopped.new ≡ stopped.old)) (λ h g. RunsTo h steps stopped.old stopped.new result g) }
+    ensures { IsCall machine.old.inside.value machine.new.inside.value ((result ≡ 1) × (stopped.new ≡ stopped.old)) (λ h g. RunsBy h steps stopped.old stopped.new result g) }
 {
     let Some(mut host) = machine.take(alloc) else {
         return NO_MACHINE;

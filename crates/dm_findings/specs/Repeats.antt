@@ -43,7 +43,7 @@ kept_subject (kept.Upper at) = at
 kept_subject kept.Area = 0
 kept_subject kept.Line = 0
 
--- which kind of finding it is: its place among the kinds, from 0. (C has these numbers: `mezguld_finding_kind`)
+-- which kind of finding it is: its place among the kinds, from 0, what is held after what is left
 abbrev pub kind_of : Finding → ℕ
 kind_of (Overwritten at old new) = 0
 kind_of (MappedAway at) = 1

@@ -31,8 +31,8 @@ abbrev pub LoadsTo : Hosted → List ℕ → List ℕ → List ℕ → ℕ → H
 LoadsTo h name tail input status g = IsDoneOrRefused status (Loads h name tail input g) (λ why. IsUnloaded h name tail input why g)
 
 -- `dm_c_run`: a run of at most n steps, and why it stopped; if no program is loaded, nothing changes
-abbrev pub RunsTo : Hosted → ℕ → Stopped → Stopped → ℕ → Hosted → Type 0
-RunsTo h n before after status g =
+abbrev pub RunsBy : Hosted → ℕ → Stopped → Stopped → ℕ → Hosted → Type 0
+RunsBy h n before after status g =
     IsDoneOrRefused status ((stop : Stop) × Works h (λ s t. IsRun s.machine n stop t.machine × (t.points ≡ s.points)) g × (after ≡ stopped_of (Some stop)))
     (λ why. IsNotLoaded h why × (g ≡ h) × (after ≡ before))
 

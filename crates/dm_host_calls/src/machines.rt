@@ -3,7 +3,7 @@
 //! with status 4 too.
 ghost use Rattle.std.specs.Prelude.{◌≡◌, true, false};
 ghost use Rattle.dm_host_calls.specs.Events.{EventsTo};
-ghost use Rattle.dm_host_calls.specs.Machines.{AddsTo, LoadsTo, RunsTo, RunsUntilTo, StepsTo, RegistersTo, SetsRegistersTo, ReadsTo, WritesTo, ReadsLinearTo, WritesLinearTo, OutputTo, OutputCountTo, SetsMoreTo, SuppliesTo, InputLeftTo, CommandsTo, ChecksTo};
+ghost use Rattle.dm_host_calls.specs.Machines.{AddsTo, LoadsTo, RunsBy, RunsUntilTo, StepsTo, RegistersTo, SetsRegistersTo, ReadsTo, WritesTo, ReadsLinearTo, WritesLinearTo, OutputTo, OutputCountTo, SetsMoreTo, SuppliesTo, InputLeftTo, CommandsTo, ChecksTo};
 
 use crate::events::{Awaited, BAD_EVENT, are_known, ended_of, events_of, place_in};
 use crate::values::{
@@ -37,7 +37,7 @@ pub fn load(alloc: Global, host: &mut Host, name: &[u8], tail: &[u8], input: &[u
 /// Makes at most `steps` steps, and sets `stopped` to why the run stopped. Status 14, and no change, if no program is
 /// loaded.
 pub fn run(host: &mut Host, steps: u64, stopped: &mut Stopped) -> u32
-    ensures { RunsTo host.old steps stopped.old stopped.new result host.new }
+    ensures { RunsBy host.old steps stopped.old stopped.new result host.new }
 {
     match host.run(steps) {
         Ok(stop) => {

@@ -16,7 +16,7 @@ use dm_findings::{
     Act, Call, Contents, Finding, Found, Kept, Listed, Origin, Report, call_of, site_of,
 };
 use dm_ins::Ins;
-use dm_reports::{kind_of, put_instruction, put_number, put_told, reason_of};
+use dm_reports::{put_instruction, put_number, put_told, reason_of, severity_word};
 use dm_services::state::Stop;
 use dm_space::Space;
 use std::alloc::{AllocError, Global};
@@ -291,7 +291,7 @@ pub(crate) fn put_found_object(
 ) -> Result<(), AllocError>
     ensures { OnOk result (out.new.items ≡ out.old.items ++ found_object found.now) }
 {
-    put_opening(out, kind_of(&found.finding))?;
+    put_opening(out, severity_word(&found.finding))?;
     put_members(out, alloc, found)?;
     out.extend_from_slice(b"}\n")
 }

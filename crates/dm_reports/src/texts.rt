@@ -323,7 +323,7 @@ fn put_act(out: &mut Vec<u8>, act: &Act) -> Result<(), AllocError>
 }
 
 /// The first word of a finding's line: `error` or `note`.
-pub fn kind_of(finding: &Finding) -> &'static [u8]
+pub fn severity_word(finding: &Finding) -> &'static [u8]
     ensures { result.now ≡ kind_text (is_error finding.now) }
 {
     if finding.is_error() {
@@ -425,7 +425,7 @@ fn put_text(out: &mut Vec<u8>, found: &Found) -> Result<(), AllocError>
 pub fn put_found(out: &mut Vec<u8>, found: &Found) -> Result<(), AllocError>
     ensures { OnOk result (out.new.items ≡ out.old.items ++ found_line found.now) }
 {
-    out.extend_from_slice(kind_of(&found.finding))?;
+    out.extend_from_slice(severity_word(&found.finding))?;
     out.extend_from_slice(b": ")?;
     put_text(out, found)?;
     out.extend_from_slice(b"\n")

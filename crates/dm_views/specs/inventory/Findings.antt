@@ -24,7 +24,7 @@ use Rattle.dm_views.specs.inventory.Details.{details_of}
 -- ---- kinds
 
 -- the kind of a finding, as a number: its place among the kinds, where what a resident program holds counts as left
--- allocated; `dm check --json` has a word for each
+-- allocated. C has these numbers (`mezguld_finding_kind`), `dm check --json` a word for each
 abbrev pub kind_of : Finding → ℕ
 kind_of (Held k) = left_kind k
 kind_of f = findings.kind_of f
