@@ -1,5 +1,6 @@
 mod Bytes
 mod Loaded
 mod Results
+mod Told
 pub mod Unseen
 mod Segments
