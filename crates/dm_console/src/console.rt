@@ -84,6 +84,7 @@ impl Console {
     }
 
     /// Appends a byte to the output. It uses one byte of the room, and allocates nothing. The input stays.
+    #[inline(always)]
     pub fn put(&mut self, byte: u8)
         requires { 0 < self.old.room }
         ensures { self.new ≡ record self.old { output = self.old.output ++ byte ∷ []; room = self.old.room - 1 } }
