@@ -26,6 +26,6 @@ pub use shifts::{
     RightRotationThroughCarry, RightShift, ShiftOrRotate, shift_left_once, shift_right_once,
 };
 pub use stack::{
-    InterruptOperation, StackOperation, act_on_interrupt, act_on_interrupt_low, pop_flags, pop_to,
-    push_flags, push_register,
+    InterruptOperation, StackOperation, act_on_interrupt, interrupt, interrupt_low, pop_flags,
+    pop_to, push_flags, push_register, return_low,
 };

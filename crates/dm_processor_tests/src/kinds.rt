@@ -10,7 +10,7 @@ use dm_forms::Form;
 use std::test::Fail;
 
 /// The number of forms.
-pub(crate) const FORMS: usize = 140;
+pub(crate) const FORMS: usize = 143;
 
 /// The number of a form, in the order of their declaration.
 pub(crate) fn number_of(form: &Form) -> usize
@@ -156,7 +156,10 @@ pub(crate) fn number_of(form: &Form) -> usize
         Form::PopSegment(_) => 136,
         Form::FarTransfer(_) => 137,
         Form::Interrupt(_) => 138,
-        Form::Other => 139,
+        Form::TakeInterrupt(_) => 139,
+        Form::JumpFarMemory(_) => 140,
+        Form::CallFarMemory(_) => 141,
+        Form::Other => 142,
     }
 }
 
