@@ -24,10 +24,11 @@ pub invariant_of-self : goal.invariant_of-self
 invariant_of-self c =
     let s = c.self.inside in
     let there = all-there (held s.store s.windows s.a20) c.args.linear c.args.len (Low c.in-Low.from) c.self.invariant.0 (ap (λ (h : Held). place h.memory c.args.linear) c.self.view_is ∙ sym c.place.ensures.place ∙ c.in-Low.is) c.requires.some c.requires.run c.requires.addresses in
-    let source = low-fits (held s.store s.windows s.a20).memory c.in-Low.from c.args.len c.requires.some there in
-    (held_scratch s.store s.windows s.a20 c.copy.new.self _ c.copy.ensures
-    (length-with_part s.store.scratch (part s.store.low c.in-Low.from c.args.len) c.args.at c.args.len (omega (arith, c.requires.scratch, c.self.invariant.0.scratch_length)) (part_length s.store.low c.in-Low.from c.args.len source)) c.self.invariant.0,
-    shifts_as s.store s.windows s.shifts c.copy.new.self (ap (λ (x : Stored). x.blocks.places) c.copy.ensures) c.self.invariant.1)
+    let source = low-fits (held s.store s.windows s.a20).memory c.in-Low.from c.args.len c.requires.some there in (
+      held_scratch s.store s.windows s.a20 c.copy.new.self _ c.copy.ensures
+          (length-with_part s.store.scratch (part s.store.low c.in-Low.from c.args.len) c.args.at c.args.len (omega (arith, c.requires.scratch, c.self.invariant.0.scratch_length)) (part_length s.store.low c.in-Low.from c.args.len source)) c.self.invariant.0,
+      shifts_as s.store s.windows s.shifts c.copy.new.self (ap (λ (x : Stored). x.blocks.places) c.copy.ensures) c.self.invariant.1,
+    )
 
 pub copy-requires-in-Page-clause-source : goal.copy-requires-in-Page-clause-source
 copy-requires-in-Page-clause-source c =
@@ -40,11 +41,12 @@ pub invariant_of-self-in-Page : goal.invariant_of-self-in-Page
 invariant_of-self-in-Page c =
     let s = c.self.inside in let m = (held s.store s.windows s.a20).memory in
     let there = all-there (held s.store s.windows s.a20) c.args.linear c.args.len (Page c.in-Page.block c.in-Page.from) c.self.invariant.0 (ap (λ (h : Held). place h.memory c.args.linear) c.self.view_is ∙ sym c.place.ensures.place ∙ c.in-Page.is) c.requires.some c.requires.run c.requires.addresses in
-    let source = page-fits m c.in-Page.block c.in-Page.from c.args.len c.requires.some there in
-    (held_scratch s.store s.windows s.a20 c.copy-in-Page.new.self _ c.copy-in-Page.ensures
-    (length-with_part s.store.scratch (part (page_bytes m c.in-Page.block) c.in-Page.from c.args.len) c.args.at c.args.len (omega (arith, c.requires.scratch, c.self.invariant.0.scratch_length)) (part_length (page_bytes m c.in-Page.block) c.in-Page.from c.args.len source))
-    c.self.invariant.0,
-    shifts_as s.store s.windows s.shifts c.copy-in-Page.new.self (ap (λ (x : Stored). x.blocks.places) c.copy-in-Page.ensures) c.self.invariant.1)
+    let source = page-fits m c.in-Page.block c.in-Page.from c.args.len c.requires.some there in (
+      held_scratch s.store s.windows s.a20 c.copy-in-Page.new.self _ c.copy-in-Page.ensures
+          (length-with_part s.store.scratch (part (page_bytes m c.in-Page.block) c.in-Page.from c.args.len) c.args.at c.args.len (omega (arith, c.requires.scratch, c.self.invariant.0.scratch_length)) (part_length (page_bytes m c.in-Page.block) c.in-Page.from c.args.len source))
+          c.self.invariant.0,
+      shifts_as s.store s.windows s.shifts c.copy-in-Page.new.self (ap (λ (x : Stored). x.blocks.places) c.copy-in-Page.ensures) c.self.invariant.1,
+    )
 
 pub read_rom-requires-clause-offset : goal.read_rom-requires-clause-offset
 read_rom-requires-clause-offset c =

@@ -23,10 +23,11 @@ pub invariant_of-self : goal.invariant_of-self
 invariant_of-self c =
     let s = c.self.inside in
     let there = all-there (held s.store s.windows s.a20) c.args.linear c.args.len (Low c.in-Low.to) c.self.invariant.0 (ap (λ (h : Held). place h.memory c.args.linear) c.self.view_is ∙ sym c.place.ensures.place ∙ c.in-Low.is) c.requires.some c.requires.run c.requires.addresses in
-    let room = low-fits (held s.store s.windows s.a20).memory c.in-Low.to c.args.len c.requires.some there in
-    (held_low s.store s.windows s.a20 c.copy.new.self _ c.copy.ensures
-    (length-with_part s.store.low (part s.store.scratch c.args.at c.args.len) c.in-Low.to c.args.len room (part_length s.store.scratch c.args.at c.args.len (omega (arith, c.requires.scratch, c.self.invariant.0.scratch_length)))) c.self.invariant.0,
-    shifts_as s.store s.windows s.shifts c.copy.new.self (ap (λ (x : Stored). x.blocks.places) c.copy.ensures) c.self.invariant.1)
+    let room = low-fits (held s.store s.windows s.a20).memory c.in-Low.to c.args.len c.requires.some there in (
+      held_low s.store s.windows s.a20 c.copy.new.self _ c.copy.ensures
+          (length-with_part s.store.low (part s.store.scratch c.args.at c.args.len) c.in-Low.to c.args.len room (part_length s.store.scratch c.args.at c.args.len (omega (arith, c.requires.scratch, c.self.invariant.0.scratch_length)))) c.self.invariant.0,
+      shifts_as s.store s.windows s.shifts c.copy.new.self (ap (λ (x : Stored). x.blocks.places) c.copy.ensures) c.self.invariant.1,
+    )
 
 pub copy-requires-in-Page-clause-destination : goal.copy-requires-in-Page-clause-destination
 copy-requires-in-Page-clause-destination c =
@@ -39,11 +40,12 @@ pub invariant_of-self-in-Page : goal.invariant_of-self-in-Page
 invariant_of-self-in-Page c =
     let s = c.self.inside in let m = (held s.store s.windows s.a20).memory in
     let there = all-there (held s.store s.windows s.a20) c.args.linear c.args.len (Page c.in-Page.block c.in-Page.to) c.self.invariant.0 (ap (λ (h : Held). place h.memory c.args.linear) c.self.view_is ∙ sym c.place.ensures.place ∙ c.in-Page.is) c.requires.some c.requires.run c.requires.addresses in
-    let room = page-fits m c.in-Page.block c.in-Page.to c.args.len c.requires.some there in
-    (held_content s.store s.windows s.a20 c.copy-in-Page.new.self c.in-Page.block _ c.copy-in-Page.ensures
-    (length-with_part (page_bytes m c.in-Page.block) (part s.store.scratch c.args.at c.args.len) c.in-Page.to c.args.len room (part_length s.store.scratch c.args.at c.args.len (omega (arith, c.requires.scratch, c.self.invariant.0.scratch_length))))
-    c.self.invariant.0,
-    shifts_as s.store s.windows s.shifts c.copy-in-Page.new.self (ap (λ (x : Stored). x.blocks.places) c.copy-in-Page.ensures) c.self.invariant.1)
+    let room = page-fits m c.in-Page.block c.in-Page.to c.args.len c.requires.some there in (
+      held_content s.store s.windows s.a20 c.copy-in-Page.new.self c.in-Page.block _ c.copy-in-Page.ensures
+          (length-with_part (page_bytes m c.in-Page.block) (part s.store.scratch c.args.at c.args.len) c.in-Page.to c.args.len room (part_length s.store.scratch c.args.at c.args.len (omega (arith, c.requires.scratch, c.self.invariant.0.scratch_length))))
+          c.self.invariant.0,
+      shifts_as s.store s.windows s.shifts c.copy-in-Page.new.self (ap (λ (x : Stored). x.blocks.places) c.copy-in-Page.ensures) c.self.invariant.1,
+    )
 
 pub returns-in-Low : goal.returns-in-Low
 returns-in-Low c =
