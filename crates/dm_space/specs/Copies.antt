@@ -1,6 +1,6 @@
 -- Bytes copied one by one upwards, between the scratch bytes and linear addresses (A20 taken as on) or a block, in a
 -- space that holds h. The source, and all that is not written, stays.
-use Rattle.std.specs.Prelude.{ℕ, zero, suc, ◌+◌, ◌%◌, ◌≤◌, ◌⊎◌, List, [], ◌∷◌}
+use Rattle.std.specs.Prelude.{ℕ, zero, suc, List, [], ◌∷◌}
 use Rattle.dm_region.specs.Parts.{part, with_part}
 use Rattle.dm_pool.specs.Blocks.{with_content}
 use Rattle.dm_space.specs.Memory.{Memory, Held, peek, poke, page_bytes, with_blocks}
@@ -36,12 +36,3 @@ block_copied_in h block from at n = record h { scratch = with_part h.scratch at 
 abbrev pub block_copied_out : Held → ℕ → ℕ → ℕ → ℕ → Held
 block_copied_out h at block to n =
     record h { memory = with_blocks h.memory (with_content h.memory.blocks block (with_part (page_bytes h.memory block) to n (part h.scratch at n))) }
-
--- the n bytes from the linear address a on lie side by side in RAM below the frame, or in one window
-abbrev pub AreTogether : ℕ → ℕ → Type 0
-AreTogether a n = (a + n ≤ 0xC0000) ⊎ (((0xD0000 ≤ a) × (a + n ≤ 0xE0000)) ⊎ ((0xE0000 ≤ a) × (a + n ≤ 0xF0000) × (a % 0x4000 + n ≤ 0x4000)))
-
--- h after the n bytes from the linear address `from` on have been written to those from `to` on, all of them read before
--- the first is written (Space.copy_along)
-abbrev pub copied_along : Held → ℕ → ℕ → ℕ → Held
-copied_along h from to n = record h { memory = bytes_written h.memory to (bytes_read h.memory from n) }

@@ -1,7 +1,6 @@
 -- Definitions that private contracts and proofs alone name.
 pub mod EightBytes
 pub mod Memory
-pub mod Parts
 pub mod Places
 pub mod Runs
 pub mod Shifts

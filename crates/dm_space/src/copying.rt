@@ -1,10 +1,8 @@
 //! Bytes copied between addresses, blocks and the scratch part, for moves of regions.
 ghost use Rattle.std.specs.Prelude.{◌≡◌, ◌+◌, ◌%◌, ◌<◌, ◌≤◌, length};
 ghost use Rattle.dm_pool.specs.Blocks.{IsLive};
-ghost use Rattle.dm_space.specs.Copies.{copied_in, copied_out, copied_along, block_copied_in, block_copied_out, AreTogether};
-ghost use Rattle.dm_space.specs.Memory.{page_bytes, place};
-ghost use Rattle.dm_space.specs.Places.{IsWritable};
-ghost use Rattle.dm_space.specs.inner.Parts.{part_at, index_at};
+ghost use Rattle.dm_space.specs.Copies.{copied_in, copied_out, block_copied_in, block_copied_out};
+ghost use Rattle.dm_space.specs.Memory.{page_bytes};
 
 use crate::place::Place;
 use crate::rom::{read_nothing, read_rom};
@@ -22,33 +20,7 @@ fn run_len(linear: usize, left: usize) -> usize
     (WINDOW - linear % WINDOW).min(left)
 }
 
-/// The part of the store that has a place, and the byte in it.
-fn part_of(place: Place) -> (Part, usize)
-    ensures part { result.0 ≡ part_at place }
-    ensures index { result.1 ≡ index_at place }
-{
-    match place {
-        Place::Low(at) => (Part::Low, at),
-        Place::Page(block, at) => (Part::Block(block), at),
-        Place::Rom(_) | Place::Nothing => (Part::Low, 0),
-    }
-}
-
 impl Space {
-    /// Copies `len` bytes from a linear address upwards to another one upwards, A20 taken as on: all are read before
-    /// the first is written. On either side they lie in RAM below the frame, or in a page that a window shows.
-    pub fn copy_along(&mut self, from: usize, to: usize, len: usize)
-        requires some { 0 < len }
-        requires source { AreTogether from len × IsWritable (place self.old.memory from) }
-        requires target { AreTogether to len × IsWritable (place self.old.memory to) }
-        ensures { self.new ≡ copied_along self.old from to len }
-    {
-        let _sizes = self.a20();
-        let (source, source_at) = part_of(self.place(from));
-        let (target, target_at) = part_of(self.place(to));
-        self.store.copy(source, source_at, target, target_at, len);
-    }
-
     /// Does what [`Space::copy_in`] does, for bytes that lie in one part of the map.
     fn copy_run_in(&mut self, linear: usize, at: usize, len: usize)
         requires some { 0 < len }
