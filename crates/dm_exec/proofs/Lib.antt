@@ -3,6 +3,7 @@ pub mod Unseen
 pub mod Map
 mod ByWidth
 mod Upwards
+mod Pairs
 mod Upper
 mod Elements
 mod Runs

@@ -3,3 +3,4 @@ pub mod EightBytes
 pub mod Memory
 pub mod Places
 pub mod Runs
+pub mod Shifts

@@ -10,50 +10,55 @@ use Rattle.dm_space.specs.Memory.{Held, IsHeld, place, page_bytes}
 use Rattle.dm_space.specs.inner.Memory.{held}
 use Rattle.dm_space.proofs.Copies.{low-fits, page-fits, all-there, out-run}
 use Rattle.dm_space.proofs.Keeping.{held_low, held_content}
+use Rattle.dm_space.proofs.Shifts.{shifts_as}
 use Rattle.dm_space.proofs.space.Space.copy_run_out.Goals as goal
 
 pub copy-requires-clause-destination : goal.copy-requires-clause-destination
 copy-requires-clause-destination c =
     let s = c.self.inside in
-    let there = all-there (held s.store s.windows s.a20) c.args.linear c.args.len (Low c.in-Low.to) c.self.invariant (ap (λ (h : Held). place h.memory c.args.linear) c.self.view_is ∙ sym c.place.ensures.place ∙ c.in-Low.is) c.requires.some c.requires.run c.requires.addresses in
+    let there = all-there (held s.store s.windows s.a20) c.args.linear c.args.len (Low c.in-Low.to) c.self.invariant.0 (ap (λ (h : Held). place h.memory c.args.linear) c.self.view_is ∙ sym c.place.ensures.place ∙ c.in-Low.is) c.requires.some c.requires.run c.requires.addresses in
     (tt, low-fits (held s.store s.windows s.a20).memory c.in-Low.to c.args.len c.requires.some there)
 
 pub invariant_of-self : goal.invariant_of-self
 invariant_of-self c =
     let s = c.self.inside in
-    let there = all-there (held s.store s.windows s.a20) c.args.linear c.args.len (Low c.in-Low.to) c.self.invariant (ap (λ (h : Held). place h.memory c.args.linear) c.self.view_is ∙ sym c.place.ensures.place ∙ c.in-Low.is) c.requires.some c.requires.run c.requires.addresses in
-    let room = low-fits (held s.store s.windows s.a20).memory c.in-Low.to c.args.len c.requires.some there in
-    held_low s.store s.windows s.a20 c.copy.new.self _ c.copy.ensures
-    (length-with_part s.store.low (part s.store.scratch c.args.at c.args.len) c.in-Low.to c.args.len room (part_length s.store.scratch c.args.at c.args.len (omega (arith, c.requires.scratch, c.self.invariant.scratch_length)))) c.self.invariant
+    let there = all-there (held s.store s.windows s.a20) c.args.linear c.args.len (Low c.in-Low.to) c.self.invariant.0 (ap (λ (h : Held). place h.memory c.args.linear) c.self.view_is ∙ sym c.place.ensures.place ∙ c.in-Low.is) c.requires.some c.requires.run c.requires.addresses in
+    let room = low-fits (held s.store s.windows s.a20).memory c.in-Low.to c.args.len c.requires.some there in (
+      held_low s.store s.windows s.a20 c.copy.new.self _ c.copy.ensures
+          (length-with_part s.store.low (part s.store.scratch c.args.at c.args.len) c.in-Low.to c.args.len room (part_length s.store.scratch c.args.at c.args.len (omega (arith, c.requires.scratch, c.self.invariant.0.scratch_length)))) c.self.invariant.0,
+      shifts_as s.store s.windows s.shifts c.copy.new.self (ap (λ (x : Stored). x.blocks.places) c.copy.ensures) c.self.invariant.1,
+    )
 
 pub copy-requires-in-Page-clause-destination : goal.copy-requires-in-Page-clause-destination
 copy-requires-in-Page-clause-destination c =
     let s = c.self.inside in
-    let there = all-there (held s.store s.windows s.a20) c.args.linear c.args.len (Page c.in-Page.block c.in-Page.to) c.self.invariant (ap (λ (h : Held). place h.memory c.args.linear) c.self.view_is ∙ sym c.place.ensures.place ∙ c.in-Page.is) c.requires.some c.requires.run c.requires.addresses in
+    let there = all-there (held s.store s.windows s.a20) c.args.linear c.args.len (Page c.in-Page.block c.in-Page.to) c.self.invariant.0 (ap (λ (h : Held). place h.memory c.args.linear) c.self.view_is ∙ sym c.place.ensures.place ∙ c.in-Page.is) c.requires.some c.requires.run c.requires.addresses in
     let first = there 0 c.requires.some in
     (first.0, page-fits (held s.store s.windows s.a20).memory c.in-Page.block c.in-Page.to c.args.len c.requires.some there)
 
 pub invariant_of-self-in-Page : goal.invariant_of-self-in-Page
 invariant_of-self-in-Page c =
     let s = c.self.inside in let m = (held s.store s.windows s.a20).memory in
-    let there = all-there (held s.store s.windows s.a20) c.args.linear c.args.len (Page c.in-Page.block c.in-Page.to) c.self.invariant (ap (λ (h : Held). place h.memory c.args.linear) c.self.view_is ∙ sym c.place.ensures.place ∙ c.in-Page.is) c.requires.some c.requires.run c.requires.addresses in
-    let room = page-fits m c.in-Page.block c.in-Page.to c.args.len c.requires.some there in
-    held_content s.store s.windows s.a20 c.copy-in-Page.new.self c.in-Page.block _ c.copy-in-Page.ensures
-    (length-with_part (page_bytes m c.in-Page.block) (part s.store.scratch c.args.at c.args.len) c.in-Page.to c.args.len room (part_length s.store.scratch c.args.at c.args.len (omega (arith, c.requires.scratch, c.self.invariant.scratch_length))))
-    c.self.invariant
+    let there = all-there (held s.store s.windows s.a20) c.args.linear c.args.len (Page c.in-Page.block c.in-Page.to) c.self.invariant.0 (ap (λ (h : Held). place h.memory c.args.linear) c.self.view_is ∙ sym c.place.ensures.place ∙ c.in-Page.is) c.requires.some c.requires.run c.requires.addresses in
+    let room = page-fits m c.in-Page.block c.in-Page.to c.args.len c.requires.some there in (
+      held_content s.store s.windows s.a20 c.copy-in-Page.new.self c.in-Page.block _ c.copy-in-Page.ensures
+          (length-with_part (page_bytes m c.in-Page.block) (part s.store.scratch c.args.at c.args.len) c.in-Page.to c.args.len room (part_length s.store.scratch c.args.at c.args.len (omega (arith, c.requires.scratch, c.self.invariant.0.scratch_length))))
+          c.self.invariant.0,
+      shifts_as s.store s.windows s.shifts c.copy-in-Page.new.self (ap (λ (x : Stored). x.blocks.places) c.copy-in-Page.ensures) c.self.invariant.1,
+    )
 
 pub returns-in-Low : goal.returns-in-Low
 returns-in-Low c =
     let s = c.self.inside in
     ap (λ (t : Stored). held t s.windows s.a20) c.copy.ensures
-    ∙ out-run (held s.store s.windows s.a20) c.args.linear c.args.len (Low c.in-Low.to) c.self.invariant (ap (λ (h : Held). place h.memory c.args.linear) c.self.view_is ∙ sym c.place.ensures.place ∙ c.in-Low.is) c.requires.some c.requires.run c.requires.addresses c.args.at (omega (arith, c.requires.scratch, c.self.invariant.scratch_length))
+    ∙ out-run (held s.store s.windows s.a20) c.args.linear c.args.len (Low c.in-Low.to) c.self.invariant.0 (ap (λ (h : Held). place h.memory c.args.linear) c.self.view_is ∙ sym c.place.ensures.place ∙ c.in-Low.is) c.requires.some c.requires.run c.requires.addresses c.args.at (omega (arith, c.requires.scratch, c.self.invariant.0.scratch_length))
     ∙ ap (λ (h : Held). copied_out h c.args.at c.args.linear c.args.len) c.self.view_is
 
 pub returns-in-Page : goal.returns-in-Page
 returns-in-Page c =
     let s = c.self.inside in
     ap (λ (t : Stored). held t s.windows s.a20) c.copy-in-Page.ensures
-    ∙ out-run (held s.store s.windows s.a20) c.args.linear c.args.len (Page c.in-Page.block c.in-Page.to) c.self.invariant (ap (λ (h : Held). place h.memory c.args.linear) c.self.view_is ∙ sym c.place.ensures.place ∙ c.in-Page.is) c.requires.some c.requires.run c.requires.addresses c.args.at (omega (arith, c.requires.scratch, c.self.invariant.scratch_length))
+    ∙ out-run (held s.store s.windows s.a20) c.args.linear c.args.len (Page c.in-Page.block c.in-Page.to) c.self.invariant.0 (ap (λ (h : Held). place h.memory c.args.linear) c.self.view_is ∙ sym c.place.ensures.place ∙ c.in-Page.is) c.requires.some c.requires.run c.requires.addresses c.args.at (omega (arith, c.requires.scratch, c.self.invariant.0.scratch_length))
     ∙ ap (λ (h : Held). copied_out h c.args.at c.args.linear c.args.len) c.self.view_is
 
 -- what is written where nothing is kept

@@ -2,10 +2,13 @@ use Rattle.std.proofs.Common.{◌∙◌, ap}
 use Rattle.dm_space.specs.Memory.{Held}
 use Rattle.dm_space.specs.Unseen.{shows}
 use Rattle.dm_space.proofs.Keeping.{held_resized}
+use Rattle.dm_space.proofs.Shifts.{shifts_resized}
 use Rattle.dm_space.proofs.space.Space.resize.Goals as goal
 
 pub invariant_of-self : goal.invariant_of-self
 invariant_of-self c =
     let s = c.self.inside in
-    held_resized s.store s.windows s.a20 c.resize.new.self c.resize.result c.args.block c.args.units c.resize.ensures
-    (ap (λ (h : Held). shows h.memory.windows c.args.block) c.self.view_is ∙ c.requires.hidden) c.self.invariant
+    let hidden = ap (λ (h : Held). shows h.memory.windows c.args.block) c.self.view_is ∙ c.requires.hidden in (
+      held_resized s.store s.windows s.a20 c.resize.new.self c.resize.result c.args.block c.args.units c.resize.ensures hidden c.self.invariant.0,
+      shifts_resized s.store s.windows s.shifts c.resize.new.self c.resize.result c.args.block c.args.units c.resize.ensures hidden c.self.invariant.1,
+    )
