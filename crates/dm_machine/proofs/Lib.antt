@@ -4,6 +4,7 @@ pub mod OneRun
 pub mod OneStop
 mod DecodeCaches
 mod Elements
+mod Blocks
 mod Confined
 mod Kept
 mod Extended

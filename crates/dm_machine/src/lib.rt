@@ -1,6 +1,7 @@
 //! The machine: load, step and run, and their laws.
 #![tactic(auto)]
 
+mod block;
 mod copy;
 mod decode_cache;
 mod input;
