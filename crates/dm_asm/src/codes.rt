@@ -18,7 +18,7 @@ use dm_lines::{
     Amount, Expression, Instruction, Item, Items, Term, byte, expression_word, outlines_stand,
     written_of,
 };
-use dm_text::words::{
+use dm_decode::words::{
     Words, Written, read_encoded, stand_ins_have_the_length, words_are_one_instruction,
 };
 

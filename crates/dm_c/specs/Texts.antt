@@ -3,7 +3,7 @@ use Rattle.std.specs.Prelude.{◌≡◌, ◌⊎◌, ℕ, ◌<◌, ◌≤◌, Lis
 use Rattle.dm_asm.specs.declared.refusal.AssemblyRefusal.{AssemblyRefusal}
 use Rattle.dm_asm.specs.declared.refusal.AssemblyRefusal.TheVariants.{Memory}
 use Rattle.dm_asm.specs.Programs.{Assembles, Refuses}
-use Rattle.dm_text.specs.disassembly.Listing.{IsListing}
+use Rattle.dm_decode.specs.disassembly.Listing.{IsListing}
 use Rattle.dm_c.specs.Statuses.{text_status_of, wrong_line}
 use Rattle.dm_host_calls.specs.Calls.{GivesItems}
 

@@ -9,9 +9,9 @@ use Rattle.dm_ins.specs.declared.action.Mnemonic.{Mnemonic}
 use Rattle.dm_ins.specs.declared.prefix.Prefixes.{Prefixes}
 use Rattle.dm_ins.specs.Spelling.{no_prefix}
 use Rattle.dm_ins.specs.Walks.{◌>>=◌}
-use Rattle.dm_text.specs.declared.words.written.Size.{Size}
-use Rattle.dm_text.specs.declared.words.written.Size.TheVariants.{Absent}
-use Rattle.dm_text.specs.Names.{named}
+use Rattle.dm_decode.specs.declared.words.written.Size.{Size}
+use Rattle.dm_decode.specs.declared.words.written.Size.TheVariants.{Absent}
+use Rattle.dm_decode.specs.Names.{named}
 use Rattle.dm_lines.specs.declared.words.Keyword.{Keyword}
 use Rattle.dm_lines.specs.declared.words.Keyword.TheVariants.{Nop}
 use Rattle.dm_lines.specs.declared.words.Reserved.{Reserved}

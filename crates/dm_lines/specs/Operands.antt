@@ -6,8 +6,8 @@ use Rattle.dm_ins.specs.declared.operand.WordRegister.TheVariants.{Bx, Bp, Si, D
 use Rattle.dm_ins.specs.declared.operand.Base.{Base}
 use Rattle.dm_ins.specs.declared.operand.Base.TheVariants.{BxSi, BxDi, BpSi, BpDi, OnSi, OnDi, OnBp, OnBx}
 use Rattle.dm_ins.specs.Walks.{◌>>=◌}
-use Rattle.dm_text.specs.declared.words.written.Size.{Size}
-use Rattle.dm_text.specs.declared.words.written.Size.TheVariants.{Absent}
+use Rattle.dm_decode.specs.declared.words.written.Size.{Size}
+use Rattle.dm_decode.specs.declared.words.written.Size.TheVariants.{Absent}
 use Rattle.dm_lines.specs.declared.token.Token.{Token}
 use Rattle.dm_lines.specs.declared.token.Token.TheVariants as t
 use Rattle.dm_lines.specs.declared.term.Amount.{Amount}

@@ -8,7 +8,7 @@ ghost use Rattle.dm_lines.specs.inner.Operands.{seen, option_now, parts_behind};
 use crate::term::{Amount, Expression, Term};
 use crate::token::Token;
 use dm_ins::{Base, WordRegister};
-use dm_text::words::Size;
+use dm_decode::words::Size;
 
 /// The number -n; None if it is below -8000h.
 fn negative(n: u16) -> Option<Amount>
