@@ -1,3 +1,4 @@
+pub mod calls
 pub mod Held
 pub mod Statuses
 pub mod Calls

@@ -4,7 +4,7 @@ ghost use Rattle.dm_c.specs.Statuses.{text_status_of, wrong_line};
 ghost use Rattle.dm_c.specs.Texts.{AssemblesTo, DisassemblesTo};
 
 use dm_asm::{AssemblyRefusal, assemble, disassemble};
-use dm_host_calls::{OUT_OF_MEMORY, TOO_LONG, give};
+use crate::calls::{OUT_OF_MEMORY, TOO_LONG, give};
 use std::alloc::Global;
 
 /// The largest number of bytes of a program that is disassembled.
