@@ -1,5 +1,5 @@
 //! The exports on the handle of a machine, which `include/mezguld.h` declares for C. Each returns a status: 0 for
-//! success, otherwise why not, as `dm_host_calls` numbers it. But for `dm_c_new` and `dm_c_free`, the status is 1 if
+//! success, otherwise why not, as module `calls` numbers it. But for `dm_c_new` and `dm_c_free`, the status is 1 if
 //! the handle holds no machine, and nothing changes then. For all that need a loaded program, it is 14 if there is
 //! none (3 if an allocation for the points of `dm_c_run_until` fails before), and nothing changes then.
 ghost use Rattle.std.specs.Prelude.{◌≡◌, ◌<◌, true, false, nat_lt};
