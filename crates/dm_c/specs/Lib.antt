@@ -4,3 +4,4 @@ pub mod Statuses
 pub mod Calls
 pub mod Handles
 pub mod Texts
+pub mod inner

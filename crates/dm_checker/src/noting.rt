@@ -5,7 +5,8 @@ ghost use Rattle.dm_checker.specs.Courses.{with_course};
 ghost use Rattle.dm_services.specs.state.State.{State};
 ghost use Rattle.dm_origins.specs.Origins.{with_freed};
 ghost use Rattle.dm_checker.specs.Origins.{if_both_whole, known_by};
-ghost use Rattle.dm_checker.specs.Watching.{header_of, broken_at, shown_of};
+ghost use Rattle.dm_checker.specs.Watching.{header_of, broken_at};
+ghost use Rattle.dm_checker.specs.inner.Watching.{shown_of};
 ghost use Rattle.dm_checker.specs.inner.Steps.{IsBefore};
 
 use crate::acts::Before;
