@@ -12,6 +12,7 @@ ghost use Rattle.dm_c.specs.calls.Machines.{AddsTo, LoadsTo, RunsBy, RunsUntilTo
 use crate::copies;
 use crate::handle::MachineHandle;
 use dm_host::Host;
+use crate::calls;
 use crate::calls::{
     Awaited, IN_USE, NO_MACHINE, OK, OUT_OF_MEMORY, Point, Registers, Stopped, give, status_of,
 };
