@@ -9,13 +9,13 @@ ghost use Rattle.dm_c.specs.Handles.{Makes, CopiesTo};
 ghost use Rattle.dm_c.specs.calls.Events.{EventsTo};
 ghost use Rattle.dm_c.specs.calls.Machines.{AddsTo, LoadsTo, RunsBy, RunsUntilTo, StepsTo, RegistersTo, SetsRegistersTo, ReadsTo, WritesTo, ReadsLinearTo, WritesLinearTo, OutputTo, OutputCountTo, SetsMoreTo, SuppliesTo, InputLeftTo, CommandsTo, ChecksTo, AnswersTo};
 
-use crate::copies;
-use crate::handle::MachineHandle;
-use dm_host::Host;
-use crate::calls;
 use crate::calls::{
-    Awaited, IN_USE, NO_MACHINE, OK, OUT_OF_MEMORY, Point, Registers, Stopped, give, status_of,
+    Awaited, IN_USE, NO_MACHINE, OK, OUT_OF_MEMORY, Point, Registers, Stopped, give_items,
+    status_of,
 };
+use crate::handle::MachineHandle;
+use crate::{calls, copies};
+use dm_host::Host;
 use dm_machine::Sizes;
 use std::alloc::Global;
 
@@ -469,7 +469,7 @@ pub extern "C" fn dm_c_answer(
     let Some(host) = machine.take(alloc) else {
         return NO_MACHINE;
     };
-    let status = give(host.answer(), buffer, wanted);
+    let status = give_items(host.answer(), buffer, wanted);
     machine.put(host);
     status
 }

@@ -5,9 +5,9 @@ ghost use Rattle.std.specs.Prelude.{◌≡◌};
 ghost use Rattle.dm_c.specs.Calls.{IsCall};
 ghost use Rattle.dm_c.specs.calls.Lists.{BlocksTo, PageHandlesTo, WindowsTo, ExtendedBlocksTo, UpperBlocksTo, HighMemoryTo, ReadsPageTo, ReadsBlockTo, FindingsTo, FindingCountsTo, FindingLineTo};
 
-use crate::handle::MachineHandle;
 use crate::calls;
 use crate::calls::{ListEnd, NO_MACHINE};
+use crate::handle::MachineHandle;
 use dm_views::inventory::{ArenaBlock, ExtendedBlock, FoundRecord, PageHandle, UpperBlock, Window};
 use std::alloc::Global;
 

@@ -58,7 +58,7 @@ fn note_course(origins: &mut Origins, before: &Before, machine: &Machine) -> Res
 {
     let step = machine.steps();
     if has_started(&before.cpu, &machine.cpu(), before.call) {
-        let process = Process::at(machine.space(), machine.present(), step);
+        let process = Process::of(machine.space(), machine.present(), step);
         return origins.note_start(process);
     }
     if ends_process(before.call) {

@@ -217,7 +217,7 @@ impl Ems {
     }
 
     /// The blocks of a handle's pages, in the order of their logical numbers.
-    pub fn blocks(&self, handle: u16) -> ArrayVec<Block, 512>
+    pub fn page_blocks(&self, handle: u16) -> ArrayVec<Block, 512>
         ensures { result.items ≡ blocks_of self.now handle }
     {
         let mut blocks = ArrayVec::new();

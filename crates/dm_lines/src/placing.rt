@@ -7,8 +7,8 @@ ghost use Rattle.dm_lines.specs.Placing.{displaced, standing, low_byte_of, amoun
 
 use crate::operands::word;
 use crate::term::{Amount, Expression, Term};
-use dm_ins::{Address, Base, Mnemonic};
 use dm_decode::words::{Numeral, Written};
+use dm_ins::{Address, Base, Mnemonic};
 
 /// The value of a label with a number added to it; None outside 0 to FFFFh.
 fn moved_by(amount: Amount, place: u16) -> Option<u16>
@@ -42,7 +42,7 @@ fn low_byte(n: u16) -> Option<u8>
 }
 
 /// The byte of a number from -80h to FFh; None for another.
-pub fn byte(amount: Amount) -> Option<u8>
+pub fn amount_byte(amount: Amount) -> Option<u8>
     ensures { result ≡ amount_byte amount }
 {
     match amount {
@@ -87,7 +87,7 @@ fn number(amount: Amount, next: u16) -> Numeral
 {
     let target = word(amount);
     Numeral {
-        byte: byte(amount),
+        byte: amount_byte(amount),
         word: Some(target),
         distance: distance(target, next),
         is_one: is_one(amount),

@@ -9,9 +9,9 @@ ghost use Rattle.dm_lines.specs.inner.Words.{all_words, those, alias_name, keywo
 ghost use Rattle.dm_lines.specs.inner.Words.{begins};
 
 use crate::token::Token;
-use dm_ins::{ByteRegister, Mnemonic, Repeat, SegmentRegister, WordRegister};
 use dm_decode::words::Size;
 use dm_decode::{byte_register_name, mnemonic_name, segment_register_name, word_register_name};
+use dm_ins::{ByteRegister, Mnemonic, Repeat, SegmentRegister, WordRegister};
 
 /// Another name of a mnemonic, as JC for JB.
 #[derive(Clone, Copy, Debug, PartialEq, Eq)]

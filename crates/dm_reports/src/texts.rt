@@ -9,9 +9,9 @@ ghost use Rattle.dm_reports.specs.Texts.{act_text, contents_text, count_text, en
 
 use crate::meanings::meaning_of;
 use crate::names::put_call;
+use dm_decode::{Line, text};
 use dm_findings::{Act, Contents, Finding, Found, Kept, Listed, Origin, Site};
 use dm_ins::Ins;
-use dm_decode::{Line, text};
 use dm_views::{byte_digits, put_address, word_digits};
 use itoa::Buffer;
 use std::alloc::AllocError;

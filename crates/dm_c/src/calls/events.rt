@@ -1,7 +1,7 @@
 //! Events that end a run, as C passes them, and how such a run has ended.
 ghost use Rattle.std.specs.Prelude.{◌≡◌, IfOk, map};
 ghost use Rattle.std.specs.List.{list_all};
-ghost use Rattle.dm_c.specs.calls.Events.{is_known, event_of, ended_of, place_of_event};
+ghost use Rattle.dm_c.specs.calls.Events.{is_known, event_of, ended_of, event_index};
 
 use crate::calls::values::{Stopped, stopped_of};
 use dm_debug::stops::{Event, Range, RunEnd};
@@ -89,7 +89,7 @@ pub fn ended_of(ending: RunEnd) -> Stopped
 
 /// The place in the list of the event that came; `before` if none did.
 pub fn place_in(ending: RunEnd, before: usize) -> usize
-    ensures { result ≡ place_of_event ending before }
+    ensures { result ≡ event_index ending before }
 {
     match ending {
         RunEnd::Stopped(_) => before,

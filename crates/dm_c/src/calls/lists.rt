@@ -5,7 +5,7 @@ ghost use Rattle.std.specs.Prelude.{◌≡◌};
 ghost use Rattle.dm_c.specs.calls.Lists.{end_of, BlocksTo, PageHandlesTo, WindowsTo, ExtendedBlocksTo, UpperBlocksTo, HighMemoryTo, ReadsPageTo, ReadsBlockTo, FindingsTo, FindingCountsTo, FindingLineTo};
 ghost use Rattle.dm_views.specs.inventory.Pages.{truth_number};
 
-use crate::calls::values::{OK, give, status_of};
+use crate::calls::values::{OK, give_items, status_of};
 use dm_host::Host;
 use dm_views::inventory::{ArenaBlock, ExtendedBlock, FoundRecord, PageHandle, UpperBlock, Window};
 use std::alloc::Global;
@@ -53,7 +53,7 @@ pub fn blocks(
     match host.blocks(alloc) {
         Ok((blocks, broken)) => {
             *end = end_of(broken);
-            give(blocks.as_slice(), buffer, wanted)
+            give_items(blocks.as_slice(), buffer, wanted)
         }
         Err(refusal) => status_of(refusal),
     }
@@ -70,7 +70,7 @@ pub fn page_handles(
     ensures { PageHandlesTo host.now buffer.old buffer.new wanted.old wanted.new result host.now }
 {
     match host.page_handles(alloc) {
-        Ok(handles) => give(handles.as_slice(), buffer, wanted),
+        Ok(handles) => give_items(handles.as_slice(), buffer, wanted),
         Err(refusal) => status_of(refusal),
     }
 }
@@ -81,7 +81,7 @@ pub fn windows(host: &Host, buffer: &mut [Window], wanted: &mut usize) -> u32
     ensures { WindowsTo host.now buffer.old buffer.new wanted.old wanted.new result host.now }
 {
     match host.windows() {
-        Ok(windows) => give(&windows, buffer, wanted),
+        Ok(windows) => give_items(&windows, buffer, wanted),
         Err(refusal) => status_of(refusal),
     }
 }
@@ -97,7 +97,7 @@ pub fn extended_blocks(
     ensures { ExtendedBlocksTo host.now buffer.old buffer.new wanted.old wanted.new result host.now }
 {
     match host.extended_blocks(alloc) {
-        Ok(blocks) => give(blocks.as_slice(), buffer, wanted),
+        Ok(blocks) => give_items(blocks.as_slice(), buffer, wanted),
         Err(refusal) => status_of(refusal),
     }
 }
@@ -113,7 +113,7 @@ pub fn upper_blocks(
     ensures { UpperBlocksTo host.now buffer.old buffer.new wanted.old wanted.new result host.now }
 {
     match host.upper_blocks(alloc) {
-        Ok(blocks) => give(blocks.as_slice(), buffer, wanted),
+        Ok(blocks) => give_items(blocks.as_slice(), buffer, wanted),
         Err(refusal) => status_of(refusal),
     }
 }
@@ -163,7 +163,7 @@ pub fn findings(alloc: Global, host: &Host, buffer: &mut [FoundRecord], wanted: 
     ensures { FindingsTo host.now buffer.old buffer.new wanted.old wanted.new result host.now }
 {
     match host.findings(alloc) {
-        Ok(records) => give(records.as_slice(), buffer, wanted),
+        Ok(records) => give_items(records.as_slice(), buffer, wanted),
         Err(refusal) => status_of(refusal),
     }
 }
@@ -193,7 +193,7 @@ pub fn finding_line(
     ensures { FindingLineTo host.now k buffer.old buffer.new wanted.old wanted.new result host.now }
 {
     match host.finding_line(alloc, k) {
-        Ok(text) => give(text.as_slice(), buffer, wanted),
+        Ok(text) => give_items(text.as_slice(), buffer, wanted),
         Err(refusal) => status_of(refusal),
     }
 }

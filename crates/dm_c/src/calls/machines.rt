@@ -7,8 +7,8 @@ ghost use Rattle.dm_c.specs.calls.Machines.{AddsTo, LoadsTo, RunsBy, RunsUntilTo
 
 use crate::calls::events::{Awaited, BAD_EVENT, are_known, ended_of, events_of, place_in};
 use crate::calls::values::{
-    OK, OUT_OF_MEMORY, Point, Registers, Stopped, cpu_of, give, points_of, registers_of, rest_of,
-    status_of, stopped_of,
+    OK, OUT_OF_MEMORY, Point, Registers, Stopped, cpu_of, give_items, points_of, registers_of,
+    rest_of, status_of, stopped_of,
 };
 use dm_host::Host;
 use std::alloc::Global;
@@ -189,7 +189,7 @@ pub fn output(host: &Host, from: usize, buffer: &mut [u8], wanted: &mut usize) -
     ensures { OutputTo host.now from buffer.old buffer.new wanted.old wanted.new result host.now }
 {
     match host.output() {
-        Ok(bytes) => give(rest_of(bytes, from), buffer, wanted),
+        Ok(bytes) => give_items(rest_of(bytes, from), buffer, wanted),
         Err(refusal) => status_of(refusal),
     }
 }

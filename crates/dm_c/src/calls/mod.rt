@@ -17,5 +17,6 @@ pub use machines::{
     write_linear,
 };
 pub use values::{
-    IN_USE, NO_MACHINE, OK, OUT_OF_MEMORY, Point, Registers, Stopped, TOO_LONG, give, status_of,
+    IN_USE, NO_MACHINE, OK, OUT_OF_MEMORY, Point, Registers, Stopped, TOO_LONG, give_items,
+    status_of,
 };

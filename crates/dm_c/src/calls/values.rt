@@ -183,7 +183,7 @@ pub fn rest_of(bytes: &[u8], from: usize) -> &[u8]
 
 /// The end of the calls that give as much as there is: sets `wanted` to the number of items. If they fit, copies them
 /// to the front of the buffer and returns 0; otherwise returns 4, and the buffer stays.
-pub fn give<T: Copy>(items: &[T], buffer: &mut [T], wanted: &mut usize) -> u32
+pub fn give_items<T: Copy>(items: &[T], buffer: &mut [T], wanted: &mut usize) -> u32
     ensures { GivesItems items.now buffer.old buffer.new wanted.new result }
 {
     *wanted = items.len();

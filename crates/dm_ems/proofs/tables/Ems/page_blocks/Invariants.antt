@@ -3,7 +3,7 @@ use Rattle.std.specs.Prelude.{filter}
 use Rattle.arrayvec.specs.ArrayVec.{array_vec_len}
 use Rattle.dm_ems.specs.declared.tables.Page.{Page}
 use Rattle.dm_ems.specs.Tables.{is_of}
-use Rattle.dm_ems.proofs.tables.Ems.blocks.Given as goal
+use Rattle.dm_ems.proofs.tables.Ems.page_blocks.Given as goal
 
 abbrev pub invariant-loop-page : goal.invariant-loop-page
 invariant-loop-page l =

@@ -6,7 +6,7 @@ use Rattle.dm_gdb.specs.declared.replies.Reply.TheVariants as reply
 use Rattle.dm_target.specs.Registers.{all_registers}
 use Rattle.dm_gdb.specs.Servers.{Served, Replies, plain, registers, register, memory, inserts, removes, describes, places, threads, ends, memory_reply, register_reply, threads_reply}
 use Rattle.dm_gdb.proofs.Replying.{replies_as, only_these, if_ok_both}
-use Rattle.dm_gdb.proofs.server.Server.answer.Goals as goal
+use Rattle.dm_gdb.proofs.server.Server.reply_to.Goals as goal
 
 pub returns-in_ok-bytes-in-Registers-clause-ok : goal.returns-in_ok-bytes-in-Registers-clause-ok
 returns-in_ok-bytes-in-Registers-clause-ok c =

@@ -1,6 +1,6 @@
 use Rattle.std.proofs.Common.{sym, ◌∙◌}
 use Rattle.dm_gdb.proofs.Telling.{on_ok_one, kept, silent, taken}
-use Rattle.dm_gdb.proofs.connection.Connection.take.Goals as goal
+use Rattle.dm_gdb.proofs.connection.Connection.receive.Goals as goal
 
 pub returns-in-Some : goal.returns-in-Some
 returns-in-Some c =
