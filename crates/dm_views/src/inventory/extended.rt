@@ -44,7 +44,7 @@ fn put_block(
         return Ok(());
     };
     out.push(ExtendedBlock {
-        address: slot.base(space) as u64,
+        address: slot.begin_address(space) as u64,
         locks: slot.locks as u32,
         handle,
         kib: slot.kib,
