@@ -389,7 +389,7 @@ fn prefixes_stand_once_in_any_order(rt: HostRuntime) -> Result<(), Fail> {
     check(&rt, rt.alloc(), PREFIXES)
 }
 
-/// Definitions: dm_lines Operands terms_of term_pair term_of from_number far_pointer
+/// Definitions: dm_lines Operands terms_of term_pair term_of term_from_number far_pointer
 #[test]
 fn operands_are_registers_and_values(rt: HostRuntime) -> Result<(), Fail> {
     check(&rt, rt.alloc(), OPERANDS)
