@@ -4,8 +4,8 @@
 //! next one after the block before it, and the last one is `Z`.
 
 use self::Call::{Allocate, Free, FreeAll, Pair, Resize};
-use crate::checks::same;
 use crate::arena::memory::new_space;
+use crate::checks::same;
 use dm_arena::{
     ArenaRefusal, Fit, Strategy, allocate, free, free_all, plan_pair, resize, write_pair,
 };

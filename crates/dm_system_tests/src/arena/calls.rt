@@ -1,7 +1,7 @@
 //! Arena calls of a program with its prefix at 0103h and its environment at 0101h.
 
-use crate::checks::same;
 use crate::arena::memory::new_space;
+use crate::checks::same;
 use dm_arena::{
     ArenaRefusal, Fit, Strategy, allocate, free, free_all, plan_pair, resize, write_pair,
 };

@@ -6,8 +6,8 @@
 
 use crate::arena::blocks::Call::{self, Allocate, Free, FreeAll, Pair, Resize};
 use crate::arena::blocks::{answer, spell, spells};
-use crate::checks::same;
 use crate::arena::memory::new_space;
+use crate::checks::same;
 use dm_arena::{ArenaRefusal, Fit, Strategy, allocate};
 use dm_blocks::{Entry, Header, Step, walk};
 use dm_pool::{Block, NewError};

@@ -6,8 +6,8 @@
 //! is that of the free block of upper memory.
 
 use self::Act::{Allocates, Frees, FreesAll, Links, Pairs, Resizes, Stands, Tells, Writes};
-use crate::checks::same;
 use crate::arena::memory::new_space;
+use crate::checks::same;
 use dm_arena::{
     Area, ArenaRefusal, Fit, Strategy, allocate, free, free_all, link, linked, plan_pair, resize,
     write_pair,
