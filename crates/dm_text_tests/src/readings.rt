@@ -3,11 +3,11 @@
 
 use crate::checks::same;
 use crate::words::check;
-use dm_ins::{Address, Base, ByteRegister, Mnemonic, Prefixes, Repeat, SegmentRegister, encode};
 use dm_decode::words::{
     Size, Words, Written, own_words_are_read, read_words, stand_ins_have_the_length,
     words_are_one_instruction,
 };
+use dm_ins::{Address, Base, ByteRegister, Mnemonic, Prefixes, Repeat, SegmentRegister, encode};
 use std::test::Fail;
 
 /// BYTE and WORD precede memory exactly if no general register gives the size.

@@ -6,8 +6,7 @@ ghost use Rattle.dm_ins.specs.declared.ins.Ins.{Ins};
 ghost use Rattle.dm_decode.specs.disassembly.Listing.{bytes_at, data_text, IsListing, IsListedLine, StandsInFile};
 ghost use Rattle.dm_decode.specs.Texts.{text_of};
 
-use crate::{Line, byte_number, text};
-use crate::decode;
+use crate::{Line, byte_number, decode, text};
 use dm_ins::{Ins, encode};
 use std::alloc::{AllocError, Global};
 

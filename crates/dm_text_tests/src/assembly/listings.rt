@@ -2,8 +2,8 @@
 //!
 //! A row is bytes and their lines, as `8B C3| DB 08Bh,0C3h ; MOV AX,BX`; `/` follows each line.
 
-use crate::checks::same;
 use crate::assembly::rows::{part, put_bytes};
+use crate::checks::same;
 use dm_asm::{assemble, disassemble};
 use std::alloc::Global;
 use std::process::Abort;

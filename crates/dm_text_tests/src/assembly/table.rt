@@ -4,8 +4,8 @@
 //!
 //! A row is a text and its bytes, as `MOV AX,CX| 89 C8`.
 
-use crate::checks::same;
 use crate::assembly::rows::{part, put_bytes};
+use crate::checks::same;
 use dm_asm::{assemble, disassemble};
 use std::alloc::Global;
 use std::process::Abort;

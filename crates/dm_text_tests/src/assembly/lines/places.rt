@@ -5,8 +5,8 @@
 //! after a comma, for the second: a number as a byte, as a word and as a distance, `one` if it is 1. The last part
 //! is the second operand's outline, before any label has an address.
 
-use crate::checks::same;
 use crate::assembly::lines::rows::{Reader, part, put_written};
+use crate::checks::same;
 use dm_lines::{Instruction, Item, outline, written_of};
 use std::alloc::Global;
 use std::process::Abort;

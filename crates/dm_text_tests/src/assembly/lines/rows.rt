@@ -10,12 +10,12 @@
 
 use crate::checks::same;
 use arrayvec::ArrayVec;
+use dm_decode::mnemonic_name;
+use dm_decode::words::{Numeral, Written};
 use dm_ins::{Prefixes, Repeat};
 use dm_lines::{
     Amount, Expression, Instruction, Item, Items, Name, Statement, Term, Tokens, line_statement,
 };
-use dm_decode::mnemonic_name;
-use dm_decode::words::{Numeral, Written};
 use std::alloc::Global;
 use std::process::Abort;
 use std::test::Fail;
