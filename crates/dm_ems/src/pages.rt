@@ -80,7 +80,7 @@ impl Ems {
         ensures left { expanded self.new space.new.memory ≡ forgotten (expanded self.old space.old.memory) block }
         ensures kept { space.new ≡ record space.old { memory = space.new.memory } }
     {
-        if let Some(at) = self.place(block) {
+        if let Some(at) = self.index_of(block) {
             unmap(space, block);
             self.unmap_saved(block);
             self.remove(at);
