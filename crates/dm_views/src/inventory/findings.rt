@@ -74,26 +74,8 @@ fn kind_number(finding: &Finding) -> u32
     ensures { result ≡ kind_number finding.now }
 {
     match finding {
-        Finding::Overwritten(_, _, _) => 0,
-        Finding::MappedAway(_) => 1,
-        Finding::Destroyed(_) => 2,
-        Finding::Whole => 3,
-        Finding::FreedTwice(_) => 4,
-        Finding::Refused(_) => 5,
-        Finding::NotAllocated(_) => 6,
-        Finding::DivisionError => 7,
-        Finding::Short(_, _) => 8,
-        Finding::NotServed => 9,
-        Finding::FreeRead(_, _, _) => 10,
-        Finding::FreeWritten(_, _, _) => 11,
-        Finding::StackFreed(_) => 12,
-        Finding::WindowLost(_, _, _) => 13,
-        Finding::RomWritten(_, _) => 14,
-        Finding::NothingWritten(_, _) => 15,
-        Finding::TailWritten(_, _) => 16,
-        Finding::OtherFreed(_, _) => 17,
-        Finding::NotResized(_) => 18,
-        Finding::Left(kept) | Finding::Held(kept) => kept_kind(kept),
+        Finding::Held(kept) => kept_kind(kept),
+        _ => dm_findings::kind_of(finding) as u32,
     }
 }
 
