@@ -159,7 +159,7 @@ def of_tree():
         "mnemonics": variants("crates/dm_ins/src/action.rt", "Mnemonic"),
         "forms": variants("crates/dm_forms/src/form.rt", "Form"),
         # (A test compares this number with the table's, and has the prefixes in it.)
-        "table_entries": captured("crates/dm_asm_tests/src/table.rt", r'^    same\(&rt, "rows", text\.lines\(\)\.count\(\), (\d+)\);$') - PREFIXES,
+        "table_entries": captured("crates/dm_text_tests/src/assembly/table.rt", r'^    same\(&rt, "rows", text\.lines\(\)\.count\(\), (\d+)\);$') - PREFIXES,
         "functions_of_dos": len(served.numbers(served.DOS)),
         "functions_of_ems": len(served.numbers(served.EXPANDED)),
         "functions_of_xms": len(served.numbers(served.EXTENDED)),

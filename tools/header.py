@@ -8,8 +8,8 @@ import os
 import re
 
 ROOT = os.path.dirname(os.path.dirname(os.path.abspath(__file__)))
-# The crate of the exports, and those that have the records and statuses which C gets.
-FOLDERS = ("dm_c/src", "dm_host_calls/src", "dm_views/src/inventory")
+# The folders of the exports, and of the records and statuses which C gets.
+FOLDERS = ("dm_c/src", "dm_c/src/calls", "dm_views/src/inventory")
 # The C type of a number, and of each type of the exports.
 NUMBERS = {"u8": "uint8_t", "u16": "uint16_t", "u32": "uint32_t", "u64": "uint64_t", "usize": "size_t"}
 TYPES = {**NUMBERS, "MachineHandle": "mezguld", "Stopped": "mezguld_stopped", "Registers": "mezguld_cpu", "Point": "mezguld_point", "Awaited": "mezguld_event",

@@ -73,7 +73,7 @@ class Contract:
 
     def __init__(self, crate, path, name, is_public, line):
         self.crate, self.path, self.name, self.is_public, self.line = crate, path, name, is_public, line
-        self.clauses, self.refs, self.docs, self.head, self.types = [], [], [], [], []
+        self.clauses, self.refs, self.docs, self.head, self.types, self.trait = [], [], [], [], [], None
 
 
 class Specs:
@@ -181,7 +181,7 @@ class Specs:
                 self.imports[id(function)] = (whole, inner)
                 function.docs = [it[3:].strip() for it in docs if it.startswith("///")]
                 function.head = head_of(lines[number - 1 :])
-                function.types = [block[2]] if block else []
+                function.types, function.trait = [block[2]] if block else [], block[1] if block else trait
             elif CLAUSE.match(line) and function:
                 function.clauses.append(line.strip())
                 is_open = line.count("{") > line.count("}")

@@ -29,6 +29,7 @@ PLANTED = (
     ("python/mezguld/__init__.py", "3: OutOfMemory, 5: TooLarge", "13: OutOfMemory, 5: TooLarge", "MEZGULD_OUT_OF_MEMORY"),
     ("include/mezguld.h", "MEZGULD_SHORT = 13", "MEZGULD_SHORT = 3", "MEZGULD_SHORT"),
     ("include/mezguld.h", '#define MEZGULD_VERSION "', '#define MEZGULD_VERSION "9', "the version is 9"),
+    ("docs/names.md", "| `total` | how many there are in all: bytes of statements, pages |\n", "", "does not have `total`"),
     ("docs/manual.md", "| `--ems` | pages of 16 KiB | 64 |", "| `--ems` | pages of 16 KiB | 65 |", "the default of --ems is 65, and 64"),
 )
 # The same, of what stands in the kit's files.

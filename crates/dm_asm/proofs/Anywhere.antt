@@ -7,13 +7,13 @@ use Rattle.dm_ins.specs.declared.operand.Base.TheVariants.{Direct}
 use Rattle.dm_ins.specs.declared.operand.Operand.{Operand}
 use Rattle.dm_ins.specs.Preferred.{IsPreferred}
 use Rattle.dm_ins.proofs.Preferred.{has_preferred}
-use Rattle.dm_text.specs.declared.words.written.Size.{Size}
-use Rattle.dm_text.specs.declared.words.written.Written.{Written}
-use Rattle.dm_text.specs.declared.words.written.Written.TheVariants as w
-use Rattle.dm_text.specs.declared.words.written.Words.{Words}
-use Rattle.dm_text.specs.words.Words.{AreWords, IsNumber, IsWritten, word_written}
-use Rattle.dm_text.specs.words.StandIns.{StandsFor}
-use Rattle.dm_text.specs.words.Laws.{StandInsAreRead, LengthsAreKnown}
+use Rattle.dm_decode.specs.declared.words.written.Size.{Size}
+use Rattle.dm_decode.specs.declared.words.written.Written.{Written}
+use Rattle.dm_decode.specs.declared.words.written.Written.TheVariants as w
+use Rattle.dm_decode.specs.declared.words.written.Words.{Words}
+use Rattle.dm_decode.specs.words.Words.{AreWords, IsNumber, IsWritten, word_written}
+use Rattle.dm_decode.specs.words.StandIns.{StandsFor}
+use Rattle.dm_decode.specs.words.Laws.{StandInsAreRead, LengthsAreKnown}
 use Rattle.dm_lines.specs.declared.token.Name as Name'
 use Rattle.dm_lines.specs.declared.term.Amount.{Amount}
 use Rattle.dm_lines.specs.declared.term.Term.{Term}

@@ -3,9 +3,9 @@ use Rattle.std.proofs.Common.{◌≡◌, ℕ, List, length, sym, ap, ◌∙◌}
 use Rattle.dm_ins.specs.declared.ins.Ins.{Ins}
 use Rattle.dm_ins.specs.Preferred.{IsPreferred}
 use Rattle.dm_ins.proofs.Preferred.{preferred_same}
-use Rattle.dm_text.specs.declared.words.written.Words.{Words}
-use Rattle.dm_text.specs.words.Words.{AreWords}
-use Rattle.dm_text.specs.words.Laws.{WordsAreOne}
+use Rattle.dm_decode.specs.declared.words.written.Words.{Words}
+use Rattle.dm_decode.specs.words.Words.{AreWords}
+use Rattle.dm_decode.specs.words.Laws.{WordsAreOne}
 use Rattle.dm_lines.specs.declared.statement.Instruction.{Instruction}
 use Rattle.dm_asm.specs.Codes.{HasShape}
 

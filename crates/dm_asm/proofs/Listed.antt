@@ -16,15 +16,15 @@ use Rattle.dm_ins.specs.Preferred.{IsPreferred}
 use Rattle.dm_ins.specs.Spelling.{SpellsAction}
 use Rattle.dm_ins.proofs.Shortest.{action_fits}
 use Rattle.dm_ins.proofs.Preferred.{has_preferred}
-use Rattle.dm_text.specs.Pieces.{digit, byte_in_text}
-use Rattle.dm_text.specs.Texts.{text_of}
-use Rattle.dm_text.specs.declared.words.written.Size.{Size}
-use Rattle.dm_text.specs.declared.words.written.Words.{Words}
-use Rattle.dm_text.specs.words.Words.{AreWords, size_word}
-use Rattle.dm_text.specs.words.Own as read
-use Rattle.dm_text.specs.words.Own.{words_of_action}
-use Rattle.dm_text.specs.words.StandIns.{StandsFor}
-use Rattle.dm_text.specs.words.Laws.{OwnWordsAreRead, StandInsAreRead, LengthsAreKnown}
+use Rattle.dm_decode.specs.Pieces.{digit, byte_in_text}
+use Rattle.dm_decode.specs.Texts.{text_of}
+use Rattle.dm_decode.specs.declared.words.written.Size.{Size}
+use Rattle.dm_decode.specs.declared.words.written.Words.{Words}
+use Rattle.dm_decode.specs.words.Words.{AreWords, size_word}
+use Rattle.dm_decode.specs.words.Own as read
+use Rattle.dm_decode.specs.words.Own.{words_of_action}
+use Rattle.dm_decode.specs.words.StandIns.{StandsFor}
+use Rattle.dm_decode.specs.words.Laws.{OwnWordsAreRead, StandInsAreRead, LengthsAreKnown}
 use Rattle.dm_lines.specs.declared.term.Amount.TheVariants.{Plus}
 use Rattle.dm_lines.specs.declared.statement.Instruction.{Instruction}
 use Rattle.dm_lines.specs.Own.{memory_term, own_term, own_instruction, own_statement}
@@ -32,9 +32,9 @@ use Rattle.dm_lines.specs.Placing.{amount_byte}
 use Rattle.dm_lines.specs.Statements.{Statement, line_statement}
 use Rattle.dm_lines.specs.Laws as line
 use Rattle.dm_lines.specs.Laws.{TermFits, IsComment, data_statement, OwnTermsAreWritten, OutlinesStand, TextsAreRead, TextsArePlain, DataIsRead}
-use Rattle.dm_text.specs.disassembly.Listing.{bytes_at, data_text, instruction_text, IsListedLine, preferred, other, single, Lists, none, more, IsListing}
-use Rattle.dm_text.proofs.disassembly.Lines.{IsPart, shows_part}
-use Rattle.dm_text.proofs.disassembly.Once.{bytes_long}
+use Rattle.dm_decode.specs.disassembly.Listing.{bytes_at, data_text, instruction_text, IsListedLine, preferred, other, single, Lists, none, more, IsListing}
+use Rattle.dm_decode.proofs.disassembly.Lines.{IsPart, shows_part}
+use Rattle.dm_decode.proofs.disassembly.Once.{bytes_long}
 use Rattle.dm_lines.specs.declared.token.Name as Name'
 use Rattle.dm_asm.specs.Labels.{Label, term_place}
 use Rattle.dm_asm.specs.Codes.{Codes, HasLength, HasShape, IsCoded, outlined, written_for, placed_words}

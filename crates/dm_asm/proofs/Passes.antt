@@ -7,7 +7,7 @@ use Rattle.dm_asm.specs.Lines.{lines_of}
 use Rattle.dm_asm.specs.Labels.{IsFree, place_of_label}
 use Rattle.dm_asm.specs.inner.Kept.{AreKept, AreNear, AreLaid}
 use Rattle.dm_asm.specs.Programs.{Sized, Reads, total, own_label, labels_of, AreRead, AreCoded, joined, Laid, longest_program, IsBehindGood, IsBehindCoded, Assembles, Refuses, syntax, twice, too_long, unknown, range}
-use Rattle.dm_text.specs.words.Laws.{WordsAreOne}
+use Rattle.dm_decode.specs.words.Laws.{WordsAreOne}
 use Rattle.dm_asm.specs.Codes.{Codes, HasLength, Knows}
 use Rattle.dm_asm.specs.declared.known.Line.{Line}
 use Rattle.dm_asm.specs.declared.known.Line.TheVariants as line

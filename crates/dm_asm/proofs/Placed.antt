@@ -5,10 +5,10 @@ use Rattle.dm_ins.specs.declared.ins.Ins.{Ins}
 use Rattle.dm_ins.specs.declared.action.Action.{Action}
 use Rattle.dm_ins.specs.Preferred.{IsPreferred}
 use Rattle.dm_ins.specs.Spelling.{SpellsAction}
-use Rattle.dm_text.specs.declared.words.written.Words.{Words}
-use Rattle.dm_text.specs.words.Words.{AreWords}
-use Rattle.dm_text.specs.words.StandIns.{StandsFor}
-use Rattle.dm_text.specs.words.Laws.{WordsAreOne, LengthsAreKnown}
+use Rattle.dm_decode.specs.declared.words.written.Words.{Words}
+use Rattle.dm_decode.specs.words.Words.{AreWords}
+use Rattle.dm_decode.specs.words.StandIns.{StandsFor}
+use Rattle.dm_decode.specs.words.Laws.{WordsAreOne, LengthsAreKnown}
 use Rattle.dm_lines.specs.declared.statement.Instruction.{Instruction}
 use Rattle.dm_lines.specs.Laws.{TermFits, OutlinesStand}
 use Rattle.dm_asm.specs.Labels.{Label, term_place}

@@ -4,8 +4,8 @@ use Rattle.std.proofs.Math.Seq.{take-append_seam, drop-append_seam}
 use Rattle.dm_ins.specs.Preferred.{IsPreferred}
 use Rattle.dm_ins.specs.Ins.{Spells}
 use Rattle.dm_ins.proofs.Preferred.{spelled_short}
-use Rattle.dm_text.specs.words.Laws.{WordsAreOne}
-use Rattle.dm_text.specs.disassembly.Listing.{bytes_at}
+use Rattle.dm_decode.specs.words.Laws.{WordsAreOne}
+use Rattle.dm_decode.specs.disassembly.Listing.{bytes_at}
 use Rattle.dm_lines.specs.declared.statement.Instruction.{Instruction}
 use Rattle.dm_lines.specs.Statements.{Item, instruction}
 use Rattle.dm_asm.specs.Labels.{Label}

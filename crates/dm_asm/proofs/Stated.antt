@@ -4,7 +4,7 @@ use Rattle.std.proofs.lemmas.List.{append_assoc, append-nil, length-append}
 use Rattle.std.specs.Str.{bytes_eq}
 use Rattle.dm_lines.specs.declared.token.Name as Name'
 use Rattle.dm_lines.specs.Statements.{Item, Statement, nothing, instruction, bytes, words}
-use Rattle.dm_text.specs.words.Laws.{WordsAreOne}
+use Rattle.dm_decode.specs.words.Laws.{WordsAreOne}
 use Rattle.dm_asm.specs.Labels.{Label, IsFree, place_of_label}
 use Rattle.dm_lines.specs.Placing.{amount_byte}
 use Rattle.dm_asm.specs.Codes.{Codes, HasLength, value_word}

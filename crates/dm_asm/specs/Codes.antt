@@ -8,9 +8,9 @@ use Rattle.dm_ins.specs.Spelling.{word_bytes}
 use Rattle.dm_ins.specs.Walks.{◌>>=◌}
 use Rattle.dm_ins.specs.declared.ins.Ins.{Ins}
 use Rattle.dm_ins.specs.declared.action.Mnemonic.{Mnemonic}
-use Rattle.dm_text.specs.declared.words.written.Written.{Written}
-use Rattle.dm_text.specs.declared.words.written.Words.{Words}
-use Rattle.dm_text.specs.words.Words.{AreWords}
+use Rattle.dm_decode.specs.declared.words.written.Written.{Written}
+use Rattle.dm_decode.specs.declared.words.written.Words.{Words}
+use Rattle.dm_decode.specs.words.Words.{AreWords}
 use Rattle.dm_lines.specs.declared.term.Expression.{Expression}
 use Rattle.dm_lines.specs.declared.term.Term.{Term}
 use Rattle.dm_lines.specs.declared.statement.Instruction.{Instruction}
@@ -20,7 +20,7 @@ use Rattle.dm_asm.specs.Labels.{Label, label_place, term_place}
 
 -- ---- with the places of labels
 
--- what an operand of an instruction is written as, in the terms of `dm_text::words`; `next` is the offset of the next
+-- what an operand of an instruction is written as, in the terms of `dm_decode::words`; `next` is the offset of the next
 -- instruction. None if its label is unknown, or the label and what is added to it lie outside 0 to FFFFh
 abbrev pub written_for : List Label → Mnemonic → ℕ → Term → Option Written
 written_for labels m next term = do

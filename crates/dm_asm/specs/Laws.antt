@@ -4,9 +4,9 @@ use Rattle.std.specs.Prelude.{◌≡◌, ℕ, ◌+◌, ◌<◌, ◌≤◌, ◌^�
 use Rattle.std.specs.List.{AllByRecursion}
 use Rattle.dm_ins.specs.declared.ins.Ins.{Ins}
 use Rattle.dm_ins.specs.Preferred.{IsPreferred}
-use Rattle.dm_text.specs.declared.words.written.Words.{Words}
-use Rattle.dm_text.specs.words.Words.{AreWords}
-use Rattle.dm_text.specs.disassembly.Listing.{bytes_at, StandsInFile, IsListing}
+use Rattle.dm_decode.specs.declared.words.written.Words.{Words}
+use Rattle.dm_decode.specs.words.Words.{AreWords}
+use Rattle.dm_decode.specs.disassembly.Listing.{bytes_at, StandsInFile, IsListing}
 use Rattle.dm_lines.specs.declared.statement.Instruction.{Instruction}
 use Rattle.dm_lines.specs.Statements.{instruction}
 use Rattle.dm_asm.specs.declared.refusal.AssemblyRefusal.{AssemblyRefusal}

@@ -14,8 +14,8 @@ use crate::labels::Labels;
 use crate::lines::next_line;
 use crate::refusal::AssemblyRefusal;
 use crate::shapes::length_of;
+use dm_decode::words::words_are_one_instruction;
 use dm_lines::{Items, Name, Statement, Tokens, line_statement};
-use dm_text::words::words_are_one_instruction;
 use std::alloc::Global;
 
 /// The offset of a program's first byte in its segment.

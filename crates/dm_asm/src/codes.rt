@@ -14,12 +14,12 @@ ghost use Rattle.dm_asm.specs.Codes.{written_for as placed_of, placed_words as w
 
 use crate::labels::Labels;
 use arrayvec::ArrayVec;
-use dm_lines::{
-    Amount, Expression, Instruction, Item, Items, Term, byte, expression_word, outlines_stand,
-    written_of,
-};
-use dm_text::words::{
+use dm_decode::words::{
     Words, Written, read_encoded, stand_ins_have_the_length, words_are_one_instruction,
+};
+use dm_lines::{
+    Amount, Expression, Instruction, Item, Items, Term, amount_byte, expression_word,
+    outlines_stand, written_of,
 };
 
 /// The bytes of one line, at most 256.
@@ -120,7 +120,7 @@ pub(crate) fn bytes_code(amounts: &[Amount]) -> Option<Code>
 {
     let mut code = ArrayVec::new();
     for amount in amounts {
-        code.push(byte(*amount)?);
+        code.push(amount_byte(*amount)?);
     }
     Some(code)
 }

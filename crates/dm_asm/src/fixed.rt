@@ -8,9 +8,9 @@ ghost use Rattle.dm_asm.specs.inner.Fixed.{AreFixed, names_none, targets};
 
 use crate::codes::term_fits;
 use arrayvec::ArrayVec;
+use dm_decode::words::{Words, Written, read_encoded, stand_ins_have_the_length};
 use dm_ins::{Mnemonic, Operand};
 use dm_lines::{Instruction, Term, outlines_stand, written_of};
-use dm_text::words::{Words, Written, read_encoded, stand_ins_have_the_length};
 
 /// Whether the operand names no label.
 fn is_free(term: &Term) -> bool

@@ -3,10 +3,10 @@
 
 ghost use Rattle.dm_asm.specs.Laws.{TextsHaveOneAnswer, ListingsAssemble, ListingsAreAnswered, TextsAreSpelled};
 
+use dm_decode::words::{own_words_are_read, stand_ins_have_the_length, words_are_one_instruction};
 use dm_lines::{
     data_is_read, outlines_stand, own_terms_are_written, texts_are_plain, texts_are_read,
 };
-use dm_text::words::{own_words_are_read, stand_ins_have_the_length, words_are_one_instruction};
 
 /// The law that a text has one result: always the same bytes, or always the same error. So `assemble` returns bytes
 /// exactly where the text has some, unless an allocation fails. It does nothing when called.

@@ -12,6 +12,6 @@ mod refusal;
 mod shapes;
 
 pub use assembly::assemble;
-pub use dm_text::disassembly::disassemble;
+pub use dm_decode::disassembly::disassemble;
 pub use laws::{listings_assemble, texts_are_spelled, texts_have_one_answer};
 pub use refusal::AssemblyRefusal;

@@ -4,8 +4,8 @@ ghost use Rattle.std.specs.Prelude.{◌≡◌, ◌≤◌, ℕ, Some, IfSome, len
 ghost use Rattle.dm_lines.specs.Statements.{seen_item};
 ghost use Rattle.dm_asm.specs.Codes.{outlined, HasShape, HasLength};
 
+use dm_decode::words::{Words, read_encoded, words_are_one_instruction};
 use dm_lines::{Instruction, Item, Items, outline};
-use dm_text::words::{Words, read_encoded, words_are_one_instruction};
 
 /// What an instruction is written as before labels have places.
 fn outlines(instruction: &Instruction) -> Words

@@ -11,7 +11,7 @@ use denote.Steps.{nothing}
 use denote.Struct.Struct.{within}
 use denote.Struct.Owning.{shape}
 use Rattle.std.specs.Prelude.{true, Option, Some, None, is_some}
-use Rattle.dm_c.specs.Held.{held}
+use Rattle.dm_c.specs.inner.Held.{held}
 use Rattle.dm_host.specs.Hosts.{Hosted}
 use Rattle.dm_c.specs.contracts.inside.Inside as inside
 

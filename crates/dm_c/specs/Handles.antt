@@ -5,7 +5,7 @@ use Rattle.dm_pool.specs.Stored.{IsTooLarge}
 use Rattle.dm_host.specs.declared.refusal.Refusal.{Refusal}
 use Rattle.dm_host.specs.Setups.{IsNewFault}
 use Rattle.dm_host.specs.Hosts.{Hosted, new_host}
-use Rattle.dm_host_calls.specs.Statuses.{status_of}
+use Rattle.dm_c.specs.calls.Statuses.{status_of}
 
 -- `dm_c_new`: a machine with no programs is made in a handle that holds no machine, of at most 512 pages and 15,360
 -- KiB, and of at most 32,767 bytes of variables; a handle in use stays (status 2), and at a refusal the handle still

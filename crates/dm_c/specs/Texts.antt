@@ -3,9 +3,9 @@ use Rattle.std.specs.Prelude.{◌≡◌, ◌⊎◌, ℕ, ◌<◌, ◌≤◌, Lis
 use Rattle.dm_asm.specs.declared.refusal.AssemblyRefusal.{AssemblyRefusal}
 use Rattle.dm_asm.specs.declared.refusal.AssemblyRefusal.TheVariants.{Memory}
 use Rattle.dm_asm.specs.Programs.{Assembles, Refuses}
-use Rattle.dm_text.specs.disassembly.Listing.{IsListing}
+use Rattle.dm_decode.specs.disassembly.Listing.{IsListing}
 use Rattle.dm_c.specs.Statuses.{text_status_of, wrong_line}
-use Rattle.dm_host_calls.specs.Calls.{GivesItems}
+use Rattle.dm_c.specs.calls.Calls.{GivesItems}
 
 -- `dm_c_assemble`: the bytes of the text's program are copied to the front of the buffer, if they fit, `wanted` is
 -- how many they are, and `line` stays; or the text has an error, or an allocation failed: then buffer and `wanted`

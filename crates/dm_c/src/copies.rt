@@ -2,9 +2,9 @@
 ghost use Rattle.std.specs.Prelude.{◌≡◌};
 ghost use Rattle.dm_c.specs.Handles.{CopiesTo};
 
+use crate::calls::{IN_USE, OK, OUT_OF_MEMORY, status_of};
 use crate::handle::MachineHandle;
 use dm_host::Host;
-use dm_host_calls::{IN_USE, OK, OUT_OF_MEMORY, status_of};
 use std::alloc::Global;
 
 /// Puts a copy of the host into a handle, which must hold no machine: the status is 2 if it holds one, 3 if an

@@ -1,20 +1,21 @@
 //! The exports on the handle of a machine, which `include/mezguld.h` declares for C. Each returns a status: 0 for
-//! success, otherwise why not, as `dm_host_calls` numbers it. But for `dm_c_new` and `dm_c_free`, the status is 1 if
+//! success, otherwise why not, as module `calls` numbers it. But for `dm_c_new` and `dm_c_free`, the status is 1 if
 //! the handle holds no machine, and nothing changes then. For all that need a loaded program, it is 14 if there is
 //! none (3 if an allocation for the points of `dm_c_run_until` fails before), and nothing changes then.
 ghost use Rattle.std.specs.Prelude.{◌≡◌, ◌<◌, true, false, nat_lt};
 ghost use Rattle.dm_c.specs.Statuses.{version_number};
 ghost use Rattle.dm_c.specs.Calls.{IsCall, IsNone};
 ghost use Rattle.dm_c.specs.Handles.{Makes, CopiesTo};
-ghost use Rattle.dm_host_calls.specs.Events.{EventsTo};
-ghost use Rattle.dm_host_calls.specs.Machines.{AddsTo, LoadsTo, RunsBy, RunsUntilTo, StepsTo, RegistersTo, SetsRegistersTo, ReadsTo, WritesTo, ReadsLinearTo, WritesLinearTo, OutputTo, OutputCountTo, SetsMoreTo, SuppliesTo, InputLeftTo, CommandsTo, ChecksTo, AnswersTo};
+ghost use Rattle.dm_c.specs.calls.Events.{EventsTo};
+ghost use Rattle.dm_c.specs.calls.Machines.{AddsTo, LoadsTo, RunsBy, RunsUntilTo, StepsTo, RegistersTo, SetsRegistersTo, ReadsTo, WritesTo, ReadsLinearTo, WritesLinearTo, OutputTo, OutputCountTo, SetsMoreTo, SuppliesTo, InputLeftTo, CommandsTo, ChecksTo, AnswersTo};
 
-use crate::copies;
-use crate::handle::MachineHandle;
-use dm_host::Host;
-use dm_host_calls::{
-    Awaited, IN_USE, NO_MACHINE, OK, OUT_OF_MEMORY, Point, Registers, Stopped, give, status_of,
+use crate::calls::{
+    Awaited, IN_USE, NO_MACHINE, OK, OUT_OF_MEMORY, Point, Registers, Stopped, give_items,
+    status_of,
 };
+use crate::handle::MachineHandle;
+use crate::{calls, copies};
+use dm_host::Host;
 use dm_machine::Sizes;
 use std::alloc::Global;
 
@@ -102,7 +103,7 @@ pub extern "C" fn dm_c_add(
     let Some(mut host) = machine.take(alloc) else {
         return NO_MACHINE;
     };
-    let status = dm_host_calls::add_program(alloc, &mut host, name, program);
+    let status = calls::add_program(alloc, &mut host, name, program);
     machine.put(host);
     status
 }
@@ -122,7 +123,7 @@ pub extern "C" fn dm_c_load(
     let Some(mut host) = machine.take(alloc) else {
         return NO_MACHINE;
     };
-    let status = dm_host_calls::load(alloc, &mut host, name, tail, input);
+    let status = calls::load(alloc, &mut host, name, tail, input);
     machine.put(host);
     status
 }
@@ -140,7 +141,7 @@ pub extern "C" fn dm_c_run(
     let Some(mut host) = machine.take(alloc) else {
         return NO_MACHINE;
     };
-    let status = dm_host_calls::run(&mut host, steps, stopped);
+    let status = calls::run(&mut host, steps, stopped);
     machine.put(host);
     status
 }
@@ -160,7 +161,7 @@ pub extern "C" fn dm_c_run_until(
     let Some(mut host) = machine.take(alloc) else {
         return NO_MACHINE;
     };
-    let status = dm_host_calls::run_until(alloc, &mut host, steps, points, stopped);
+    let status = calls::run_until(alloc, &mut host, steps, points, stopped);
     machine.put(host);
     status
 }
@@ -182,7 +183,7 @@ pub extern "C" fn dm_c_run_to(
     let Some(mut host) = machine.take(alloc) else {
         return NO_MACHINE;
     };
-    let status = dm_host_calls::run_to(alloc, &mut host, steps, events, stopped, place);
+    let status = calls::run_to(alloc, &mut host, steps, events, stopped, place);
     machine.put(host);
     status
 }
@@ -196,7 +197,7 @@ pub extern "C" fn dm_c_steps(alloc: Global, machine: &mut MachineHandle, steps: 
     let Some(host) = machine.take(alloc) else {
         return NO_MACHINE;
     };
-    let status = dm_host_calls::steps(&host, steps);
+    let status = calls::steps(&host, steps);
     machine.put(host);
     status
 }
@@ -213,7 +214,7 @@ pub extern "C" fn dm_c_registers(
     let Some(host) = machine.take(alloc) else {
         return NO_MACHINE;
     };
-    let status = dm_host_calls::registers(&host, registers);
+    let status = calls::registers(&host, registers);
     machine.put(host);
     status
 }
@@ -231,7 +232,7 @@ pub extern "C" fn dm_c_set_registers(
     let Some(mut host) = machine.take(alloc) else {
         return NO_MACHINE;
     };
-    let status = dm_host_calls::set_registers(&mut host, *registers);
+    let status = calls::set_registers(&mut host, *registers);
     machine.put(host);
     status
 }
@@ -251,7 +252,7 @@ pub extern "C" fn dm_c_read(
     let Some(host) = machine.take(alloc) else {
         return NO_MACHINE;
     };
-    let status = dm_host_calls::read(&host, segment, offset, buffer);
+    let status = calls::read(&host, segment, offset, buffer);
     machine.put(host);
     status
 }
@@ -271,7 +272,7 @@ pub extern "C" fn dm_c_write(
     let Some(mut host) = machine.take(alloc) else {
         return NO_MACHINE;
     };
-    let status = dm_host_calls::write(&mut host, segment, offset, bytes);
+    let status = calls::write(&mut host, segment, offset, bytes);
     machine.put(host);
     status
 }
@@ -291,7 +292,7 @@ pub extern "C" fn dm_c_read_linear(
     let Some(host) = machine.take(alloc) else {
         return NO_MACHINE;
     };
-    let status = dm_host_calls::read_linear(&host, address, buffer);
+    let status = calls::read_linear(&host, address, buffer);
     machine.put(host);
     status
 }
@@ -311,7 +312,7 @@ pub extern "C" fn dm_c_write_linear(
     let Some(mut host) = machine.take(alloc) else {
         return NO_MACHINE;
     };
-    let status = dm_host_calls::write_linear(&mut host, address, bytes);
+    let status = calls::write_linear(&mut host, address, bytes);
     machine.put(host);
     status
 }
@@ -332,7 +333,7 @@ pub extern "C" fn dm_c_output(
     let Some(host) = machine.take(alloc) else {
         return NO_MACHINE;
     };
-    let status = dm_host_calls::output(&host, from, buffer, wanted);
+    let status = calls::output(&host, from, buffer, wanted);
     machine.put(host);
     status
 }
@@ -349,7 +350,7 @@ pub extern "C" fn dm_c_output_count(
     let Some(host) = machine.take(alloc) else {
         return NO_MACHINE;
     };
-    let status = dm_host_calls::output_count(&host, count);
+    let status = calls::output_count(&host, count);
     machine.put(host);
     status
 }
@@ -363,7 +364,7 @@ pub extern "C" fn dm_c_open_input(alloc: Global, machine: &mut MachineHandle) ->
     let Some(mut host) = machine.take(alloc) else {
         return NO_MACHINE;
     };
-    let status = dm_host_calls::open_input(&mut host);
+    let status = calls::open_input(&mut host);
     machine.put(host);
     status
 }
@@ -376,7 +377,7 @@ pub extern "C" fn dm_c_close_input(alloc: Global, machine: &mut MachineHandle) -
     let Some(mut host) = machine.take(alloc) else {
         return NO_MACHINE;
     };
-    let status = dm_host_calls::close_input(&mut host);
+    let status = calls::close_input(&mut host);
     machine.put(host);
     status
 }
@@ -390,7 +391,7 @@ pub extern "C" fn dm_c_supply(alloc: Global, machine: &mut MachineHandle, bytes:
     let Some(mut host) = machine.take(alloc) else {
         return NO_MACHINE;
     };
-    let status = dm_host_calls::supply(&mut host, bytes);
+    let status = calls::supply(&mut host, bytes);
     machine.put(host);
     status
 }
@@ -407,7 +408,7 @@ pub extern "C" fn dm_c_input_left(
     let Some(host) = machine.take(alloc) else {
         return NO_MACHINE;
     };
-    let status = dm_host_calls::input_left(&host, left);
+    let status = calls::input_left(&host, left);
     machine.put(host);
     status
 }
@@ -427,7 +428,7 @@ pub extern "C" fn dm_c_command(
     let Some(mut host) = machine.take(alloc) else {
         return NO_MACHINE;
     };
-    let status = dm_host_calls::command(alloc, &mut host, line, wanted);
+    let status = calls::command(alloc, &mut host, line, wanted);
     machine.put(host);
     status
 }
@@ -448,7 +449,7 @@ pub extern "C" fn dm_c_check(
     let Some(mut host) = machine.take(alloc) else {
         return NO_MACHINE;
     };
-    let status = dm_host_calls::check(alloc, &mut host, steps, stopped, wanted);
+    let status = calls::check(alloc, &mut host, steps, stopped, wanted);
     machine.put(host);
     status
 }
@@ -468,7 +469,7 @@ pub extern "C" fn dm_c_answer(
     let Some(host) = machine.take(alloc) else {
         return NO_MACHINE;
     };
-    let status = give(host.answer(), buffer, wanted);
+    let status = give_items(host.answer(), buffer, wanted);
     machine.put(host);
     status
 }

@@ -2,7 +2,8 @@
 ghost use Rattle.std.specs.Prelude.{◌≡◌, Option, Some, None, is_some, true};
 ghost use Rattle.dm_host.specs.Hosts.{Hosted};
 ghost use denote.RawPtr.{null_ptr};
-ghost use Rattle.dm_c.specs.Held.{held, held_coded};
+ghost use Rattle.dm_c.specs.Held.{held_coded};
+ghost use Rattle.dm_c.specs.inner.Held.{held};
 
 use crate::loose::Loose;
 use dm_host::Host;

@@ -1,7 +1,8 @@
-//! The exports of the library for hosts: each calls a function of `dm_host_calls` on the machine of a handle, or one of
+//! The exports of the library for hosts: each makes a call of module `calls` on the machine of a handle, or one of
 //! `dm_asm`.
 #![tactic(auto)]
 
+pub mod calls;
 mod copies;
 mod exports;
 mod handle;

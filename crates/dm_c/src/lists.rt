@@ -3,10 +3,11 @@
 //! that none need be; nothing changes then.
 ghost use Rattle.std.specs.Prelude.{◌≡◌};
 ghost use Rattle.dm_c.specs.Calls.{IsCall};
-ghost use Rattle.dm_host_calls.specs.Lists.{BlocksTo, PageHandlesTo, WindowsTo, ExtendedBlocksTo, UpperBlocksTo, HighMemoryTo, ReadsPageTo, ReadsBlockTo, FindingsTo, FindingCountsTo, FindingLineTo};
+ghost use Rattle.dm_c.specs.calls.Lists.{BlocksTo, PageHandlesTo, WindowsTo, ExtendedBlocksTo, UpperBlocksTo, HighMemoryTo, ReadsPageTo, ReadsBlockTo, FindingsTo, FindingCountsTo, FindingLineTo};
 
+use crate::calls;
+use crate::calls::{ListEnd, NO_MACHINE};
 use crate::handle::MachineHandle;
-use dm_host_calls::{ListEnd, NO_MACHINE};
 use dm_views::inventory::{ArenaBlock, ExtendedBlock, FoundRecord, PageHandle, UpperBlock, Window};
 use std::alloc::Global;
 
@@ -26,7 +27,7 @@ pub extern "C" fn dm_c_blocks(
     let Some(host) = machine.take(alloc) else {
         return NO_MACHINE;
     };
-    let status = dm_host_calls::blocks(alloc, &host, buffer, wanted, end);
+    let status = calls::blocks(alloc, &host, buffer, wanted, end);
     machine.put(host);
     status
 }
@@ -45,7 +46,7 @@ pub extern "C" fn dm_c_page_handles(
     let Some(host) = machine.take(alloc) else {
         return NO_MACHINE;
     };
-    let status = dm_host_calls::page_handles(alloc, &host, buffer, wanted);
+    let status = calls::page_handles(alloc, &host, buffer, wanted);
     machine.put(host);
     status
 }
@@ -64,7 +65,7 @@ pub extern "C" fn dm_c_windows(
     let Some(host) = machine.take(alloc) else {
         return NO_MACHINE;
     };
-    let status = dm_host_calls::windows(&host, buffer, wanted);
+    let status = calls::windows(&host, buffer, wanted);
     machine.put(host);
     status
 }
@@ -84,7 +85,7 @@ pub extern "C" fn dm_c_extended_blocks(
     let Some(host) = machine.take(alloc) else {
         return NO_MACHINE;
     };
-    let status = dm_host_calls::extended_blocks(alloc, &host, buffer, wanted);
+    let status = calls::extended_blocks(alloc, &host, buffer, wanted);
     machine.put(host);
     status
 }
@@ -104,7 +105,7 @@ pub extern "C" fn dm_c_upper_blocks(
     let Some(host) = machine.take(alloc) else {
         return NO_MACHINE;
     };
-    let status = dm_host_calls::upper_blocks(alloc, &host, buffer, wanted);
+    let status = calls::upper_blocks(alloc, &host, buffer, wanted);
     machine.put(host);
     status
 }
@@ -123,7 +124,7 @@ pub extern "C" fn dm_c_high_memory(
     let Some(host) = machine.take(alloc) else {
         return NO_MACHINE;
     };
-    let status = dm_host_calls::high_memory(&host, a20, used);
+    let status = calls::high_memory(&host, a20, used);
     machine.put(host);
     status
 }
@@ -145,7 +146,7 @@ pub extern "C" fn dm_c_read_page(
     let Some(host) = machine.take(alloc) else {
         return NO_MACHINE;
     };
-    let status = dm_host_calls::read_page(&host, handle, page, offset, buffer);
+    let status = calls::read_page(&host, handle, page, offset, buffer);
     machine.put(host);
     status
 }
@@ -166,7 +167,7 @@ pub extern "C" fn dm_c_read_block(
     let Some(host) = machine.take(alloc) else {
         return NO_MACHINE;
     };
-    let status = dm_host_calls::read_block(&host, handle, offset, buffer);
+    let status = calls::read_block(&host, handle, offset, buffer);
     machine.put(host);
     status
 }
@@ -186,7 +187,7 @@ pub extern "C" fn dm_c_findings(
     let Some(host) = machine.take(alloc) else {
         return NO_MACHINE;
     };
-    let status = dm_host_calls::findings(alloc, &host, buffer, wanted);
+    let status = calls::findings(alloc, &host, buffer, wanted);
     machine.put(host);
     status
 }
@@ -206,7 +207,7 @@ pub extern "C" fn dm_c_finding_counts(
     let Some(host) = machine.take(alloc) else {
         return NO_MACHINE;
     };
-    let status = dm_host_calls::finding_counts(&host, errors, notes, unlisted);
+    let status = calls::finding_counts(&host, errors, notes, unlisted);
     machine.put(host);
     status
 }
@@ -227,7 +228,7 @@ pub extern "C" fn dm_c_finding_line(
     let Some(host) = machine.take(alloc) else {
         return NO_MACHINE;
     };
-    let status = dm_host_calls::finding_line(alloc, &host, k, buffer, wanted);
+    let status = calls::finding_line(alloc, &host, k, buffer, wanted);
     machine.put(host);
     status
 }

@@ -3,8 +3,8 @@ ghost use Rattle.std.specs.Prelude.{◌≡◌};
 ghost use Rattle.dm_c.specs.Statuses.{text_status_of, wrong_line};
 ghost use Rattle.dm_c.specs.Texts.{AssemblesTo, DisassemblesTo};
 
+use crate::calls::{OUT_OF_MEMORY, TOO_LONG, give_items};
 use dm_asm::{AssemblyRefusal, assemble, disassemble};
-use dm_host_calls::{OUT_OF_MEMORY, TOO_LONG, give};
 use std::alloc::Global;
 
 /// The largest number of bytes of a program that is disassembled.
@@ -51,7 +51,7 @@ pub extern "C" fn dm_c_assemble(
     ensures { AssemblesTo text.now buffer.old buffer.new wanted.old wanted.new line.old line.new result }
 {
     match assemble(alloc, text) {
-        Ok(bytes) => give(bytes.as_slice(), buffer, wanted),
+        Ok(bytes) => give_items(bytes.as_slice(), buffer, wanted),
         Err(refusal) => {
             *line = wrong_line(refusal, *line);
             text_status_of(refusal)
@@ -75,7 +75,7 @@ pub extern "C" fn dm_c_disassemble(
         return TOO_LONG;
     }
     match disassemble(alloc, program) {
-        Ok(text) => give(text.as_slice(), buffer, wanted),
+        Ok(text) => give_items(text.as_slice(), buffer, wanted),
         Err(_) => OUT_OF_MEMORY,
     }
 }

@@ -19,9 +19,11 @@ use Rattle.dm_touches.specs.Laws.{KeepsOthers}
 use Rattle.dm_checker.specs.declared.watch.Watched.{Watched}
 use Rattle.dm_checker.specs.declared.watch.Broken.{Broken}
 use Rattle.dm_checker.specs.declared.watch.Watch.{Watch}
-use Rattle.dm_checker.specs.Watching.{IsBits, IsWatched, IsBrokenIn, IsWatch, IsSeen}
+use Rattle.dm_checker.specs.Watching.{IsBits, IsWatched, IsBrokenIn, IsWatch}
+use Rattle.dm_checker.specs.inner.Watching.{IsSeen}
 use Rattle.dm_touches.specs.declared.elements.Elements.{Elements}
-use Rattle.dm_checker.specs.Clear.{is_free_of, is_at, is_high, keeps_writes, is_write_clear, IsClear}
+use Rattle.dm_checker.specs.Clear.{is_free_of, is_at, is_high, keeps_writes, is_write_clear}
+use Rattle.dm_checker.specs.inner.Clear.{IsClear}
 use Rattle.dm_checker.proofs.Unfound.{and_left, and_right, not_false, are_all, elements_all}
 
 -- ---- places

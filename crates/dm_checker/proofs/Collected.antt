@@ -13,7 +13,8 @@ use Rattle.dm_blocks.specs.Listing.{Walking, Path, Leads, Follows, Closes, IsBeh
 use Rattle.dm_blocks.proofs.Unique.{arena_unique}
 use Rattle.dm_checker.specs.declared.watch.Watched.{Watched}
 use Rattle.dm_checker.specs.Shown.{IsCut}
-use Rattle.dm_checker.specs.Watching.{header_of, IsWatched, Collects}
+use Rattle.dm_checker.specs.Watching.{header_of, IsWatched}
+use Rattle.dm_checker.specs.inner.Watching.{Collects}
 
 -- ---- the headers before a list
 

@@ -14,7 +14,8 @@ use Rattle.dm_touches.specs.quiet.Marks.{level_at, lies_below, Marked}
 use Rattle.dm_checker.specs.declared.watch.Watched.{Watched}
 use Rattle.dm_checker.specs.Clear.{is_free_of, is_at, is_high, keeps_writes}
 use Rattle.dm_checker.proofs.Unfound.{and_left, and_right, not_false}
-use Rattle.dm_checker.specs.Marking.{Keeps, HasMap, HasHeader, HasFree, IsMarked}
+use Rattle.dm_checker.specs.Marking.{IsMarked}
+use Rattle.dm_checker.specs.inner.Marking.{Keeps, HasMap, HasHeader, HasFree}
 
 -- ---- a run of paragraphs that is given a level
 

@@ -21,7 +21,8 @@ use Rattle.dm_checker.specs.Headers.{overwritten, mapped_away}
 use Rattle.dm_checker.specs.Shown.{Shown}
 use Rattle.dm_checker.specs.Arranged.{other_freed, stack_freed, not_resized, if_whole, arranged_by, arranged}
 use Rattle.dm_checker.specs.Findings.{turn_found, all_overwritten, findings, FindsTouched, Finds}
-use Rattle.dm_checker.specs.Watching.{header_of, broken_at, shown_of, IsWatched, IsWatch, IsSeen}
+use Rattle.dm_checker.specs.Watching.{header_of, broken_at, IsWatched, IsWatch}
+use Rattle.dm_checker.specs.inner.Watching.{shown_of, IsSeen}
 use Rattle.dm_checker.specs.inner.Steps.{IsBefore, Looks}
 use Rattle.dm_checker.proofs.Leaked.{five_more}
 use Rattle.dm_checker.proofs.Still.{seen_findings}

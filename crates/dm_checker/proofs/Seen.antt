@@ -21,7 +21,8 @@ use Rattle.dm_checker.specs.declared.watch.Broken.{Broken}
 use Rattle.dm_checker.specs.declared.watch.Watch.{Watch}
 use Rattle.dm_checker.specs.Shown.{Shown, IsCut, IsShown, cut, alone, parted, parted_cut}
 use Rattle.dm_checker.specs.Headers.{shown_at, kept_at, same_contents, is_live, is_there, overwritten, mapped_away}
-use Rattle.dm_checker.specs.Watching.{header_of, broken_at, IsWatched, IsBrokenIn, IsWatch, IsSeen}
+use Rattle.dm_checker.specs.Watching.{header_of, broken_at, IsWatched, IsBrokenIn, IsWatch}
+use Rattle.dm_checker.specs.inner.Watching.{IsSeen}
 use Rattle.dm_checker.proofs.Bits.{same_bytes}
 use Rattle.dm_checker.proofs.Framed.{contents_by_five, there_by_windows, live_true}
 

@@ -11,7 +11,8 @@ use Rattle.dm_blocks.specs.Reading.{IsSpelledFrom}
 use Rattle.dm_checker.specs.declared.watch.Watched.{Watched}
 use Rattle.dm_checker.specs.declared.watch.Broken.{Broken}
 use Rattle.dm_checker.specs.Shown.{IsCut, IsShown, cut, alone, parted, parted_cut}
-use Rattle.dm_checker.specs.Watching.{header_of, broken_at, IsBits, IsWatched, IsBrokenIn, IsWalked, Collects, IsSecond, CollectsSecond, CollectsAll}
+use Rattle.dm_checker.specs.Watching.{header_of, broken_at, IsBits, IsWatched, IsBrokenIn}
+use Rattle.dm_checker.specs.inner.Watching.{IsWalked, Collects, IsSecond, CollectsSecond, CollectsAll}
 
 -- ---- a walk over a list of a memory
 

@@ -37,8 +37,10 @@ use Rattle.dm_checker.specs.Findings.{findings, Finds, FindsTouched, touching, o
 use Rattle.dm_checker.specs.Checks.{FindsAtEnd, FindsAtStop, left_behind, left_by}
 use Rattle.dm_checker.specs.Origins.{known_by, IsKnownAfter}
 use Rattle.dm_checker.specs.Processes.{KnowsAtStop}
-use Rattle.dm_checker.specs.Watching.{header_of, broken_at, shown_of, IsWatch, IsSeen}
-use Rattle.dm_checker.specs.Clear.{is_read_clear, is_write_clear, IsPassed}
+use Rattle.dm_checker.specs.Watching.{header_of, broken_at, IsWatch}
+use Rattle.dm_checker.specs.inner.Watching.{shown_of, IsSeen}
+use Rattle.dm_checker.specs.Clear.{is_read_clear, is_write_clear}
+use Rattle.dm_checker.specs.inner.Clear.{IsPassed}
 use Rattle.dm_checker.specs.inner.Steps.{IsBefore, found_by, ReportsMore, Touches, Looks, ChecksOne, IsPassing, PassesIn}
 use Rattle.dm_checker.specs.inner.Steps as steps
 use Rattle.dm_checker.proofs.Acting.{some_none, call_acts, had_ended, exit_changes_nothing}

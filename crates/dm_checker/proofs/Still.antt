@@ -8,7 +8,8 @@ use Rattle.dm_checker.specs.declared.watch.Watch.{Watch}
 use Rattle.dm_origins.specs.outcomes.Calls.{arranges, call_findings}
 use Rattle.dm_checker.specs.Freed.{freed_twice}
 use Rattle.dm_checker.specs.Findings.{turn_found, findings}
-use Rattle.dm_checker.specs.Watching.{header_of, broken_at, shown_of, IsWatch, IsSeen}
+use Rattle.dm_checker.specs.Watching.{header_of, broken_at, IsWatch}
+use Rattle.dm_checker.specs.inner.Watching.{shown_of, IsSeen}
 use Rattle.dm_checker.proofs.Seen.{seen_overwritten, seen_mapped_away}
 
 pub seen_turned : (o : Option ℕ) → turn_found o o ≡ []

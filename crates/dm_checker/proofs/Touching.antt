@@ -17,7 +17,8 @@ use Rattle.dm_touches.specs.Touches.{reads, writes}
 use Rattle.dm_touches.specs.Found.{of_headers, of_places, touch_findings}
 use Rattle.dm_checker.specs.declared.watch.Watch.{Watch}
 use Rattle.dm_checker.specs.Findings.{FindsTouched, touching, calling}
-use Rattle.dm_checker.specs.Watching.{header_of, broken_at, shown_of}
+use Rattle.dm_checker.specs.Watching.{header_of, broken_at}
+use Rattle.dm_checker.specs.inner.Watching.{shown_of}
 use Rattle.dm_checker.specs.inner.Steps.{IsNextAct, an_instruction, no_instruction, Touches}
 use Rattle.dm_checker.proofs.Acting.{some_none, unlisted_stops}
 use Rattle.dm_checker.proofs.Reading.{still_running}

@@ -1,19 +1,10 @@
 -- When nothing can be found of the bytes that an instruction touches, and it leaves the headers as they are. No
 -- definition of a finding mentions it.
-use Rattle.std.specs.Prelude.{◌≡◌, ◌<◌, ℕ, ◌-◌, ◌/◌, ◌==◌, ◌&&◌, ◌||◌, not, nat_lt, is_some, Bool, true, false, if◌then◌else◌, List, slice_index_or, None}
+use Rattle.std.specs.Prelude.{ℕ, ◌-◌, ◌/◌, ◌==◌, ◌&&◌, ◌||◌, not, nat_lt, is_some, Bool, true, false, if◌then◌else◌, List, slice_index_or, None}
 use Rattle.std.specs.List.{list_any}
 use Rattle.dm_space.specs.Memory.{Memory}
-use Rattle.dm_ins.specs.declared.ins.Ins.{Ins}
-use Rattle.dm_ins.specs.Ins.{BeginsWith}
-use Rattle.dm_cpu.specs.Guest.{guest}
-use Rattle.dm_services.specs.state.State.{State}
-use Rattle.dm_machine.specs.Step.{fetched}
-use Rattle.dm_touches.specs.quiet.Marks.{pass}
-use Rattle.dm_touches.specs.declared.elements.Elements.{Elements}
-use Rattle.dm_touches.specs.Touches.{reads, writes}
 use Rattle.dm_touches.specs.Found.{is_in_free}
 use Rattle.dm_checker.specs.declared.watch.Watched.{Watched}
-use Rattle.dm_checker.specs.declared.watch.Watch.{Watch}
 
 -- whether the linear address is in the memory of the free block behind the header
 abbrev pub is_free_of : ℕ → Watched → Bool
@@ -43,18 +34,3 @@ is_read_clear ws a = not (list_any (is_free_of a) ws)
 -- whether nothing is found of a write to the linear address, and it is in no header
 abbrev pub is_write_clear : Memory → List Watched → ℕ → Bool
 is_write_clear m ws a = keeps_writes m ws a && not (list_any (is_at a) ws)
-
--- nothing is found of these reads and writes, and no header is written to; no list of headers breaks
-pub record IsClear (m : Memory) (w : Watch) (rs ws : Elements) : Type 0 where
-  pub whole : w.broken ≡ None
-  pub reads : pass (is_read_clear w.headers.items) m.a20 rs ≡ true
-  pub writes : pass (is_write_clear m w.headers.items) m.a20 ws ≡ true
-
--- the instruction at CS:IP, below the segment of services and drivers, touches only bytes of which nothing is found,
--- and writes to no header; w is what memory shows of the arena before it
-pub record IsPassed (s : State) (w : Watch) : Type 0 where
-  pub ins : Ins
-  pub length : ℕ
-  pub below : s.cpu.cs < 0xF000
-  pub begins : BeginsWith (fetched s.memory s.cpu) ins length
-  pub clear : IsClear s.memory w (reads (guest s.cpu s.memory) ins length) (writes (guest s.cpu s.memory) ins length)

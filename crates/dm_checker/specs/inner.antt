@@ -1,2 +1,5 @@
 -- Definitions that private contracts and proofs alone name.
 pub mod Steps
+pub mod Clear
+pub mod Marking
+pub mod Watching

@@ -5,7 +5,8 @@ ghost use Rattle.std.specs.Prelude.{◌≡◌, ◌++◌, map, OnOk};
 ghost use Rattle.std.specs.List.{flat_map};
 ghost use Rattle.dm_space.specs.Memory.{linear};
 ghost use Rattle.dm_checker.specs.Arranged.{other_block, other_freed, stack_in, stack_freed, has_size, not_resized, found_after_call, arranged_by};
-ghost use Rattle.dm_checker.specs.Watching.{header_of, shown_of};
+ghost use Rattle.dm_checker.specs.Watching.{header_of};
+ghost use Rattle.dm_checker.specs.inner.Watching.{shown_of};
 
 use crate::acts::Before;
 use crate::watch::{Watch, Watched};

@@ -55,7 +55,7 @@ impl CheckedRun {
     /// # Errors
     ///
     /// `AllocError` if an allocation fails.
-    pub fn begin(
+    pub fn new(
         alloc: Global,
         machine: &mut Machine,
         n: u64,
@@ -69,7 +69,7 @@ impl CheckedRun {
     {
         let over = exit_code(machine);
         let kept = read_arena(alloc, machine)?;
-        let present = Process::at(machine.space(), machine.present(), machine.steps());
+        let present = Process::of(machine.space(), machine.present(), machine.steps());
         let origins = Origins::new(
             alloc,
             machine.ems(),
@@ -202,7 +202,7 @@ pub fn check(
     ensures err { OnErr result (RunsPart machine.old n machine.new) }
     ensures loaded { HasProgram machine.new }
 {
-    let mut run = CheckedRun::begin(alloc, machine, n, free)?;
+    let mut run = CheckedRun::new(alloc, machine, n, free)?;
     let Some(stop) = run.advance(alloc, machine, false)? else {
         unreachable!()
     };

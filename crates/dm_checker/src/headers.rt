@@ -6,7 +6,8 @@ ghost use Rattle.std.specs.Prelude.{◌≡◌, ◌++◌, ◌+◌, ◌*◌, ◌<�
 ghost use Rattle.std.specs.List.{flat_map};
 ghost use Rattle.dm_space.specs.Memory.{Memory};
 ghost use Rattle.dm_checker.specs.Headers.{shown_at, same_contents, overwritten, mapped_away};
-ghost use Rattle.dm_checker.specs.Watching.{IsBits, IsWatched, header_of, IsKept, contents_by};
+ghost use Rattle.dm_checker.specs.Watching.{IsBits, IsWatched, header_of};
+ghost use Rattle.dm_checker.specs.inner.Watching.{IsKept, contents_by};
 
 use crate::watch::{Watched, bits_at};
 use dm_findings::{Contents, Finding};

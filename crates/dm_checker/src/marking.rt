@@ -5,7 +5,8 @@ ghost use Rattle.std.specs.Prelude.{◌≡◌, ◌+◌, ◌*◌, ◌<◌, ◌≤
 ghost use Rattle.std.specs.List.{list_any};
 ghost use Rattle.dm_touches.specs.quiet.Marks.{level_at};
 ghost use Rattle.dm_checker.specs.Clear.{is_high};
-ghost use Rattle.dm_checker.specs.Marking.{Keeps, HasMap, HasHeader, HasFree, IsMarked};
+ghost use Rattle.dm_checker.specs.Marking.{IsMarked};
+ghost use Rattle.dm_checker.specs.inner.Marking.{Keeps, HasMap, HasHeader, HasFree};
 
 use crate::watch::Watched;
 use dm_blocks::Header;

@@ -5,7 +5,8 @@ ghost use Rattle.dm_checker.specs.Courses.{with_course};
 ghost use Rattle.dm_services.specs.state.State.{State};
 ghost use Rattle.dm_origins.specs.Origins.{with_freed};
 ghost use Rattle.dm_checker.specs.Origins.{if_both_whole, known_by};
-ghost use Rattle.dm_checker.specs.Watching.{header_of, broken_at, shown_of};
+ghost use Rattle.dm_checker.specs.Watching.{header_of, broken_at};
+ghost use Rattle.dm_checker.specs.inner.Watching.{shown_of};
 ghost use Rattle.dm_checker.specs.inner.Steps.{IsBefore};
 
 use crate::acts::Before;
@@ -57,7 +58,7 @@ fn note_course(origins: &mut Origins, before: &Before, machine: &Machine) -> Res
 {
     let step = machine.steps();
     if has_started(&before.cpu, &machine.cpu(), before.call) {
-        let process = Process::at(machine.space(), machine.present(), step);
+        let process = Process::of(machine.space(), machine.present(), step);
         return origins.note_start(process);
     }
     if ends_process(before.call) {

@@ -12,7 +12,8 @@ ghost use Rattle.dm_machine.specs.Run.{Answers};
 ghost use Rattle.dm_checker.specs.Findings.{turn_found, IsFound, FindsTouched};
 ghost use Rattle.dm_checker.specs.Origins.{IsKnownAfter};
 ghost use Rattle.dm_checker.specs.Checks.{FindsAtEnd};
-ghost use Rattle.dm_checker.specs.Watching.{IsWatch, broken_at, shown_of};
+ghost use Rattle.dm_checker.specs.Watching.{IsWatch, broken_at};
+ghost use Rattle.dm_checker.specs.inner.Watching.{shown_of};
 ghost use Rattle.dm_checker.specs.inner.Steps.{IsBefore, IsPart, Looks, ReportsMore, found_by, ChecksOne, PassesIn};
 
 use crate::acts::Before;

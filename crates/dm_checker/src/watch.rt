@@ -2,7 +2,8 @@
 
 ghost use Rattle.std.specs.Prelude.{◌≡◌, ◌≢◌, All, false, IfOk, MatchBool, None, Some};
 ghost use Rattle.dm_blocks.specs.Listing.{start_of};
-ghost use Rattle.dm_checker.specs.Watching.{IsBits, IsWatched, IsWatch, IsSeen, IsBrokenIn, Collects, CollectsSecond, CollectsAll};
+ghost use Rattle.dm_checker.specs.Watching.{IsBits, IsWatched, IsWatch, IsBrokenIn};
+ghost use Rattle.dm_checker.specs.inner.Watching.{IsSeen, Collects, CollectsSecond, CollectsAll};
 
 use crate::marking::marks_of;
 use dm_blocks::{Header, Headers, Step, is_linked, walk};

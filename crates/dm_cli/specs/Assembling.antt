@@ -11,7 +11,7 @@ use Rattle.dm_cli.specs.declared.fault.Fault.{Fault}
 use Rattle.dm_cli.specs.declared.fault.Fault.TheVariants.{OutOfMemory, TooLong}
 use Rattle.dm_cli.specs.Faults.{IsUnwritten, IsWriteFault, refusal_fault}
 use Rattle.dm_cli.specs.Saving.{Saves}
-use Rattle.dm_text.specs.disassembly.Listing.{IsListing}
+use Rattle.dm_decode.specs.disassembly.Listing.{IsListing}
 use Rattle.dm_cli.specs.Stores.{IsInputFault, IsRead}
 
 -- these are the bytes of the program whose assembly text is in the file

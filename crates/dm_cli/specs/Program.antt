@@ -25,7 +25,7 @@ use Rattle.dm_cli.specs.Reads.{ReadsFiles, fault_if}
 use Rattle.dm_cli.specs.Messages.{Stream, Prints, Reports, outcome_text}
 use Rattle.dm_cli.specs.Serving.{DebugsByGdb}
 use Rattle.dm_cli.specs.Starting.{IsStartedBy, IsStartFault}
-use Rattle.dm_cli.specs.Statuses.{status_of, status_after}
+use Rattle.dm_cli.specs.Statuses.{exit_status_of, status_after}
 
 -- ---- the commands
 
@@ -91,7 +91,7 @@ pub data Does (g : Given) (words : List Text) (l : Left) : Type 0 where
   usage : fault_of dm_app words ≢ [] → IsSilent g l → ReadsAll g l → SavesNothing g l → l.status ≡ 2 → Does g words l
   no_memory : Prints (fault_line OutOfMemory) g.messages l.messages → IsSilent g l → ReadsAll g l → SavesNothing g l → l.status ≡ 126 → Does g words l
   runs : (o : MachineOptions) (outcome : Result Stop Fault) → IsParsed words (command.Run o) → Runs g.files g.typed o g.output l.output g.failures l.failures outcome
-      → Prints (outcome_text outcome) g.messages l.messages → SavesNothing g l → ReadsFiles g.unread l.unread (fault_if outcome) → l.status ≡ status_of outcome → Does g words l
+      → Prints (outcome_text outcome) g.messages l.messages → SavesNothing g l → ReadsFiles g.unread l.unread (fault_if outcome) → l.status ≡ exit_status_of outcome → Does g words l
   checks : (o : CheckOptions) (outcome : Result ℕ Fault) (middle : Stream) → IsParsed words (command.Check o) → Checks g.files g.typed o g.output l.output g.failures l.failures g.messages middle outcome
       → Reports middle l.messages (fault_if outcome) → SavesNothing g l → ReadsFiles g.unread l.unread (fault_if outcome) → l.status ≡ check_status outcome → Does g words l
   debugs : (o : DebugOptions) (end : Option Fault) → IsParsed words (command.Debug o) → Debugs g.files g.typed o g.output l.output g.failures l.failures end

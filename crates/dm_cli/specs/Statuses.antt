@@ -9,9 +9,9 @@ stop_status (Exited code) = code
 stop_status _ = 125
 
 -- the exit status of `dm run`: that of its stop, or 126 at a fault
-abbrev pub status_of : {E : Type 0} → Result Stop E → ℕ
-status_of (Ok stop) = stop_status stop
-status_of (Err _) = 126
+abbrev pub exit_status_of : {E : Type 0} → Result Stop E → ℕ
+exit_status_of (Ok stop) = stop_status stop
+exit_status_of (Err _) = 126
 
 -- the exit status of `dm debug`, `dm gdb`, `dm asm` and `dm disasm`: 0, or 126 at a fault
 abbrev pub status_after : {E : Type 0} → Option E → ℕ

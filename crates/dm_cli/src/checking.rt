@@ -146,7 +146,7 @@ fn check_machine<W: Out, E: Out>(
         (record { bytes = E.taken error.old; failures = E.failures error.old }) (record { bytes = E.taken error.new; failures = E.failures error.new }) result }
     ensures reads { TellsOfNoFile (fault_if result) }
 {
-    let Ok(mut run) = CheckedRun::begin(alloc, machine, steps, free) else {
+    let Ok(mut run) = CheckedRun::new(alloc, machine, steps, free) else {
         return Err(Fault::OutOfMemory);
     };
     let Ok((stop, failed)) = follow(alloc, form, &mut run, machine, error) else {

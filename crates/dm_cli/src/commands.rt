@@ -5,7 +5,7 @@ ghost use Rattle.dm_cli.specs.Faults.{fault_line};
 ghost use Rattle.dm_cli.specs.Messages.{Prints, Reports, outcome_text};
 ghost use Rattle.dm_cli.specs.Program.{Does, Runs};
 ghost use Rattle.dm_cli.specs.Reads.{IsKept, ReadsFiles, TellsOfNoFile, fault_if};
-ghost use Rattle.dm_cli.specs.Statuses.{status_after, status_of, stop_status};
+ghost use Rattle.dm_cli.specs.Statuses.{status_after, exit_status_of, stop_status};
 ghost use Rattle.dm_cli.specs.inner.Program.{RunsMachine};
 ghost use Rattle.dm_cli.specs.inner.Statuses.{end_of};
 ghost use Rattle.dm_services.specs.state.State.{HasProgram};
@@ -92,7 +92,7 @@ fn report_fault<E: Out>(fault: &Fault<'_>, error: &mut E) -> u8
 /// Prints on `error` how a `dm run` ended, its stop (nothing for an exit) or its fault, and returns the exit status:
 /// the program's exit code, 125 for another stop, 126 for a fault. A failed write does not change it.
 fn report<E: Out>(outcome: Result<Stop, Fault<'_>>, error: &mut E) -> u8
-    ensures status { result ≡ status_of outcome.entry }
+    ensures status { result ≡ exit_status_of outcome.entry }
     ensures line { Prints (outcome_text outcome.entry) (record { bytes = E.taken error.old; failures = E.failures error.old })
         (record { bytes = E.taken error.new; failures = E.failures error.new }) }
 {

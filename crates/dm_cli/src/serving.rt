@@ -89,7 +89,7 @@ fn take_byte<W: Out>(
     ensures err { IfErr result (IsUntaken most connection.old byte (W.taken out.old) (W.taken out.new) (W.failures out.old) (W.failures out.new)) }
 {
     let mut sent = Vec::new(alloc);
-    let Ok(()) = connection.take(byte, most, &mut sent) else {
+    let Ok(()) = connection.receive(byte, most, &mut sent) else {
         return Err(Fault::OutOfMemory);
     };
     write_at_once(out, sent.as_slice())

@@ -50,7 +50,7 @@ fn is_point(address: LogicalAddress, point: Breakpoint) -> bool
 }
 
 /// The index, in the list of breakpoints, of the one at an address; None if no breakpoint is set there.
-fn place_of(points: &[Breakpoint], address: LogicalAddress) -> Option<usize>
+fn index_of(points: &[Breakpoint], address: LogicalAddress) -> Option<usize>
     ensures first { result ≡ position (is_point address) points.now }
     ensures there { IfSome result (λ k. k < length points.now) }
 {
@@ -89,7 +89,7 @@ impl Points {
     pub fn is_set(&self, address: LogicalAddress) -> bool
         ensures { result ≡ is_set self.now address }
     {
-        place_of(self.list.as_slice(), address).is_some()
+        index_of(self.list.as_slice(), address).is_some()
     }
 
     /// Whether there is no room for a breakpoint at the address: it is not set, and sixteen others are.
@@ -104,7 +104,7 @@ impl Points {
         requires { is_seventeenth self.old address ≡ false }
         ensures { self.new ≡ with_point self.old address }
     {
-        if let None = place_of(self.list.as_slice(), address) {
+        if let None = index_of(self.list.as_slice(), address) {
             self.list.push(point_at(address));
         }
     }
@@ -115,7 +115,7 @@ impl Points {
         ensures list { self.new ≡ without_point self.old address }
         ensures gone { is_set self.new address ≡ false }
     {
-        if let Some(at) = place_of(self.list.as_slice(), address) {
+        if let Some(at) = index_of(self.list.as_slice(), address) {
             self.list.remove(at);
         }
     }

@@ -80,7 +80,7 @@ impl Ems {
         ensures left { expanded self.new space.new.memory ≡ forgotten (expanded self.old space.old.memory) block }
         ensures kept { space.new ≡ record space.old { memory = space.new.memory } }
     {
-        if let Some(at) = self.place(block) {
+        if let Some(at) = self.index_of(block) {
             unmap(space, block);
             self.unmap_saved(block);
             self.remove(at);
@@ -96,7 +96,7 @@ impl Ems {
         ensures left { expanded self.new space.new.memory ≡ cut (expanded self.old space.old.memory) handle count }
         ensures kept { space.new ≡ record space.old { memory = space.new.memory } }
     {
-        let blocks = self.blocks(handle);
+        let blocks = self.page_blocks(handle);
         for block in behind(blocks.as_slice(), count) {
             self.forget(space, *block);
         }

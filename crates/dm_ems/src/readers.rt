@@ -47,7 +47,7 @@ impl Ems {
     {
         let windows = space.windows();
         let block = windows[window]?;
-        let at = self.place(block)?;
+        let at = self.index_of(block)?;
         let pages = self.pages();
         let handle = pages[at].handle;
         Some((handle, count_of(&pages[..at], handle) as u16))

@@ -217,7 +217,7 @@ impl Ems {
     }
 
     /// The blocks of a handle's pages, in the order of their logical numbers.
-    pub fn blocks(&self, handle: u16) -> ArrayVec<Block, 512>
+    pub fn page_blocks(&self, handle: u16) -> ArrayVec<Block, 512>
         ensures { result.items ≡ blocks_of self.now handle }
     {
         let mut blocks = ArrayVec::new();
@@ -279,7 +279,7 @@ impl Ems {
     }
 
     /// The index of the page with this block among all pages; None if there is none.
-    pub(crate) fn place(&self, block: Block) -> Option<usize>
+    pub(crate) fn index_of(&self, block: Block) -> Option<usize>
         ensures first { result ≡ position (is_block block) self.now.pages }
         ensures there { IfSome result (λ k. k < length self.now.pages) }
     {

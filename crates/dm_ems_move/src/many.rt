@@ -114,7 +114,7 @@ pub fn map_many(
     if ems.slot(handle).is_none() {
         return Err(Status::UnknownHandle);
     }
-    let blocks = ems.blocks(handle);
+    let blocks = ems.page_blocks(handle);
     match after_pairs(space, blocks.as_slice(), mode == 1, segment, offset, count) {
         Ok(windows) => {
             set_windows(space, windows);

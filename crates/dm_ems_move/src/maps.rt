@@ -26,7 +26,7 @@ const NONE: (u16, u16) = (0xFFFF, 0xFFFF);
 type Bytes = ArrayVec<u8, 16>;
 
 /// The index of the page with this block in the list of all pages; None if no page has it.
-fn place_of(pages: &[Page], block: Block) -> Option<usize>
+fn index_of(pages: &[Page], block: Block) -> Option<usize>
     ensures first { result ≡ position (is_block block) pages.now }
     ensures there { IfSome result (λ k. k < length pages.now) }
 {
@@ -50,7 +50,7 @@ fn numbers(pages: &[Page], window: Option<Block>) -> (u16, u16)
     let Some(block) = window else {
         return NONE;
     };
-    match place_of(pages, block) {
+    match index_of(pages, block) {
         Some(at) => {
             let handle = pages[at].handle;
             (handle, count_of(&pages[..at], handle) as u16)

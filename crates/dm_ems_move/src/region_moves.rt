@@ -70,7 +70,7 @@ fn blocks_at(ems: &Ems, space: &Space, segment: u16, offset: u16, k: usize) -> A
     if described.kind == 0 {
         return ArrayVec::new();
     }
-    ems.blocks(described.handle)
+    ems.page_blocks(described.handle)
 }
 
 /// The number of the pages of a handle, whose blocks are given.

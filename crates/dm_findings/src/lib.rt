@@ -11,5 +11,6 @@ mod sites;
 
 pub use calls::{Call, call_of};
 pub use finding::{Act, Contents, Finding, Found, Kept, Origin};
+pub use repeats::kind_of;
 pub use report::{Listed, Report};
 pub use sites::{Site, site_of};

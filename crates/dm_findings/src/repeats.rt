@@ -48,8 +48,9 @@ fn kept_subject(kept: &Kept) -> u16
     }
 }
 
-/// Which kind of finding it is: its place among the kinds, from 0.
-fn kind_of(finding: &Finding) -> u8
+/// Which kind of finding it is: its number among the kinds, from 0. What is left allocated, and what is held, has one
+/// for each kind of thing.
+pub fn kind_of(finding: &Finding) -> u8
     ensures { result ≡ kind_of finding.now }
 {
     match finding {

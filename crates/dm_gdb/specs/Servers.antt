@@ -27,7 +27,7 @@ use Rattle.dm_gdb.specs.Checking.{ChecksFrom, is_check}
 use Rattle.dm_gdb.specs.Monitor.{is_shown, is_shown_line, step_asked, text_reply, stepped_reply}
 use Rattle.dm_target.specs.declared.going.Pause.{Pause}
 use Rattle.dm_target.specs.declared.going.Pause.TheVariants as pause
-use Rattle.dm_target.specs.Going.{is_among, place_of, Continues}
+use Rattle.dm_target.specs.Going.{is_among, code_address, Continues}
 use Rattle.dm_target.specs.declared.undoing.Undone.{Undone}
 use Rattle.dm_target.specs.declared.undoing.Undone.TheVariants as undone
 use Rattle.dm_target.specs.Undoing.{Undoes}
@@ -75,7 +75,7 @@ plain_reply _ = reply.Unknown
 abbrev pub arrival_reply : List ℕ → Pause → State → Reply
 arrival_reply breaks (pause.Stopped why) s = stop_reply why
 arrival_reply breaks (pause.Hit point) s = reply.Watch point
-arrival_reply breaks pause.Arrived s = if is_among breaks (place_of s) then reply.Breakpoint else reply.Signal 0x05
+arrival_reply breaks pause.Arrived s = if is_among breaks (code_address s) then reply.Breakpoint else reply.Signal 0x05
 
 -- the reply where the steps of one step or of a range ended for this reason
 abbrev pub step_reply : List ℕ → Pause → State → Reply
@@ -135,7 +135,7 @@ restarted s = record s { history = new_past s.history.origin; shown = 0; ended =
 abbrev pub undone_reply : List ℕ → Undone → State → Reply
 undone_reply breaks undone.Begun t = reply.Begun
 undone_reply breaks (undone.Hit point) t = reply.Watch point
-undone_reply breaks undone.Back t = if is_among breaks (place_of t) then reply.Breakpoint else reply.Signal 0x05
+undone_reply breaks undone.Back t = if is_among breaks (code_address t) then reply.Breakpoint else reply.Signal 0x05
 
 -- the threads: one, and none once the program has ended
 abbrev pub threads_reply : Bool → Reply

@@ -8,7 +8,7 @@ ghost use Rattle.dm_requests.specs.declared.request.Request.TheVariants as reque
 use crate::replies::Reply;
 use crate::server::Server;
 use dm_machine::Machine;
-use dm_target::{Undone, is_among, place_of, step_back, turn_back};
+use dm_target::{Undone, code_address, is_among, step_back, turn_back};
 use std::alloc::AllocError;
 
 /// The reply where going back ended.
@@ -19,7 +19,7 @@ fn undone_reply(breaks: &[u32], undone: Undone, machine: &Machine) -> Reply
         Undone::Begun => Reply::Begun,
         Undone::Hit(point) => Reply::Watch(point),
         Undone::Back => {
-            if is_among(breaks, place_of(machine)) {
+            if is_among(breaks, code_address(machine)) {
                 Reply::Breakpoint
             } else {
                 Reply::Signal(0x05)

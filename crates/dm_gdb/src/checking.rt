@@ -102,7 +102,7 @@ fn look_ahead(alloc: Global, machine: &mut Machine) -> Result<Ahead, AllocError>
     requires { HasProgram machine.old }
     ensures { IfOk result (λ ahead. LeadsAhead machine.old ahead.steps ahead.text.items) }
 {
-    let mut run = CheckedRun::begin(alloc, machine, MOST, true)?;
+    let mut run = CheckedRun::new(alloc, machine, MOST, true)?;
     let Some(why) = run.go_on(alloc, machine)? else {
         let steps = MOST.saturating_sub(run.left());
         return told(alloc, run.report(), None, steps);

@@ -195,7 +195,7 @@ impl Connection {
             self.is_stopping = false;
             return self.send(&Reply::Signal(INTERRUPTED), out);
         }
-        let reply = self.server.answer(request, most)?;
+        let reply = self.server.reply_to(request, most)?;
         self.tell(request, &reply, out)
     }
 
@@ -235,7 +235,7 @@ impl Connection {
     ///
     /// `AllocError`. The conversation cannot go on then: the request may have been executed, and a first part of what
     /// is sent for it may have been appended.
-    pub fn take(&mut self, byte: u8, most: u64, out: &mut Vec<u8>) -> Result<(), AllocError>
+    pub fn receive(&mut self, byte: u8, most: u64, out: &mut Vec<u8>) -> Result<(), AllocError>
         ensures { OnOk result ((sent : List ℕ) × (out.new.items ≡ out.old.items ++ sent) × Takes most self.old byte sent self.new) }
     {
         match self.receiver.receive(byte)? {

@@ -15,7 +15,7 @@ use dm_machine::{Cpu, Machine, Stop};
 use dm_requests::packets::Payload;
 use dm_requests::{Point, Request};
 use dm_target::{
-    LAST, Pause, Points, StepRange, all_registers, go_on, is_among, place_of, reads_as,
+    LAST, Pause, Points, StepRange, all_registers, code_address, go_on, is_among, reads_as,
     registers_with, segment_below,
 };
 use std::alloc::{AllocError, Global};
@@ -76,7 +76,7 @@ fn arrival_reply(breaks: &[u32], pause: Pause, machine: &Machine) -> Reply
         Pause::Stopped(stop) => stop_reply(stop),
         Pause::Hit(point) => Reply::Watch(point),
         Pause::Arrived => {
-            if is_among(breaks, place_of(machine)) {
+            if is_among(breaks, code_address(machine)) {
                 Reply::Breakpoint
             } else {
                 Reply::Signal(0x05)
@@ -262,7 +262,7 @@ impl Server {
     /// # Errors
     ///
     /// `AllocError`, and nothing has changed.
-    pub fn answer(&mut self, request: &Request, most: u64) -> Result<Reply, AllocError>
+    pub fn reply_to(&mut self, request: &Request, most: u64) -> Result<Reply, AllocError>
         ensures ok { IfOk result (λ r. Replies self.old most request.now r self.new) }
         ensures err { OnErr result (self.new ≡ self.old) }
     {

@@ -104,16 +104,16 @@ abbrev pub row : Mnemonic → OperandKind → OperandKind → Row
 row m a b = record { mnemonic = m; first = a; second = b }
 
 -- an entry of one row with two operands
-abbrev pub two : Mnemonic → OperandKind → OperandKind → OpcodeEntry
-two m a b = Plain (row m a b)
+abbrev pub two_operands : Mnemonic → OperandKind → OperandKind → OpcodeEntry
+two_operands m a b = Plain (row m a b)
 
 -- an entry of one row with one operand
-abbrev pub one : Mnemonic → OperandKind → OpcodeEntry
-one m a = two m a is.Nothing
+abbrev pub one_operand : Mnemonic → OperandKind → OpcodeEntry
+one_operand m a = two_operands m a is.Nothing
 
 -- an entry of one row with no operand
 abbrev pub bare : Mnemonic → OpcodeEntry
-bare m = one m is.Nothing
+bare m = one_operand m is.Nothing
 
 -- ---- runs of rows that differ by a number
 
@@ -127,7 +127,7 @@ conditions = op.Jo ∷ op.Jno ∷ op.Jb ∷ op.Jae ∷ op.Jz ∷ op.Jnz ∷ op.J
 
 -- the entries of an arithmetic mnemonic with six first bytes in a row: E and G, G and E, accumulator and immediate
 abbrev pub six : Mnemonic → List OpcodeEntry
-six m = two m Eb Gb ∷ two m Ew Gw ∷ two m Gb Eb ∷ two m Gw Ew ∷ two m AL Ib ∷ two m AX Iw ∷ []
+six m = two_operands m Eb Gb ∷ two_operands m Ew Gw ∷ two_operands m Gb Eb ∷ two_operands m Gw Ew ∷ two_operands m AL Ib ∷ two_operands m AX Iw ∷ []
 
 -- an entry for each word register, in the order of their numbers
 abbrev pub each_word : (WordRegister → OpcodeEntry) → List OpcodeEntry
@@ -162,11 +162,11 @@ pair m n = bare m ∷ bare n ∷ []
 abbrev pub entries : List OpcodeEntry
 entries =
     -- 00
-    six op.Add ++ one op.Push (S Es) ∷ one op.Pop (S Es) ∷ []
-    ++ six op.Or ++ one op.Push (S Cs) ∷ Unlisted ∷ []
+    six op.Add ++ one_operand op.Push (S Es) ∷ one_operand op.Pop (S Es) ∷ []
+    ++ six op.Or ++ one_operand op.Push (S Cs) ∷ Unlisted ∷ []
     -- 10
-    ++ six op.Adc ++ one op.Push (S Ss) ∷ one op.Pop (S Ss) ∷ []
-    ++ six op.Sbb ++ one op.Push (S Ds) ∷ one op.Pop (S Ds) ∷ []
+    ++ six op.Adc ++ one_operand op.Push (S Ss) ∷ one_operand op.Pop (S Ss) ∷ []
+    ++ six op.Sbb ++ one_operand op.Push (S Ds) ∷ one_operand op.Pop (S Ds) ∷ []
     -- 20
     ++ six op.And ++ Unlisted ∷ bare op.Daa ∷ []
     ++ six op.Sub ++ Unlisted ∷ bare op.Das ∷ []
@@ -174,45 +174,45 @@ entries =
     ++ six op.Xor ++ Unlisted ∷ bare op.Aaa ∷ []
     ++ six op.Cmp ++ Unlisted ∷ bare op.Aas ∷ []
     -- 40
-    ++ each_word (λ r. one op.Inc (is.Word r)) ++ each_word (λ r. one op.Dec (is.Word r))
+    ++ each_word (λ r. one_operand op.Inc (is.Word r)) ++ each_word (λ r. one_operand op.Dec (is.Word r))
     -- 50
-    ++ each_word (λ r. one op.Push (is.Word r)) ++ each_word (λ r. one op.Pop (is.Word r))
+    ++ each_word (λ r. one_operand op.Push (is.Word r)) ++ each_word (λ r. one_operand op.Pop (is.Word r))
     -- 60
     ++ Unlisted ∷ Unlisted ∷ Unlisted ∷ Unlisted ∷ Unlisted ∷ Unlisted ∷ Unlisted ∷ Unlisted ∷ []
     ++ Unlisted ∷ Unlisted ∷ Unlisted ∷ Unlisted ∷ Unlisted ∷ Unlisted ∷ Unlisted ∷ Unlisted ∷ []
     -- 70
-    ++ map (λ c. one c Db) conditions
+    ++ map (λ c. one_operand c Db) conditions
     -- 80
     ++ Group 0 ∷ Group 1 ∷ Group 2 ∷ Group 3 ∷ []
-    ++ two op.Test Eb Gb ∷ two op.Test Ew Gw ∷ two op.Xchg Eb Gb ∷ two op.Xchg Ew Gw ∷ []
-    ++ two op.Mov Eb Gb ∷ two op.Mov Ew Gw ∷ two op.Mov Gb Eb ∷ two op.Mov Gw Ew ∷ []
+    ++ two_operands op.Test Eb Gb ∷ two_operands op.Test Ew Gw ∷ two_operands op.Xchg Eb Gb ∷ two_operands op.Xchg Ew Gw ∷ []
+    ++ two_operands op.Mov Eb Gb ∷ two_operands op.Mov Ew Gw ∷ two_operands op.Mov Gb Eb ∷ two_operands op.Mov Gw Ew ∷ []
     ++ Group 4 ∷ []
-    ++ two op.Lea Gw M ∷ []
+    ++ two_operands op.Lea Gw M ∷ []
     ++ Group 5 ∷ []
     ++ Group 6 ∷ []
     -- 90
-    ++ each_word (λ r. two op.Xchg AX (is.Word r))
-    ++ bare op.Cbw ∷ bare op.Cwd ∷ one op.CallFar Ap ∷ bare op.Wait ∷ bare op.Pushf ∷ bare op.Popf ∷ bare op.Sahf ∷ bare op.Lahf ∷ []
+    ++ each_word (λ r. two_operands op.Xchg AX (is.Word r))
+    ++ bare op.Cbw ∷ bare op.Cwd ∷ one_operand op.CallFar Ap ∷ bare op.Wait ∷ bare op.Pushf ∷ bare op.Popf ∷ bare op.Sahf ∷ bare op.Lahf ∷ []
     -- A0
-    ++ two op.Mov AL Ob ∷ two op.Mov AX Ow ∷ two op.Mov Ob AL ∷ two op.Mov Ow AX ∷ []
+    ++ two_operands op.Mov AL Ob ∷ two_operands op.Mov AX Ow ∷ two_operands op.Mov Ob AL ∷ two_operands op.Mov Ow AX ∷ []
     ++ pair op.Movsb op.Movsw ++ pair op.Cmpsb op.Cmpsw
-    ++ two op.Test AL Ib ∷ two op.Test AX Iw ∷ []
+    ++ two_operands op.Test AL Ib ∷ two_operands op.Test AX Iw ∷ []
     ++ pair op.Stosb op.Stosw ++ pair op.Lodsb op.Lodsw ++ pair op.Scasb op.Scasw
     -- B0
-    ++ map (λ r. two op.Mov (is.Byte r) Ib) byte_registers ++ each_word (λ r. two op.Mov (is.Word r) Iw)
+    ++ map (λ r. two_operands op.Mov (is.Byte r) Ib) byte_registers ++ each_word (λ r. two_operands op.Mov (is.Word r) Iw)
     -- C0
-    ++ Unlisted ∷ Unlisted ∷ one op.Ret Iw ∷ bare op.Ret ∷ two op.Les Gw M ∷ two op.Lds Gw M ∷ []
+    ++ Unlisted ∷ Unlisted ∷ one_operand op.Ret Iw ∷ bare op.Ret ∷ two_operands op.Les Gw M ∷ two_operands op.Lds Gw M ∷ []
     ++ Group 7 ∷ Group 8 ∷ []
-    ++ Unlisted ∷ Unlisted ∷ one op.Retf Iw ∷ bare op.Retf ∷ bare op.Int3 ∷ one op.Int Ib ∷ bare op.Into ∷ bare op.Iret ∷ []
+    ++ Unlisted ∷ Unlisted ∷ one_operand op.Retf Iw ∷ bare op.Retf ∷ bare op.Int3 ∷ one_operand op.Int Ib ∷ bare op.Into ∷ bare op.Iret ∷ []
     -- D0
     ++ Group 9 ∷ Group 10 ∷ Group 11 ∷ Group 12 ∷ []
     ++ Second 0x0A (row op.Aam is.Nothing is.Nothing) ∷ Second 0x0A (row op.Aad is.Nothing is.Nothing) ∷ Unlisted ∷ bare op.Xlat ∷ []
-    ++ map (λ n. two op.Esc (is.Escape n) Ew) (0 ∷ 1 ∷ 2 ∷ 3 ∷ 4 ∷ 5 ∷ 6 ∷ 7 ∷ [])
+    ++ map (λ n. two_operands op.Esc (is.Escape n) Ew) (0 ∷ 1 ∷ 2 ∷ 3 ∷ 4 ∷ 5 ∷ 6 ∷ 7 ∷ [])
     -- E0
-    ++ one op.Loopne Db ∷ one op.Loope Db ∷ one op.Loop Db ∷ one op.Jcxz Db ∷ []
-    ++ two op.Input AL Ib ∷ two op.Input AX Ib ∷ two op.Output Ib AL ∷ two op.Output Ib AX ∷ []
-    ++ one op.Call Dw ∷ one op.Jmp Dw ∷ one op.JmpFar Ap ∷ one op.JmpShort Db ∷ []
-    ++ two op.Input AL DX ∷ two op.Input AX DX ∷ two op.Output DX AL ∷ two op.Output DX AX ∷ []
+    ++ one_operand op.Loopne Db ∷ one_operand op.Loope Db ∷ one_operand op.Loop Db ∷ one_operand op.Jcxz Db ∷ []
+    ++ two_operands op.Input AL Ib ∷ two_operands op.Input AX Ib ∷ two_operands op.Output Ib AL ∷ two_operands op.Output Ib AX ∷ []
+    ++ one_operand op.Call Dw ∷ one_operand op.Jmp Dw ∷ one_operand op.JmpFar Ap ∷ one_operand op.JmpShort Db ∷ []
+    ++ two_operands op.Input AL DX ∷ two_operands op.Input AX DX ∷ two_operands op.Output DX AL ∷ two_operands op.Output DX AX ∷ []
     -- F0
     ++ Unlisted ∷ Unlisted ∷ Unlisted ∷ Unlisted ∷ bare op.Hlt ∷ bare op.Cmc ∷ Group 13 ∷ Group 14 ∷ []
     ++ bare op.Clc ∷ bare op.Stc ∷ bare op.Cli ∷ bare op.Sti ∷ bare op.Cld ∷ bare op.Std ∷ []

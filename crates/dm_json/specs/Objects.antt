@@ -8,7 +8,7 @@ use Rattle.dm_cpu.specs.declared.cpu.Cpu.{Cpu}
 use Rattle.dm_cpu.specs.Guest.{up}
 use Rattle.dm_services.specs.declared.state.stop.Stop.{Stop}
 use Rattle.dm_services.specs.declared.state.stop.Stop.TheVariants as stop
-use Rattle.dm_text.specs.Texts.{text_of}
+use Rattle.dm_decode.specs.Texts.{text_of}
 use Rattle.dm_views.specs.Digits.{address_text}
 use Rattle.dm_findings.specs.declared.calls.Call.{Call}
 use Rattle.dm_findings.specs.declared.calls.Call.TheVariants.{DivideError, Terminate, Dos, ExpandedMemory, Multiplex, ExtendedMemory, Interrupt}

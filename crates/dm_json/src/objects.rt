@@ -3,7 +3,7 @@
 
 ghost use Rattle.std.specs.Prelude.{◌≡◌, ◌++◌, OnOk, codes};
 ghost use Rattle.std.specs.List.{flat_map};
-ghost use Rattle.dm_text.specs.Texts.{text_of};
+ghost use Rattle.dm_decode.specs.Texts.{text_of};
 ghost use Rattle.dm_reports.specs.Texts.{told_text};
 ghost use Rattle.dm_json.specs.Objects.{act_members, again_object, bool_member, byte_members, object_end, code_member, contents_member, detail_members, end_object, found_members, found_object, kept_members, kept_name, kept_word, kind_word, left_out_object, next_members, number_member, opening, origin_member, origin_name, repeated_object, stopped_object, string_member, summary_objects, unlisted_object, what_members};
 

@@ -14,10 +14,10 @@ use Rattle.dm_ins.specs.declared.prefix.Repeat.{Repeat}
 use Rattle.dm_ins.specs.declared.prefix.Repeat.TheVariants.{NotEqual, Equal}
 use Rattle.dm_ins.specs.declared.prefix.Prefixes.{Prefixes}
 use Rattle.dm_ins.specs.declared.ins.Ins.{Ins}
-use Rattle.dm_text.specs.Pieces.{Piece, name, word, space, plus, comma, left_bracket, right_bracket}
-use Rattle.dm_text.specs.Texts.{base_pieces, displacement_pieces, address_pieces, size_pieces, memory_pieces, operand_pieces, behind, second_pieces, operands_pieces, mnemonic_pieces, is_nop, action_pieces, segment_pieces, lock_pieces, repeat_pieces, prefix_pieces, pieces}
-use Rattle.dm_text.specs.words.Words.{size_word}
-use Rattle.dm_text.proofs.words.Sizes.{sizes_are_shown}
+use Rattle.dm_decode.specs.Pieces.{Piece, name, word, space, plus, comma, left_bracket, right_bracket}
+use Rattle.dm_decode.specs.Texts.{base_pieces, displacement_pieces, address_pieces, size_pieces, memory_pieces, operand_pieces, behind, second_pieces, operands_pieces, mnemonic_pieces, is_nop, action_pieces, segment_pieces, lock_pieces, repeat_pieces, prefix_pieces, pieces}
+use Rattle.dm_decode.specs.words.Words.{size_word}
+use Rattle.dm_decode.proofs.words.Sizes.{sizes_are_shown}
 use Rattle.dm_lines.specs.declared.token.Token.{Token}
 use Rattle.dm_lines.specs.declared.token.Token.TheVariants as t
 use Rattle.dm_lines.specs.Tokens.{closed, joined_to, then_list}

@@ -4,8 +4,8 @@ use Rattle.std.specs.Prelude.{codes, flat_map, nat_lt}
 use Rattle.std.specs.List.{AllByRecursion}
 use Rattle.std.proofs.lemmas.Bool.Decides.{nat_tests}
 use Rattle.dm_ins.specs.Walks.{◌>>=◌}
-use Rattle.dm_text.specs.Names.{name_of}
-use Rattle.dm_text.specs.Pieces.{Piece, name, byte, space, comma, byte_in_text, text_bytes, parted}
+use Rattle.dm_decode.specs.Names.{name_of}
+use Rattle.dm_decode.specs.Pieces.{Piece, name, byte, space, comma, byte_in_text, text_bytes, parted}
 use Rattle.dm_lines.specs.declared.token.Token.{Token}
 use Rattle.dm_lines.specs.declared.token.Token.TheVariants as t
 use Rattle.dm_lines.specs.declared.term.Amount.TheVariants.{Plus}

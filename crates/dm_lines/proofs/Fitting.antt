@@ -9,9 +9,9 @@ use Rattle.dm_ins.specs.declared.action.Mnemonic.{Mnemonic}
 use Rattle.dm_ins.specs.declared.prefix.Prefixes.{Prefixes}
 use Rattle.dm_ins.specs.Spelling.{no_prefix}
 use Rattle.dm_ins.specs.Walks.{◌>>=◌}
-use Rattle.dm_text.specs.declared.words.written.Size.{Size}
-use Rattle.dm_text.specs.declared.words.written.Size.TheVariants.{Absent}
-use Rattle.dm_text.specs.Names.{named}
+use Rattle.dm_decode.specs.declared.words.written.Size.{Size}
+use Rattle.dm_decode.specs.declared.words.written.Size.TheVariants.{Absent}
+use Rattle.dm_decode.specs.Names.{named}
 use Rattle.dm_lines.specs.declared.words.Keyword.{Keyword}
 use Rattle.dm_lines.specs.declared.words.Keyword.TheVariants.{Nop}
 use Rattle.dm_lines.specs.declared.words.Reserved.{Reserved}
@@ -29,7 +29,7 @@ use Rattle.dm_lines.specs.Words.{reserved}
 use Rattle.dm_lines.specs.inner.Words.{all_words, spelling_of, meaning_of, keyword_token}
 use Rattle.dm_lines.proofs.Rows.{reserved_is}
 use Rattle.dm_lines.specs.Tokens.{uppercase, is_word_byte, digit_of, magnitude_of, number_of, padded_of, or_name, word_token, closed, joined_to, then_list, marked, inside_quotes, lexed, tokens_of}
-use Rattle.dm_lines.specs.Operands.{minus, amount_of, added_of, parsed_value, amount_word, base_at, based, onto, is_close, inside, memory_of, far_pointer, from_number, term_of, begin, is_comma, parts, term_pair, terms_of}
+use Rattle.dm_lines.specs.Operands.{minus, amount_of, added_of, parsed_value, amount_word, base_at, based, onto, is_close, inside, memory_of, far_pointer, term_from_number, term_of, begin, is_comma, parts, term_pair, terms_of}
 use Rattle.dm_lines.specs.Statements as line
 use Rattle.dm_lines.specs.Statements.{Item, Statement, instruction, list_of_one, letters, bytes_item, word_items, mnemonic_at, prefixed, exchanges, is_memory, with_terms, operated, after_prefixes, instruction_of, item_of, statement_of, line_statement}
 use Rattle.dm_lines.specs.Laws.{AmountFits, TermFits, ItemFits, NumbersFit}
@@ -209,7 +209,7 @@ word_of_fits (Minus n) h = omega arith
 far_fits : (n : Amount) (ts : List Token) → AmountFits n → TokensFit ts → Holds TermFits (far_pointer n ts)
 far_fits n ts h k = map_holds AmountFits TermFits (amount_of ts) (λ m. term.Far (amount_word n) (amount_word m)) (amount_fits ts k) (λ m l. (word_of_fits n h, word_of_fits m l))
 
-number_term_fits : (ts : List Token) → TokensFit ts → Holds TermFits (from_number ts)
+number_term_fits : (ts : List Token) → TokensFit ts → Holds TermFits (term_from_number ts)
 number_term_fits (t.Number n ∷ t.Colon ∷ ts) h = far_fits (Plus n) ts h.0 h.1.1
 number_term_fits (t.Minus ∷ t.Number n ∷ t.Colon ∷ ts) h = then_holds AmountFits TermFits (minus n) _ (minus_fits n h.1.0) (λ m k. far_fits m ts k h.1.1.1)
 number_term_fits ts h = map_holds ValueFits TermFits (parsed_value ts) term.Number (value_fits ts h) (λ v m. m)

@@ -14,7 +14,7 @@ use Rattle.dm_ins.specs.declared.table.OperandKind.TheVariants as is
 use Rattle.dm_ins.specs.declared.table.Row.{Row}
 use Rattle.dm_ins.specs.Spelling.{register, at_place, Fills, SpellsAction}
 use Rattle.dm_ins.proofs.TableRules.{both_true}
-use Rattle.dm_text.proofs.words.Rows.{if_row, entry_all, rows_all, of_row}
+use Rattle.dm_decode.proofs.words.Rows.{if_row, entry_all, rows_all, of_row}
 use Rattle.dm_lines.specs.Statements.{is_memory, exchanges}
 use Rattle.dm_lines.specs.Own.{own_term}
 use Rattle.dm_lines.proofs.Stated.{is_nothing, CanBeWritten}

@@ -10,11 +10,11 @@ use Rattle.dm_ins.specs.declared.operand.SegmentRegister.TheVariants.{Es}
 use Rattle.dm_ins.specs.declared.action.Mnemonic.{Mnemonic}
 use Rattle.dm_ins.specs.declared.action.Mnemonic.TheVariants as op
 use Rattle.dm_ins.specs.declared.prefix.Repeat.TheVariants.{NotEqual, Equal}
-use Rattle.dm_text.specs.declared.words.written.Size.{Size}
-use Rattle.dm_text.specs.declared.words.written.Size.TheVariants.{Absent, Byte, Word, Near}
-use Rattle.dm_text.specs.Names.{byte_name, word_name, segment_name, name_of}
-use Rattle.dm_text.specs.Texts.{mnemonic_pieces}
-use Rattle.dm_text.specs.words.Laws.{word_pieces}
+use Rattle.dm_decode.specs.declared.words.written.Size.{Size}
+use Rattle.dm_decode.specs.declared.words.written.Size.TheVariants.{Absent, Byte, Word, Near}
+use Rattle.dm_decode.specs.Names.{byte_name, word_name, segment_name, name_of}
+use Rattle.dm_decode.specs.Texts.{mnemonic_pieces}
+use Rattle.dm_decode.specs.words.Laws.{word_pieces}
 use Rattle.dm_lines.specs.declared.token.Token.{Token}
 use Rattle.dm_lines.specs.declared.token.Token.TheVariants as t
 use Rattle.dm_lines.specs.Words.{reserved}

@@ -5,11 +5,11 @@ use Rattle.dm_ins.specs.declared.operand.Base.{Base}
 use Rattle.dm_ins.specs.declared.operand.Base.TheVariants.{Direct}
 use Rattle.dm_ins.specs.declared.operand.Operand.TheVariants as operand
 use Rattle.dm_ins.specs.declared.action.Mnemonic.{Mnemonic}
-use Rattle.dm_text.specs.declared.words.written.Size.{Size}
-use Rattle.dm_text.specs.declared.words.written.Written.{Written}
-use Rattle.dm_text.specs.declared.words.written.Written.TheVariants as w
-use Rattle.dm_text.specs.words.Words.{size_word}
-use Rattle.dm_text.specs.words.StandIns.{is_move, OperandStands, NumberStands}
+use Rattle.dm_decode.specs.declared.words.written.Size.{Size}
+use Rattle.dm_decode.specs.declared.words.written.Written.{Written}
+use Rattle.dm_decode.specs.declared.words.written.Written.TheVariants as w
+use Rattle.dm_decode.specs.words.Words.{size_word}
+use Rattle.dm_decode.specs.words.StandIns.{is_move, OperandStands, NumberStands}
 use Rattle.dm_ins.specs.Walks.{◌>>=◌}
 use Rattle.dm_lines.specs.declared.token.Name as Name'
 use Rattle.dm_lines.specs.Operands.{amount_word}

@@ -5,7 +5,7 @@ use Rattle.std.specs.List.{list_all}
 use Rattle.std.proofs.lemmas.Bool.{eqb-true}
 use Rattle.std.proofs.lemmas.Bool.Decides.{nat_tests}
 use borrow.Author.Count.{below_none, below_more}
-use Rattle.dm_text.specs.Pieces.{Piece, name, byte, word, sign, digit, byte_in_text, word_in_text, text_bytes, is_in_names, is_mark, parted}
+use Rattle.dm_decode.specs.Pieces.{Piece, name, byte, word, sign, digit, byte_in_text, word_in_text, text_bytes, is_in_names, is_mark, parted}
 use Rattle.dm_lines.specs.declared.token.Token.{Token}
 use Rattle.dm_lines.specs.declared.token.Token.TheVariants as t
 use Rattle.dm_lines.specs.Tokens.{uppercase, is_word_byte, digit_of, magnitude_of, word_token, closed, joined_to, then_list, marked, lexed, tokens_of}

@@ -5,7 +5,7 @@ use Rattle.std.specs.List.{list_all}
 use Rattle.std.specs.Str.{bytes_eq}
 use Rattle.std.proofs.lemmas.Bool.{eqb-true}
 use Rattle.std.proofs.lemmas.Slice.Eq.{bytes_eq-Decides}
-use Rattle.dm_text.specs.Names.{named, name_of}
+use Rattle.dm_decode.specs.Names.{named, name_of}
 use Rattle.dm_lines.specs.declared.words.Reserved.{Reserved}
 use Rattle.dm_lines.specs.inner.Words.{all_words, those, onto, spelling_of, begins}
 

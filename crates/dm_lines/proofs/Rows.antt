@@ -2,7 +2,7 @@
 use Rattle.std.proofs.Common.{◌≡◌, ℕ, Bool, true, false, List, [], ◌∷◌, Option, Some, refl, ap, ◌∙◌}
 use Rattle.std.specs.Prelude.{if◌then◌else◌, map, option_map}
 use Rattle.std.specs.Str.{bytes_eq}
-use Rattle.dm_text.specs.Names.{named}
+use Rattle.dm_decode.specs.Names.{named}
 use Rattle.dm_lines.specs.declared.token.Token.{Token}
 use Rattle.dm_lines.specs.declared.words.Reserved.{Reserved}
 use Rattle.dm_lines.specs.Words.{reserved_words, reserved}

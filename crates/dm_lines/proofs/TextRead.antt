@@ -26,16 +26,16 @@ use Rattle.dm_ins.specs.inner.Search.{OperandFits}
 use Rattle.dm_ins.specs.Walks.{◌>>=◌}
 use Rattle.dm_ins.proofs.TableRules.{both_true}
 use Rattle.dm_ins.proofs.Shortest.{action_fits}
-use Rattle.dm_text.specs.Names.{byte_name, word_name, segment_name, name_of}
-use Rattle.dm_text.specs.Pieces.{byte, digit, is_in_names, is_mark, parted, Piece, name, word, sign, space, plus, comma, left_bracket, right_bracket, byte_in_text, word_in_text, text_bytes}
-use Rattle.dm_text.specs.Texts.{base_pieces, displacement_pieces, address_pieces, size_pieces, memory_pieces, operand_pieces, behind, second_pieces, operands_pieces, mnemonic_pieces, is_nop, action_pieces, segment_pieces, lock_pieces, repeat_pieces, prefix_pieces, pieces, text_of}
-use Rattle.dm_text.proofs.Pieces.{bytes-append}
-use Rattle.dm_text.proofs.Parted.{texts_are_parted}
-use Rattle.dm_text.specs.declared.words.written.Size.{Size}
-use Rattle.dm_text.specs.declared.words.written.Size.TheVariants.{Absent, Byte, Word, Near}
-use Rattle.dm_text.specs.words.Words.{size_word}
-use Rattle.dm_text.specs.words.Laws.{word_pieces}
-use Rattle.dm_text.proofs.words.Sizes.{sizes_are_shown}
+use Rattle.dm_decode.specs.Names.{byte_name, word_name, segment_name, name_of}
+use Rattle.dm_decode.specs.Pieces.{byte, digit, is_in_names, is_mark, parted, Piece, name, word, sign, space, plus, comma, left_bracket, right_bracket, byte_in_text, word_in_text, text_bytes}
+use Rattle.dm_decode.specs.Texts.{base_pieces, displacement_pieces, address_pieces, size_pieces, memory_pieces, operand_pieces, behind, second_pieces, operands_pieces, mnemonic_pieces, is_nop, action_pieces, segment_pieces, lock_pieces, repeat_pieces, prefix_pieces, pieces, text_of}
+use Rattle.dm_decode.proofs.Pieces.{bytes-append}
+use Rattle.dm_decode.proofs.Parted.{texts_are_parted}
+use Rattle.dm_decode.specs.declared.words.written.Size.{Size}
+use Rattle.dm_decode.specs.declared.words.written.Size.TheVariants.{Absent, Byte, Word, Near}
+use Rattle.dm_decode.specs.words.Words.{size_word}
+use Rattle.dm_decode.specs.words.Laws.{word_pieces}
+use Rattle.dm_decode.proofs.words.Sizes.{sizes_are_shown}
 use Rattle.dm_lines.specs.Tokens.{tokens_of}
 use Rattle.dm_lines.specs.Statements.{statement_of, line_statement}
 use Rattle.dm_lines.specs.Laws.{AllFit, TextsArePlain, TextsAreRead}

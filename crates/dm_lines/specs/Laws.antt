@@ -7,10 +7,10 @@ use Rattle.dm_ins.specs.declared.action.Mnemonic.{Mnemonic}
 use Rattle.dm_ins.specs.declared.action.Action.{Action}
 use Rattle.dm_ins.specs.declared.ins.Ins.{Ins}
 use Rattle.dm_ins.specs.Spelling.{SpellsAction}
-use Rattle.dm_text.specs.Texts.{text_of}
-use Rattle.dm_text.specs.declared.words.written.Written.{Written}
-use Rattle.dm_text.specs.words.StandIns.{OperandStands}
-use Rattle.dm_text.specs.words.Own as read
+use Rattle.dm_decode.specs.Texts.{text_of}
+use Rattle.dm_decode.specs.declared.words.written.Written.{Written}
+use Rattle.dm_decode.specs.words.StandIns.{OperandStands}
+use Rattle.dm_decode.specs.words.Own as read
 use Rattle.dm_lines.specs.declared.term.Amount.{Amount}
 use Rattle.dm_lines.specs.declared.term.Amount.TheVariants.{Plus, Minus}
 use Rattle.dm_lines.specs.declared.term.Term.{Term}
@@ -18,7 +18,7 @@ use Rattle.dm_lines.specs.declared.term.Term.TheVariants as term
 use Rattle.dm_lines.specs.Statements.{Item, Statement, nothing, instruction, bytes, words, line_statement}
 use Rattle.dm_lines.specs.Placing.{written_of, outline_of}
 use Rattle.dm_lines.specs.Own.{own_term, own_statement}
-use Rattle.dm_text.specs.Pieces.{Piece, name, byte, word, sign, byte_in_text, text_bytes, parted}
+use Rattle.dm_decode.specs.Pieces.{Piece, name, byte, word, sign, byte_in_text, text_bytes, parted}
 use Rattle.dm_lines.specs.declared.token.Token.{Token}
 use Rattle.dm_lines.specs.declared.token.Token.TheVariants as t
 use Rattle.dm_lines.specs.Tokens.{closed, then_list, marked, tokens_of}
@@ -62,7 +62,7 @@ PiecesAreRead = (ps : List Piece) (comment : List ℕ) → parted false ps ≡ t
 -- ---- instructions
 
 -- the operand that an instruction's text is read as (`own_term`) is written as what that text shows (`written_of` of
--- `dm_text::words`), wherever the instruction stands
+-- `dm_decode::words`), wherever the instruction stands
 abbrev pub OwnTermsAreWritten : Type 0
 OwnTermsAreWritten = (a : Action) (next place : ℕ) (o : Operand) → written_of a.mnemonic (own_term a next o) place next ≡ Some (read.written_of a next o)
 

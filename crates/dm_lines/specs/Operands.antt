@@ -6,8 +6,8 @@ use Rattle.dm_ins.specs.declared.operand.WordRegister.TheVariants.{Bx, Bp, Si, D
 use Rattle.dm_ins.specs.declared.operand.Base.{Base}
 use Rattle.dm_ins.specs.declared.operand.Base.TheVariants.{BxSi, BxDi, BpSi, BpDi, OnSi, OnDi, OnBp, OnBx}
 use Rattle.dm_ins.specs.Walks.{◌>>=◌}
-use Rattle.dm_text.specs.declared.words.written.Size.{Size}
-use Rattle.dm_text.specs.declared.words.written.Size.TheVariants.{Absent}
+use Rattle.dm_decode.specs.declared.words.written.Size.{Size}
+use Rattle.dm_decode.specs.declared.words.written.Size.TheVariants.{Absent}
 use Rattle.dm_lines.specs.declared.token.Token.{Token}
 use Rattle.dm_lines.specs.declared.token.Token.TheVariants as t
 use Rattle.dm_lines.specs.declared.term.Amount.{Amount}
@@ -100,12 +100,12 @@ far_pointer segment ts = option_map (λ offset. term.Far (amount_word segment) (
 
 -- the operand that starts with a number or a label: a far pointer, a number and a number with a colon between them,
 -- or a value
-abbrev pub from_number : List Token → Option Term
-from_number (t.Number n ∷ t.Colon ∷ ts) = far_pointer (Plus n) ts
-from_number (t.Minus ∷ t.Number n ∷ t.Colon ∷ ts) = do
+abbrev pub term_from_number : List Token → Option Term
+term_from_number (t.Number n ∷ t.Colon ∷ ts) = far_pointer (Plus n) ts
+term_from_number (t.Minus ∷ t.Number n ∷ t.Colon ∷ ts) = do
   segment ← minus n
   far_pointer segment ts
-from_number ts = option_map term.Number (parsed_value ts)
+term_from_number ts = option_map term.Number (parsed_value ts)
 
 -- the operand that the tokens are: a register, memory, a far pointer, a number or a label
 unfoldable pub term_of : List Token → Option Term
@@ -114,7 +114,7 @@ term_of (t.Word r ∷ []) = Some (term.WordRegister r)
 term_of (t.Segment r ∷ []) = Some (term.SegmentRegister r)
 term_of (t.Size s ∷ t.Open ∷ ts) = memory_of s ts
 term_of (t.Open ∷ ts) = memory_of Absent ts
-term_of ts = from_number ts
+term_of ts = term_from_number ts
 
 -- ---- commas part operands, and the items of data
 

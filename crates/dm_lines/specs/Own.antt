@@ -8,8 +8,8 @@ use Rattle.dm_ins.specs.declared.operand.Operand.{Operand}
 use Rattle.dm_ins.specs.declared.operand.Operand.TheVariants as operand
 use Rattle.dm_ins.specs.declared.action.Action.{Action}
 use Rattle.dm_ins.specs.declared.ins.Ins.{Ins}
-use Rattle.dm_text.specs.declared.words.written.Size.{Size}
-use Rattle.dm_text.specs.words.Words.{size_word}
+use Rattle.dm_decode.specs.declared.words.written.Size.{Size}
+use Rattle.dm_decode.specs.words.Words.{size_word}
 use Rattle.dm_lines.specs.declared.term.Amount.TheVariants.{Plus}
 use Rattle.dm_lines.specs.declared.term.Expression.{Expression}
 use Rattle.dm_lines.specs.declared.term.Term.{Term}
@@ -18,12 +18,12 @@ use Rattle.dm_lines.specs.declared.statement.Instruction.{Instruction}
 use Rattle.dm_lines.specs.Statements.{Statement, instruction}
 
 -- the value that is a number without a sign, with no label
-abbrev pub number : ℕ → Expression
-number n = record { label = None; amount = Plus n }
+abbrev pub plain_number : ℕ → Expression
+plain_number n = record { label = None; amount = Plus n }
 
 -- a memory operand: a direct address is a number, any other one registers and a number
 abbrev pub memory_term : Size → Base → ℕ → Term
-memory_term s Direct n = term.Address s (number n)
+memory_term s Direct n = term.Address s (plain_number n)
 memory_term s b n = term.Memory s b (Plus n)
 
 -- an operand of an action as its text is read
@@ -33,10 +33,10 @@ own_term a next (operand.ByteRegister r) = term.ByteRegister r
 own_term a next (operand.WordRegister r) = term.WordRegister r
 own_term a next (operand.SegmentRegister r) = term.SegmentRegister r
 own_term a next (operand.Memory w m) = memory_term (size_word a w) m.base m.displacement
-own_term a next (operand.ByteValue n) = term.Number (number n)
-own_term a next (operand.WordValue n) = term.Number (number n)
-own_term a next operand.One = term.Number (number 1)
-own_term a next (operand.Target d) = term.Number (number ((next + d) % 65536))
+own_term a next (operand.ByteValue n) = term.Number (plain_number n)
+own_term a next (operand.WordValue n) = term.Number (plain_number n)
+own_term a next operand.One = term.Number (plain_number 1)
+own_term a next (operand.Target d) = term.Number (plain_number ((next + d) % 65536))
 own_term a next (operand.FarTarget n s) = term.Far s n
 
 -- an instruction as its own text is read

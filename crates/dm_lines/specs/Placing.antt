@@ -1,4 +1,4 @@
--- What an operand is written as in the terms of `dm_text::words`: with the value of its label, `place`, and, as an
+-- What an operand is written as in the terms of `dm_decode::words`: with the value of its label, `place`, and, as an
 -- outline, before labels have values. `next` is the offset of the next instruction. None says that a label and what is
 -- added to it lie outside 0 to FFFFh.
 -- Source: Intel 8086 Family User's Manual, section 2.9 (labels and numbers of ASM-86); which operands a label may be
@@ -7,10 +7,10 @@ use Rattle.std.specs.Prelude.{ℕ, ◌+◌, ◌-◌, ◌%◌, Bool, true, false,
 use Rattle.dm_ins.specs.declared.action.Mnemonic.{Mnemonic}
 use Rattle.dm_ins.specs.declared.operand.Base.TheVariants.{Direct}
 use Rattle.dm_ins.specs.Walks.{◌>>=◌}
-use Rattle.dm_text.specs.declared.words.written.Numeral.{Numeral}
-use Rattle.dm_text.specs.declared.words.written.Written.{Written}
-use Rattle.dm_text.specs.declared.words.written.Written.TheVariants as w
-use Rattle.dm_text.specs.words.StandIns.{is_move}
+use Rattle.dm_decode.specs.declared.words.written.Numeral.{Numeral}
+use Rattle.dm_decode.specs.declared.words.written.Written.{Written}
+use Rattle.dm_decode.specs.declared.words.written.Written.TheVariants as w
+use Rattle.dm_decode.specs.words.StandIns.{is_move}
 use Rattle.dm_lines.specs.declared.token.Name as Name'
 use Rattle.dm_lines.specs.declared.term.Amount.{Amount}
 use Rattle.dm_lines.specs.declared.term.Amount.TheVariants.{Plus, Minus}

@@ -6,9 +6,9 @@ use Rattle.std.specs.Prelude.{ℕ, Bool, true, false, List, [], ◌∷◌, ◌++
 use Rattle.dm_ins.specs.declared.action.Mnemonic.{Mnemonic}
 use Rattle.dm_ins.specs.declared.action.Mnemonic.TheVariants as op
 use Rattle.dm_ins.specs.declared.prefix.Repeat.TheVariants.{NotEqual, Equal}
-use Rattle.dm_text.specs.declared.words.written.Size.TheVariants as size
+use Rattle.dm_decode.specs.declared.words.written.Size.TheVariants as size
 use Rattle.dm_ins.specs.Registers.{byte_registers, word_registers}
-use Rattle.dm_text.specs.Names.{byte_name, word_name, segment_name, segment_registers, name_of, mnemonics, named}
+use Rattle.dm_decode.specs.Names.{byte_name, word_name, segment_name, segment_registers, name_of, mnemonics, named}
 use Rattle.dm_lines.specs.declared.token.Token.{Token}
 use Rattle.dm_lines.specs.declared.token.Token.TheVariants as t
 

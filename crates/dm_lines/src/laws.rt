@@ -11,7 +11,7 @@ pub fn pieces_are_read()
 {}
 
 /// The law that the operand that an instruction's text is read as is written as what that text shows, which
-/// `dm_text::words` reads as that instruction. It does nothing when called.
+/// `dm_decode::words` reads as that instruction. It does nothing when called.
 #[tactic(auto, using(crate::proofs::OwnTerms::own_terms_are_written))]
 pub fn own_terms_are_written()
     ensures { OwnTermsAreWritten }

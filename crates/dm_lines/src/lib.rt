@@ -18,7 +18,7 @@ pub use laws::{
     texts_are_plain, texts_are_read,
 };
 pub use lexing::Tokens;
-pub use placing::{byte, expression_word, outline, written_of};
+pub use placing::{amount_byte, expression_word, outline, written_of};
 pub use statement::{Bytes, Instruction, Item, Items, Statement, Words};
 pub use statements::line_statement;
 pub use term::{Amount, Expression, Term};

@@ -2,13 +2,13 @@
 //! section 2.9). None says that the tokens are no operand, number or value.
 
 ghost use Rattle.std.specs.Prelude.{◌≡◌, ◌<◌, ◌≤◌, ◌+◌, ◌∷◌, length, IfSome, None, option_map};
-ghost use Rattle.dm_lines.specs.Operands.{is_close, is_comma, minus, amount_of, added_of, parsed_value, amount_word, inside, base_at, based, memory_operand, memory_of, far_pointer, from_number, term_of, parts, term_pair, terms_of};
+ghost use Rattle.dm_lines.specs.Operands.{is_close, is_comma, minus, amount_of, added_of, parsed_value, amount_word, inside, base_at, based, memory_operand, memory_of, far_pointer, term_from_number, term_of, parts, term_pair, terms_of};
 ghost use Rattle.dm_lines.specs.inner.Operands.{seen, option_now, parts_behind};
 
 use crate::term::{Amount, Expression, Term};
 use crate::token::Token;
+use dm_decode::words::Size;
 use dm_ins::{Base, WordRegister};
-use dm_text::words::Size;
 
 /// The number -n; None if it is below -8000h.
 fn negative(n: u16) -> Option<Amount>
@@ -177,7 +177,7 @@ fn far(segment: Amount, tokens: &[Token]) -> Option<Term>
 
 /// The operand that starts with a number or a label: a far pointer or a value.
 fn numeral(tokens: &[Token]) -> Option<Term>
-    ensures { result ≡ from_number tokens.now }
+    ensures { result ≡ term_from_number tokens.now }
 {
     match tokens {
         [Token::Number(n), Token::Colon, rest @ ..] => far(Amount::Plus(*n), rest),

@@ -1,14 +1,14 @@
-//! From an operand to what it is written as in the terms of `dm_text::words`: with the value of its label, and, as an
+//! From an operand to what it is written as in the terms of `dm_decode::words`: with the value of its label, and, as an
 //! outline, before labels have values. `place` is the value of the label, `next` the offset of the next instruction.
 
 ghost use Rattle.std.specs.Prelude.{◌≡◌};
-ghost use Rattle.dm_text.specs.words.StandIns.{is_move};
+ghost use Rattle.dm_decode.specs.words.StandIns.{is_move};
 ghost use Rattle.dm_lines.specs.Placing.{displaced, standing, low_byte_of, amount_byte, distance_of, is_count_of_one, number_at, label_at, numeral_at, written_of, number_outline, label_outline, numeral_outline, word_outline, outline_of};
 
 use crate::operands::word;
 use crate::term::{Amount, Expression, Term};
+use dm_decode::words::{Numeral, Written};
 use dm_ins::{Address, Base, Mnemonic};
-use dm_text::words::{Numeral, Written};
 
 /// The value of a label with a number added to it; None outside 0 to FFFFh.
 fn moved_by(amount: Amount, place: u16) -> Option<u16>
@@ -42,7 +42,7 @@ fn low_byte(n: u16) -> Option<u8>
 }
 
 /// The byte of a number from -80h to FFh; None for another.
-pub fn byte(amount: Amount) -> Option<u8>
+pub fn amount_byte(amount: Amount) -> Option<u8>
     ensures { result ≡ amount_byte amount }
 {
     match amount {
@@ -87,7 +87,7 @@ fn number(amount: Amount, next: u16) -> Numeral
 {
     let target = word(amount);
     Numeral {
-        byte: byte(amount),
+        byte: amount_byte(amount),
         word: Some(target),
         distance: distance(target, next),
         is_one: is_one(amount),

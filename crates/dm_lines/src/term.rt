@@ -4,8 +4,8 @@ ghost use Rattle.std.specs.Prelude.{◌≡◌};
 ghost use Rattle.dm_lines.specs.declared.term.Amount.TheVariants.{Plus};
 
 use crate::token::Name;
+use dm_decode::words::Size;
 use dm_ins::{Base, ByteRegister, SegmentRegister, WordRegister};
-use dm_text::words::Size;
 
 /// A number as it is written, with its sign: from -8000h to FFFFh.
 #[derive(Clone, Copy, Debug, PartialEq, Eq)]

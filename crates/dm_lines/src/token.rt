@@ -1,7 +1,7 @@
 //! The tokens of a line.
 
+use dm_decode::words::Size;
 use dm_ins::{ByteRegister, Mnemonic, Repeat, SegmentRegister, WordRegister};
-use dm_text::words::Size;
 
 /// The name of a label: a letter or an underscore, then letters, digits and underscores, at most 31 in all. Letters
 /// are in upper case, and zeros follow.

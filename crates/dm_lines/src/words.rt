@@ -3,15 +3,15 @@
 //! the conditional jumps in table 2-15, and section 2.9).
 
 ghost use Rattle.std.specs.Prelude.{◌≡◌, ◌<◌, length};
-ghost use Rattle.dm_text.specs.Names.{named};
+ghost use Rattle.dm_decode.specs.Names.{named};
 ghost use Rattle.dm_lines.specs.Words.{reserved};
 ghost use Rattle.dm_lines.specs.inner.Words.{all_words, those, alias_name, keyword_name, spelling_of, alias_mnemonic, keyword_token, meaning_of};
 ghost use Rattle.dm_lines.specs.inner.Words.{begins};
 
 use crate::token::Token;
+use dm_decode::words::Size;
+use dm_decode::{byte_register_name, mnemonic_name, segment_register_name, word_register_name};
 use dm_ins::{ByteRegister, Mnemonic, Repeat, SegmentRegister, WordRegister};
-use dm_text::words::Size;
-use dm_text::{byte_register_name, mnemonic_name, segment_register_name, word_register_name};
 
 /// Another name of a mnemonic, as JC for JB.
 #[derive(Clone, Copy, Debug, PartialEq, Eq)]

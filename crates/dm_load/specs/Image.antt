@@ -27,8 +27,8 @@ abbrev pub last_page : List ℕ → ℕ
 last_page file = word file 0x02 % 512
 
 -- word 04h: the number of pages of 512 bytes that header and image have, the last one counted whole
-abbrev pub pages : List ℕ → ℕ
-pages file = word file 0x04
+abbrev pub file_pages : List ℕ → ℕ
+file_pages file = word file 0x04
 
 -- word 08h, the length of the header: in paragraphs in the file, here in bytes
 abbrev pub header_length : List ℕ → ℕ
@@ -43,8 +43,8 @@ abbrev pub maximum : List ℕ → ℕ
 maximum file = word file 0x0C
 
 -- CS:IP at the start, from words 16h and 14h; the segment counts from the image
-abbrev pub code : List ℕ → FarPointer
-code file = record { segment = word file 0x16; offset = word file 0x14 }
+abbrev pub start_pointer : List ℕ → FarPointer
+start_pointer file = record { segment = word file 0x16; offset = word file 0x14 }
 
 -- SS:SP at the start, from words 0Eh and 10h; the segment counts from the image
 abbrev pub stack : List ℕ → FarPointer
@@ -52,7 +52,7 @@ stack file = record { segment = word file 0x0E; offset = word file 0x10 }
 
 -- the number of bytes of header and image together, by the page counts of an MZ header
 unfoldable pub file_size : List ℕ → ℕ
-file_size file = if last_page file == 0 then pages file * 512 else (pages file - 1) * 512 + last_page file
+file_size file = if last_page file == 0 then file_pages file * 512 else (file_pages file - 1) * 512 + last_page file
 
 -- word 06h: the number of relocations of an MZ file; a COM file has none
 unfoldable pub relocations : List ℕ → ℕ
@@ -76,7 +76,7 @@ image file = if is_mz file then slice_range file (header_length file) (file_size
 -- has an entry, lie in the file, and the word of each relocation lies in the image
 pub record IsGoodMz (file : List ℕ) : Type 0 where
   pub header : 28 ≤ length file
-  pub some_pages : 0 < pages file
+  pub some_pages : 0 < file_pages file
   pub whole : file_size file ≤ length file
   pub table : 0 < word file 0x06 → entry file (word file 0x06) ≤ length file
   pub header_fits : header_length file ≤ file_size file

@@ -1,6 +1,6 @@
 //! The words of an MZ header, and which files can be loaded.
 ghost use Rattle.std.specs.Prelude.{◌≡◌, ◌↔◌, ℕ, ◌+◌, ◌*◌, ◌%◌, ◌<◌, ◌≤◌, IsTrue, MatchResult, length};
-ghost use Rattle.dm_load.specs.Image.{word, with_word, is_mz, file_kind, IsGood, IsGoodMz, file_size, pages, entry, target};
+ghost use Rattle.dm_load.specs.Image.{word, with_word, is_mz, file_kind, IsGood, IsGoodMz, file_size, file_pages, entry, target};
 
 use crate::format::{BadFormat, Kind};
 use byteorder::{ByteOrder, LittleEndian};
@@ -46,7 +46,7 @@ fn is_mz(file: &[u8]) -> bool
 #[tactic(auto, unfolding(crate::specs::Image::file_size))]
 pub(crate) fn size(file: &[u8]) -> usize
     requires header { 28 ≤ length file.now }
-    requires pages { 0 < pages file.now }
+    requires pages { 0 < file_pages file.now }
     ensures value { result ≡ Rattle.dm_load.specs.Image.file_size file.now }
     ensures few { result ≤ 0x1FF_FE00 }
 {

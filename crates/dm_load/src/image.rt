@@ -1,6 +1,6 @@
 //! A program file that can be loaded: its image, its relocations, and the words of its header.
 ghost use Rattle.std.specs.Prelude.{◌≡◌, ℕ, ◌+◌, ◌*◌, ◌<◌, ◌≤◌, length, take, drop, min, true, MatchResult};
-ghost use Rattle.dm_load.specs.Image.{word, is_mz, file_kind, IsGood, entry, target, image, relocations, relocated, minimum, maximum, code, stack};
+ghost use Rattle.dm_load.specs.Image.{word, is_mz, file_kind, IsGood, entry, target, image, relocations, relocated, minimum, maximum, start_pointer, stack};
 
 use crate::format::{BadFormat, FarPointer, Kind};
 use crate::header::{add_to_word, kind, size, target, targets_reach, word};
@@ -72,9 +72,9 @@ impl<'a> Image<'a> {
     }
 
     /// Where an MZ program starts (CS:IP), the segment counted from that of the image.
-    pub fn code(&self) -> FarPointer
+    pub fn start_pointer(&self) -> FarPointer
         requires { is_mz self.now ≡ true }
-        ensures { result ≡ code self.now }
+        ensures { result ≡ start_pointer self.now }
     {
         FarPointer {
             segment: word(self.file, 0x16),

@@ -64,6 +64,6 @@ pub(crate) fn look_at_uppers(
 {
     let before = *known;
     for number in 0..UPPERS {
-        known[number] = upper_since(&before, origin, xms.upper(number));
+        known[number] = upper_since(&before, origin, xms.upper_block(number));
     }
 }

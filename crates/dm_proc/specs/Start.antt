@@ -6,7 +6,7 @@ use Rattle.dm_space.specs.Memory.{Memory, linear}
 use Rattle.dm_load.specs.declared.format.FarPointer.{FarPointer}
 use Rattle.dm_cpu.specs.declared.cpu.Cpu.{Cpu}
 use Rattle.dm_alu.specs.declared.flags.Flags.{Flags}
-use Rattle.dm_load.specs.Image.{is_mz, relocated, code, stack}
+use Rattle.dm_load.specs.Image.{is_mz, relocated, start_pointer, stack}
 use Rattle.dm_arena.specs.Pair.{Placed}
 use Rattle.dm_proc.specs.Request.{Passed}
 use Rattle.dm_proc.specs.Writes.{Write, block, bytes_from}
@@ -86,5 +86,5 @@ relocated_pointer p by = record p { segment = (p.segment + by) % 65536 }
 -- begins at offset 0100h of its block, with SS its block's segment and SP as in `com_stack`
 abbrev pub start_registers : Placed → List ℕ → Cpu
 start_registers p file =
-    if is_mz file then registers p.program (relocated_pointer (code file) (start p)) (relocated_pointer (stack file) (start p))
+    if is_mz file then registers p.program (relocated_pointer (start_pointer file) (start p)) (relocated_pointer (stack file) (start p))
     else registers p.program (record { segment = p.program; offset = 0x100 }) (record { segment = p.program; offset = com_stack p })

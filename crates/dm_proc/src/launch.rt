@@ -161,7 +161,7 @@ fn start_registers(image: &Image, blocks: Blocks) -> Cpu
             let start = segment.wrapping_add(0x10);
             registers(
                 segment,
-                relocated_pointer(image.code(), start),
+                relocated_pointer(image.start_pointer(), start),
                 relocated_pointer(image.stack(), start),
             )
         }

@@ -243,7 +243,7 @@ fn is_prefix(byte: u8) -> bool {
 }
 
 /// Definitions: dm_ins Ins Spells
-/// Definitions: dm_ins Table entries entry_of groups member_of row two one bare each_word pair zeroth six arithmetics
+/// Definitions: dm_ins Table entries entry_of groups member_of row two_operands one_operand bare each_word pair zeroth six arithmetics
 /// Definitions: dm_ins Table immediate shifts unary conditions
 /// Definitions: dm_decode Decoded Decodes
 #[test]

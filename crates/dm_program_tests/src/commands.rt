@@ -300,7 +300,7 @@ fn tells(
 }
 
 /// Definitions: dm_cli Program Does IsParsed Given Left Runs; dm_cli Starting IsStartedBy sizes_of paths_of typed_in
-/// Definitions: dm_cli Statuses status_of status_after; dm_cli Names last_part
+/// Definitions: dm_cli Statuses exit_status_of status_after; dm_cli Names last_part
 /// Definitions: dm_cli Stores AddsFile Stores IsStarted IsBegun
 #[test]
 fn runs_stop(rt: HostRuntime) -> Result<(), Fail> {
@@ -323,7 +323,7 @@ fn runs_are_checked(rt: HostRuntime) -> Result<(), Fail> {
 
 /// Definitions: dm_proc Programs IsName; dm_cli Program Does IsParsed Given Left
 /// Definitions: dm_cli Starting IsStartFault IsFileFault IsMachineFault IsLoadFault
-/// Definitions: dm_cli Statuses status_of status_after; dm_cli Names last_part
+/// Definitions: dm_cli Statuses exit_status_of status_after; dm_cli Names last_part
 /// Definitions: dm_cli Faults refusal_fault IsUnread IsUnwritten IsReadFault IsWriteFault
 /// Definitions: dm_cli Stores IsRead IsInputFault IsFaultOf
 #[test]

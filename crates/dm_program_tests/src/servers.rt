@@ -385,7 +385,7 @@ fn sent_for(
 ) -> Result<Vec<u8>, Fail> {
     let mut sent = Vec::new(alloc);
     for byte in stream {
-        connection.take(*byte, most, &mut sent)?;
+        connection.receive(*byte, most, &mut sent)?;
     }
     Ok(sent)
 }

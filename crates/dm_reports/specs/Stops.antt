@@ -29,9 +29,9 @@ reason_text stop.Destroyed = codes "destroyed"
 reason_text stop.Memory = codes "memory"
 
 -- a place in the program: `at` the address of an instruction, or `before` the return address of a call
-abbrev pub place_text : Site → List ℕ
-place_text (At segment offset) = codes " at " ++ address_text segment offset
-place_text (Before segment offset) = codes " before " ++ address_text segment offset
+abbrev pub stop_site_text : Site → List ℕ
+stop_site_text (At segment offset) = codes " at " ++ address_text segment offset
+stop_site_text (Before segment offset) = codes " before " ++ address_text segment offset
 
 -- the two bytes at CS:IP
 abbrev pub code_bytes_text : Memory → Cpu → List ℕ
@@ -51,7 +51,7 @@ what_text _ m c = next_text (call_of c)
 
 -- why the run stopped, where in its code the program would have gone on, and what the next step would perform
 unfoldable pub stopped_text : Stop → Memory → Cpu → List ℕ
-stopped_text why m c = codes "stopped: " ++ reason_text why ++ place_text (site_of m c) ++ what_text why m c ++ 10 ∷ []
+stopped_text why m c = codes "stopped: " ++ reason_text why ++ stop_site_text (site_of m c) ++ what_text why m c ++ 10 ∷ []
 
 -- the line about a stop, by the memory and the registers then; no text for an exit
 abbrev pub stopped_line : Stop → Memory → Cpu → List ℕ

@@ -1,6 +1,6 @@
 -- The texts of findings in the report of `dm check`. The form is this machine's own.
 use Rattle.std.specs.Prelude.{ℕ, ◌==◌, Bool, if◌then◌else◌, List, [], ◌∷◌, ◌++◌, Option, Some, None, codes, decimal}
-use Rattle.dm_text.specs.Texts.{text_of}
+use Rattle.dm_decode.specs.Texts.{text_of}
 use Rattle.dm_views.specs.Digits.{two_digits, four_digits, address_text}
 use Rattle.dm_findings.specs.declared.finding.Contents.{Contents}
 use Rattle.dm_findings.specs.declared.finding.Act.{Act}

@@ -2,7 +2,7 @@
 //! is a failed allocation.
 
 ghost use Rattle.std.specs.Prelude.{◌≡◌, ◌++◌, OnOk};
-ghost use Rattle.dm_reports.specs.Stops.{is_exit, reason_text, place_text, code_bytes_text, next_text, what_text, stopped_text, stopped_line};
+ghost use Rattle.dm_reports.specs.Stops.{is_exit, reason_text, stop_site_text, code_bytes_text, next_text, what_text, stopped_text, stopped_line};
 
 use crate::names::put_call;
 use dm_cpu::Cpu;
@@ -36,7 +36,7 @@ pub fn reason_of(stop: Stop) -> &'static [u8]
 
 /// Appends a place in the program: `at` the address of an instruction, or `before` the return address of a call.
 fn put_place(out: &mut Vec<u8>, site: Site) -> Result<(), AllocError>
-    ensures { OnOk result (out.new.items ≡ out.old.items ++ place_text site) }
+    ensures { OnOk result (out.new.items ≡ out.old.items ++ stop_site_text site) }
 {
     match site {
         Site::At(segment, offset) => {

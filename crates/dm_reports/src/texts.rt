@@ -3,15 +3,15 @@
 
 ghost use Rattle.std.specs.Prelude.{◌≡◌, ◌++◌, OnOk, codes, decimal};
 ghost use Rattle.dm_findings.specs.Findings.{is_error};
-ghost use Rattle.dm_text.specs.Texts.{text_of};
+ghost use Rattle.dm_decode.specs.Texts.{text_of};
 ghost use Rattle.dm_views.specs.Digits.{two_digits, four_digits, address_text};
 ghost use Rattle.dm_reports.specs.Texts.{act_text, contents_text, count_text, ending_text, finding_text, found_line, free_text, found_text, kept_text, kept_verb, kind_text, lock_text, map_text, origin_text, origin_verb, refusal_text, repeated_line, short_text, site_text, told_text};
 
 use crate::meanings::meaning_of;
 use crate::names::put_call;
+use dm_decode::{Line, text};
 use dm_findings::{Act, Contents, Finding, Found, Kept, Listed, Origin, Site};
 use dm_ins::Ins;
-use dm_text::{Line, text};
 use dm_views::{byte_digits, put_address, word_digits};
 use itoa::Buffer;
 use std::alloc::AllocError;

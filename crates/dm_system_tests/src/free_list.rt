@@ -3,6 +3,7 @@
 use crate::checks::same;
 use dm_pool::{Block, Part, Sizes, Store, UNIT};
 use dm_region::Region;
+use std::process::Abort;
 use std::test::Fail;
 
 /// The byte of a store's region where the pool begins.
@@ -47,6 +48,15 @@ fn base_of(store: &Store, block: Option<Block>) -> Option<usize> {
     }
 }
 
+/// What the last free run has in place of the next one's unit.
+const NO_UNIT: [u8; 4] = [0xFF; 4];
+
+/// Compares the run at a unit with its length and the next one's unit.
+fn has_run(rt: &impl Abort, what: &str, store: &Store, unit: usize, len: u8, next: [u8; 4]) {
+    let wanted = [len, 0, 0, 0, next[0], next[1], next[2], next[3]];
+    same(rt, what, beginning(store, unit), wanted);
+}
+
 /// Definitions: dm_pool FreeList Spells double_word
 #[test]
 fn free_bytes_tell_the_gaps(rt: HostRuntime) -> Result<(), Fail> {
@@ -57,67 +67,31 @@ fn free_bytes_tell_the_gaps(rt: HostRuntime) -> Result<(), Fail> {
     let mut store = Store::new(rt.alloc(), sizes)?;
     same(&rt, "a new pool", store.free_list().in_use, false);
     let first = store.take(1);
-    same(
-        &rt,
-        "one run of three units",
-        beginning(&store, 1),
-        [3, 0, 0, 0, 0xFF, 0xFF, 0xFF, 0xFF],
-    );
+    has_run(&rt, "one run of three units", &store, 1, 3, NO_UNIT);
     same(&rt, "the first run", store.free_list().first, 1);
     give(&mut store, first);
-    same(
-        &rt,
-        "one run of four units",
-        beginning(&store, 0),
-        [4, 0, 0, 0, 0xFF, 0xFF, 0xFF, 0xFF],
-    );
+    has_run(&rt, "one run of four units", &store, 0, 4, NO_UNIT);
     let _first = store.take(1);
     let second = store.take(1);
     let third = store.take(1);
     let fourth = store.take(1);
     give(&mut store, second);
-    same(
-        &rt,
-        "a run of one unit",
-        beginning(&store, 1),
-        [1, 0, 0, 0, 0xFF, 0xFF, 0xFF, 0xFF],
-    );
+    has_run(&rt, "a run of one unit", &store, 1, 1, NO_UNIT);
     give(&mut store, fourth);
-    same(
-        &rt,
-        "the next run is at unit 3",
-        beginning(&store, 1),
-        [1, 0, 0, 0, 3, 0, 0, 0],
-    );
-    same(
-        &rt,
-        "the last run",
-        beginning(&store, 3),
-        [1, 0, 0, 0, 0xFF, 0xFF, 0xFF, 0xFF],
-    );
+    has_run(&rt, "the next run is at unit 3", &store, 1, 1, [3, 0, 0, 0]);
+    has_run(&rt, "the last run", &store, 3, 1, NO_UNIT);
     give(&mut store, third);
-    same(
-        &rt,
-        "three units are one run",
-        beginning(&store, 1),
-        [3, 0, 0, 0, 0xFF, 0xFF, 0xFF, 0xFF],
-    );
+    has_run(&rt, "three units are one run", &store, 1, 3, NO_UNIT);
     let two = store.take(2);
     same(&rt, "units 1 and 2", base_of(&store, two), Some(1));
-    same(&rt, "zeros", beginning(&store, 1), [0; 8]);
-    same(
-        &rt,
-        "the run that is left",
-        beginning(&store, 3),
-        [1, 0, 0, 0, 0xFF, 0xFF, 0xFF, 0xFF],
-    );
+    has_run(&rt, "zeros", &store, 1, 0, [0; 4]);
+    has_run(&rt, "the run that is left", &store, 3, 1, NO_UNIT);
     same(&rt, "no more two units", store.take(2).is_none(), true);
     let one = store.take(1);
     same(&rt, "unit 3", base_of(&store, one), Some(3));
     Ok(())
 }
 
-/// The byte `at` of a region; None in its hole, and behind its end.
 fn byte(region: &Region, at: usize) -> Option<u8> {
     if at >= region.len() {
         return None;

@@ -1,9 +1,12 @@
 //! Worked rows for what surrounds the processor: regions of bytes, blocks of a pool, memory as a program sees it,
-//! room for output, the program's writers, the lines of the debugger, and the packets of another one.
+//! the lists of the arena, room for output, the program's writers, the lines of the debugger, and the packets of
+//! another one.
 //!
 //! They are apart from the crates that they test, because a crate with tests is proved twice.
 #![tactic(auto)]
 
+#[cfg(test)]
+mod arena;
 #[cfg(test)]
 mod blocks;
 #[cfg(test)]

@@ -14,7 +14,7 @@ use Rattle.dm_target.specs.declared.going.Pause.TheVariants.{Arrived, Hit, Stopp
 use Rattle.dm_target.specs.declared.returning.Found.{Found}
 use Rattle.dm_target.specs.declared.undoing.Undone.{Undone}
 use Rattle.dm_target.specs.declared.undoing.Undone.TheVariants as undone
-use Rattle.dm_target.specs.Going.{Passes, Continues, is_among, place_of}
+use Rattle.dm_target.specs.Going.{Passes, Continues, is_among, code_address}
 use Rattle.dm_target.specs.Going as going
 use Rattle.dm_target.specs.Watching.{unwatched}
 use Rattle.dm_target.specs.Returning.{Misses, Meets, AreClear, Returns}
@@ -170,7 +170,7 @@ known_last points watches p low end (Some step) l clear k =
 
 -- nothing is set
 pub bare_last : (points : List ℕ) (watches : List Point) (p : Past) → points ≡ [] → watches ≡ [] → IsLast points watches p None
-bare_last points watches p e f = λ k s after before was. record { apart = ap (λ (xs : List ℕ). is_among xs (place_of s)) e; misses = λ t run. unwatched f refl }
+bare_last points watches p e f = λ k s after before was. record { apart = ap (λ (xs : List ℕ). is_among xs (code_address s)) e; misses = λ t run. unwatched f refl }
 
 -- ---- what is told
 

@@ -22,7 +22,7 @@ use Rattle.dm_machine.specs.Near as near
 use Rattle.dm_target.specs.declared.going.Pause.{Pause}
 use Rattle.dm_target.specs.declared.going.Pause.TheVariants.{Arrived, Stopped}
 use Rattle.dm_target.specs.declared.going.StepRange.{StepRange}
-use Rattle.dm_target.specs.Going.{Passes, Continues, has_arrived, is_among, place_of}
+use Rattle.dm_target.specs.Going.{Passes, Continues, has_arrived, is_among, code_address}
 use Rattle.dm_target.specs.Going as going
 use Rattle.dm_target.specs.Watching.{Hits, performed, unwatched}
 use Rattle.dm_target.specs.inner.Looking.{IsGuarded, Looks, Ends, PassesNear, pairs_of}
@@ -77,7 +77,7 @@ not_arrived : (points : List ℕ) (s u : State) → s.cpu.cs < 65536 → u.cpu.c
 not_arrived points s u small same below off =
     let here : is_one_of (pairs_of s.cpu.cs points) s.cpu.cs u.cpu.ip ≡ false = subst (λ (c : ℕ). is_one_of (pairs_of s.cpu.cs points) c u.cpu.ip ≡ false) same off in
     let apart = points_other points u.memory.a20 s.cpu.cs u.cpu.ip small below here in
-    let there : is_among points (place_of u) ≡ false = subst (λ (c : ℕ). is_among points (linear u.memory.a20 c u.cpu.ip) ≡ false) (sym same) apart in
+    let there : is_among points (code_address u) ≡ false = subst (λ (c : ℕ). is_among points (linear u.memory.a20 c u.cpu.ip) ≡ false) (sym same) apart in
     rw there refl
 
 within_passes : (points : List ℕ) (watches : List Point) (s t : State) (m n : ℕ) → s.cpu.cs < 65536 → Misses watches s n → m ≤ n → GoesWithin (pairs_of s.cpu.cs points) s m t → Passes points watches None s m t

@@ -23,7 +23,7 @@ use Rattle.dm_history.proofs.Runs.{all-made, run-more}
 use Rattle.dm_history.proofs.Walks.{split, all-goes}
 use Rattle.dm_target.specs.declared.going.Pause.{Pause}
 use Rattle.dm_target.specs.declared.going.Pause.TheVariants.{Arrived, Hit, Stopped}
-use Rattle.dm_target.specs.Going.{Passes, Continues, has_arrived, is_among, place_of}
+use Rattle.dm_target.specs.Going.{Passes, Continues, has_arrived, is_among, code_address}
 use Rattle.dm_target.specs.Going as going
 use Rattle.dm_target.specs.Watching.{Hits, unwatched, acted, performed, is_touched, is_changed}
 use Rattle.dm_target.specs.Returning.{Misses}
@@ -75,17 +75,17 @@ run_leads s t a = on (one_of s t 1 (all-made s t 1 AllSteps refl a).goes refl)
 
 -- the states from m up to this count are no hits, but m may stand at a breakpoint
 abbrev pub Way : List ℕ → List Point → State → State → ℕ → Type 0
-Way points watches o m end = (s : State) → BecomesBy o [] s → m.steps ≤ s.steps → s.steps < end → (m.steps < s.steps → is_among points (place_of s) ≡ false) × Misses watches s
+Way points watches o m end = (s : State) → BecomesBy o [] s → m.steps ≤ s.steps → s.steps < end → (m.steps < s.steps → is_among points (code_address s) ≡ false) × Misses watches s
 
 -- the way to t, and the step from there
-way_more : (points : List ℕ) (watches : List Point) (o m t : State) (end : ℕ) → t.steps + 1 ≡ end → end ≤ 2 ^ 64 - 1 → BecomesBy o [] t → (m.steps < t.steps → is_among points (place_of t) ≡ false) → Misses watches t → Way points watches o m t.steps →
+way_more : (points : List ℕ) (watches : List Point) (o m t : State) (end : ℕ) → t.steps + 1 ≡ end → end ≤ 2 ^ 64 - 1 → BecomesBy o [] t → (m.steps < t.steps → is_among points (code_address t) ≡ false) → Misses watches t → Way points watches o m t.steps →
     Way points watches o m end
 way_more points watches o m t end e top b apart miss way = λ s c l r. elim (cases_lt s.steps t.steps) [
   | inl less ↦ way s c l less
   | inr more ↦
       let now : t.steps ≡ s.steps = omega (arith, e, more, r) in
       let same : t ≡ s = one_state o t s [] b c now (omega (arith, r, top)) in
-      (λ after. subst (λ (x : State). is_among points (place_of x) ≡ false) same (apart (omega (arith, after, now))), subst (λ (x : State). Misses watches x) same miss)
+      (λ after. subst (λ (x : State). is_among points (code_address x) ≡ false) same (apart (omega (arith, after, now))), subst (λ (x : State). Misses watches x) same miss)
 ]
 
 left_false : (a b : Bool) → (a || b) ≡ false → a ≡ false
@@ -96,18 +96,18 @@ left_true : (a : Bool) → (a || false) ≡ true → a ≡ true
 left_true true e = refl
 left_true false e = e
 
-pub apart_of : (points : List ℕ) (s : State) → has_arrived points None s ≡ false → is_among points (place_of s) ≡ false
-apart_of points s e = left_false (is_among points (place_of s)) false e
+pub apart_of : (points : List ℕ) (s : State) → has_arrived points None s ≡ false → is_among points (code_address s) ≡ false
+apart_of points s e = left_false (is_among points (code_address s)) false e
 
-pub among_of : (points : List ℕ) (s : State) → has_arrived points None s ≡ true → is_among points (place_of s) ≡ true
-among_of points s e = left_true (is_among points (place_of s)) e
+pub among_of : (points : List ℕ) (s : State) → has_arrived points None s ≡ true → is_among points (code_address s) ≡ true
+among_of points s e = left_true (is_among points (code_address s)) e
 
 -- where steps that passed have led
 record Walked (points : List ℕ) (watches : List Point) (o m : State) (n : ℕ) (t : State) : Type 0 where
   pub becomes : BecomesBy o [] t
   pub steps : t.steps ≡ m.steps + n
   pub way : Way points watches o m t.steps
-  pub apart : m.steps < t.steps → is_among points (place_of t) ≡ false
+  pub apart : m.steps < t.steps → is_among points (code_address t) ≡ false
 
 -- one more step is counted
 counted_more : (s t : State) → HasStepTo s t → s.steps < 2 ^ 64 - 1 → t.steps ≡ s.steps + 1
@@ -134,15 +134,15 @@ walked points watches o m t n (going.further k v u p run hits off) b top =
 
 -- ---- what is known of hits on the way
 
-met_stands : (points : List ℕ) (watches : List Point) (o m : State) → BecomesBy o [] m → is_among points (place_of m) ≡ true → MetAt points watches o m.steps
+met_stands : (points : List ℕ) (watches : List Point) (o m : State) → BecomesBy o [] m → is_among points (code_address m) ≡ true → MetAt points watches o m.steps
 met_stands points watches o m b e = record { at = m; becomes = b; steps = refl; met = surveying.stands e }
 
-clear_on : (points : List ℕ) (watches : List Point) (o m : State) (end : ℕ) → BecomesBy o [] m → end ≤ 2 ^ 64 - 1 → is_among points (place_of m) ≡ false → Way points watches o m end → ClearTo points watches o m.steps end
+clear_on : (points : List ℕ) (watches : List Point) (o m : State) (end : ℕ) → BecomesBy o [] m → end ≤ 2 ^ 64 - 1 → is_among points (code_address m) ≡ false → Way points watches o m end → ClearTo points watches o m.steps end
 clear_on points watches o m end b top off way = λ s c l r. elim (cases_lt m.steps s.steps) [
   | inl after ↦ record { apart = (way s c l r).0 after; misses = (way s c l r).1 }
   | inr now ↦
       let same : m ≡ s = one_state o m s [] b c (omega (arith, l, now)) (omega (arith, r, top)) in
-      record { apart = subst (λ (x : State). is_among points (place_of x) ≡ false) same off; misses = (way s c l r).1 }
+      record { apart = subst (λ (x : State). is_among points (code_address x) ≡ false) same off; misses = (way s c l r).1 }
 ]
 
 clear_join : (points : List ℕ) (watches : List Point) (o : State) (from k end : ℕ) → ClearTo points watches o from k → ClearTo points watches o k end → ClearTo points watches o from end
@@ -182,7 +182,7 @@ stop_same a b e = cc
 
 -- nothing is set
 way_bare : (points : List ℕ) (watches : List Point) (o m : State) (end : ℕ) → points ≡ [] → watches ≡ [] → Way points watches o m end
-way_bare points watches o m end e f = λ s c l r. (λ after. ap (λ (xs : List ℕ). is_among xs (place_of s)) e, λ t run. unwatched f refl)
+way_bare points watches o m end e f = λ s c l r. (λ after. ap (λ (xs : List ℕ). is_among xs (code_address s)) e, λ t run. unwatched f refl)
 
 way_cut : (points : List ℕ) (watches : List Point) (o m s t : State) (n end : ℕ) (stop : Stop) → stop ≢ AllSteps → stop ≢ NoMemory → IsRun s 1 stop t → Walked points watches o m n s → m.steps + n < end → end ≤ 2 ^ 64 - 1 → Reaches o end →
     Way points watches o m end
@@ -249,7 +249,7 @@ hit_seen points watches o m t point step end found full pause is b l top now (go
 
 -- ---- a breakpoint
 
-arrived_end : (points : List ℕ) (watches : List Point) (o t : State) (end : ℕ) (before found : Option ℕ) (full : Bool) → is_among points (place_of t) ≡ true → t.steps ≤ end → BecomesBy o [] t → Seen points watches o before t.steps →
+arrived_end : (points : List ℕ) (watches : List Point) (o t : State) (end : ℕ) (before found : Option ℕ) (full : Bool) → is_among points (code_address t) ≡ true → t.steps ≤ end → BecomesBy o [] t → Seen points watches o before t.steps →
     IsStand points t end before found full → IsLookedAt points watches o end t found full
 arrived_end points watches o t end before found full there l b seen (surveying.over r) = subst (λ j. Seen points watches o before j) (let same : t.steps ≡ end = omega (arith, l, r) in same) seen
 arrived_end points watches o t end before found full there l b seen (surveying.here less e) = (less, b, surveying.here e)

@@ -17,8 +17,8 @@ use Rattle.dm_target.specs.Memory.{linear_of}
 use Rattle.dm_target.specs.Watching.{Hits}
 
 -- the linear address of CS:IP
-abbrev pub place_of : State → ℕ
-place_of s = linear_of s.memory s.cpu.cs s.cpu.ip
+abbrev pub code_address : State → ℕ
+code_address s = linear_of s.memory s.cpu.cs s.cpu.ip
 
 -- whether an address is one of these
 abbrev pub is_among : List ℕ → ℕ → Bool
@@ -31,7 +31,7 @@ is_outside (Some span) address = nat_lt address span.start || nat_le span.end ad
 
 -- whether the machine stands at a breakpoint, or outside the range
 abbrev pub has_arrived : List ℕ → Option StepRange → State → Bool
-has_arrived points span s = is_among points (place_of s) || is_outside span (place_of s)
+has_arrived points span s = is_among points (code_address s) || is_outside span (code_address s)
 
 -- n steps, one after the other, lead from s to this state; none of them led to a breakpoint or out of the range, or hit
 -- a watchpoint

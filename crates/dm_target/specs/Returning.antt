@@ -9,7 +9,7 @@ use Rattle.dm_machine.specs.Run.{IsRun}
 use Rattle.dm_history.specs.Pasts.{Past, Was, GoesBack}
 use Rattle.dm_target.specs.declared.undoing.Undone.{Undone}
 use Rattle.dm_target.specs.declared.undoing.Undone.TheVariants.{Begun, Back, Hit}
-use Rattle.dm_target.specs.Going.{is_among, place_of}
+use Rattle.dm_target.specs.Going.{is_among, code_address}
 use Rattle.dm_target.specs.Watching.{Hits}
 
 -- the step from s hits no watchpoint. One that ends the program hits none, as forwards
@@ -20,11 +20,11 @@ Misses watches s = (t : State) → IsRun s 1 AllSteps t → Hits watches s t Non
 -- none
 pub data Meets (points : List ℕ) (watches : List Point) (s : State) : Undone → Type 0 where
   hits : (point : Point) (t : State) → IsRun s 1 AllSteps t → Hits watches s t (Some point) → Meets points watches s (Hit point)
-  stands : is_among points (place_of s) ≡ true → Misses watches s → Meets points watches s Back
+  stands : is_among points (code_address s) ≡ true → Misses watches s → Meets points watches s Back
 
 -- s is no hit
 pub record IsNoHit (points : List ℕ) (watches : List Point) (s : State) : Type 0 where
-  pub apart : is_among points (place_of s) ≡ false
+  pub apart : is_among points (code_address s) ≡ false
   pub misses : Misses watches s
 
 -- from one step of the history p up to another, that one left out, no state is a hit

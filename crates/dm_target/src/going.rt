@@ -2,7 +2,7 @@
 //! steps.
 
 ghost use Rattle.std.specs.Prelude.{◌≡◌, All, IfSome};
-ghost use Rattle.dm_target.specs.Going.{is_among, is_outside, place_of, has_arrived, Continues};
+ghost use Rattle.dm_target.specs.Going.{is_among, is_outside, code_address, has_arrived, Continues};
 ghost use Rattle.dm_target.specs.inner.Looking.{Ends, IsGuarded};
 
 use crate::memory::linear_of;
@@ -33,8 +33,8 @@ pub enum Pause {
 }
 
 /// The linear address of CS:IP.
-pub fn place_of(machine: &Machine) -> u32
-    ensures { result ≡ place_of machine.now }
+pub fn code_address(machine: &Machine) -> u32
+    ensures { result ≡ code_address machine.now }
 {
     let cpu = machine.cpu();
     linear_of(machine.space(), cpu.cs, cpu.ip)
@@ -61,7 +61,7 @@ fn is_outside(span: Option<StepRange>, address: u32) -> bool
 fn has_arrived(points: &[u32], span: Option<StepRange>, machine: &Machine) -> bool
     ensures { result ≡ has_arrived points.now span machine.now }
 {
-    let address = place_of(machine);
+    let address = code_address(machine);
     is_among(points, address) || is_outside(span, address)
 }
 

@@ -14,7 +14,7 @@ mod settings;
 mod undoing;
 mod watching;
 
-pub use going::{Pause, StepRange, go_on, is_among, place_of};
+pub use going::{Pause, StepRange, code_address, go_on, is_among};
 pub use memory::{LAST, bytes_from, linear_of, readable, reads_as, segment_below};
 pub use points::Points;
 pub use registers::{all_registers, has_register, put_register};

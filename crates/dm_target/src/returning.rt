@@ -8,7 +8,7 @@ ghost use Rattle.dm_history.specs.Pasts.{GoesBack, Was};
 ghost use Rattle.dm_target.specs.Returning.{Meets, Returns};
 ghost use Rattle.dm_target.specs.inner.Surveying.{IsLast, IsLookedAt, IsMet, IsPart, IsStand, IsSurvey, Stands, found_with};
 
-use crate::going::{Pause, go_on, is_among, place_of};
+use crate::going::{Pause, code_address, go_on, is_among};
 use crate::undoing::Undone;
 use dm_history::History;
 use dm_machine::Stop;
@@ -43,7 +43,7 @@ fn stand(branch: &History, end: u64, points: &[u32], last: Option<u64>) -> (Opti
     if end <= steps {
         return (last, true);
     }
-    if is_among(points, place_of(machine)) {
+    if is_among(points, code_address(machine)) {
         return (Some(steps), false);
     }
     (last, false)

@@ -1,8 +1,10 @@
-//! Worked rows of the text of instructions, and of the words that are instructions.
+//! Worked rows of the text of instructions, of the words that are instructions, and of programs in assembly.
 //!
 //! They are apart from the crates that they test, because a crate with tests is proved twice.
 #![tactic(auto)]
 
+#[cfg(test)]
+mod assembly;
 #[cfg(test)]
 mod checks;
 #[cfg(test)]

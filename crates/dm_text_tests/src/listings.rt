@@ -2,7 +2,7 @@
 //! 4 for the bytes).
 
 use crate::checks::same;
-use dm_text::disassembly::disassemble;
+use dm_decode::disassembly::disassemble;
 use std::alloc::Global;
 use std::process::Abort;
 use std::test::Fail;

@@ -3,11 +3,11 @@
 
 use crate::checks::same;
 use crate::words::check;
-use dm_ins::{Address, Base, ByteRegister, Mnemonic, Prefixes, Repeat, SegmentRegister, encode};
-use dm_text::words::{
+use dm_decode::words::{
     Size, Words, Written, own_words_are_read, read_words, stand_ins_have_the_length,
     words_are_one_instruction,
 };
+use dm_ins::{Address, Base, ByteRegister, Mnemonic, Prefixes, Repeat, SegmentRegister, encode};
 use std::test::Fail;
 
 /// BYTE and WORD precede memory exactly if no general register gives the size.
@@ -254,37 +254,37 @@ PUSH | @5            | none
 SHL | AX,@1          | none
 ESC | @5,AX          | none";
 
-/// Definitions: dm_text words.Words word_before word_written size_word jump_word width_word
+/// Definitions: dm_decode words.Words word_before word_written size_word jump_word width_word
 #[test]
 fn words_before_memory_stand_where_they_are_needed(rt: HostRuntime) -> Result<(), Fail> {
     check(&rt, SIZES)
 }
 
-/// Definitions: dm_text words.Words AreWords IsWritten IsNumber
+/// Definitions: dm_decode words.Words AreWords IsWritten IsNumber
 #[test]
 fn targets_are_near_short_or_far(rt: HostRuntime) -> Result<(), Fail> {
     check(&rt, TRANSFERS)
 }
 
-/// Definitions: dm_text words.Words AreWords IsWritten IsNumber
+/// Definitions: dm_decode words.Words AreWords IsWritten IsNumber
 #[test]
 fn numbers_are_bytes_or_words(rt: HostRuntime) -> Result<(), Fail> {
     check(&rt, NUMBERS)
 }
 
-/// Definitions: dm_text words.Words AreWords IsWritten IsNumber
+/// Definitions: dm_decode words.Words AreWords IsWritten IsNumber
 #[test]
 fn counts_are_one_or_cl(rt: HostRuntime) -> Result<(), Fail> {
     check(&rt, SHIFTS)
 }
 
-/// Definitions: dm_text words.Words AreWords IsWritten IsNumber
+/// Definitions: dm_decode words.Words AreWords IsWritten IsNumber
 #[test]
 fn operands_are_those_of_a_row(rt: HostRuntime) -> Result<(), Fail> {
     check(&rt, OPERANDS)
 }
 
-/// Definitions: dm_text words.Words AreWords IsWritten IsNumber
+/// Definitions: dm_decode words.Words AreWords IsWritten IsNumber
 #[test]
 fn labels_are_targets(rt: HostRuntime) -> Result<(), Fail> {
     check(&rt, LABELS)

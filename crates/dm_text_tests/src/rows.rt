@@ -8,9 +8,8 @@
 //! line with `#` is a comment.
 
 use crate::checks::same;
-use dm_decode::decode;
+use dm_decode::{Line, decode, text};
 use dm_ins::{Ins, Mnemonic};
-use dm_text::{Line, text};
 use std::process::Abort;
 use std::test::Fail;
 

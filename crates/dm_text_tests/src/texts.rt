@@ -245,64 +245,64 @@ const ALL: [&str; 9] = [
     PROGRAM, REGISTERS, ADDRESSES, SIZES, NUMBERS, TARGETS, PREFIXES, EXCHANGES, ALONE,
 ];
 
-/// Definitions: dm_text Texts text_of pieces; dm_lines Statements line_statement statement_of item_of
+/// Definitions: dm_decode Texts text_of pieces; dm_lines Statements line_statement statement_of item_of
 #[test]
 fn lines_of_a_program(rt: HostRuntime) -> Result<(), Fail> {
     check(&rt, PROGRAM)
 }
 
-/// Definitions: dm_text Texts operands_pieces second_pieces behind operand_pieces
-/// Definitions: dm_text Names name_of word_name byte_name segment_name
+/// Definitions: dm_decode Texts operands_pieces second_pieces behind operand_pieces
+/// Definitions: dm_decode Names name_of word_name byte_name segment_name
 #[test]
 fn registers_have_their_names(rt: HostRuntime) -> Result<(), Fail> {
     check(&rt, REGISTERS)
 }
 
-/// Definitions: dm_text Texts address_pieces base_pieces displacement_pieces
+/// Definitions: dm_decode Texts address_pieces base_pieces displacement_pieces
 #[test]
 fn addresses_have_bases_and_displacements(rt: HostRuntime) -> Result<(), Fail> {
     check(&rt, ADDRESSES)
 }
 
-/// Definitions: dm_text Texts memory_pieces size_pieces jump_pieces gives_size
+/// Definitions: dm_decode Texts memory_pieces size_pieces jump_pieces gives_size
 #[test]
 fn sizes_stand_where_no_register_gives_them(rt: HostRuntime) -> Result<(), Fail> {
     check(&rt, SIZES)
 }
 
-/// Definitions: dm_text Texts operands_pieces second_pieces behind operand_pieces
-/// Definitions: dm_text Pieces Piece text_bytes byte_in_text word_in_text digit
+/// Definitions: dm_decode Texts operands_pieces second_pieces behind operand_pieces
+/// Definitions: dm_decode Pieces Piece text_bytes byte_in_text word_in_text digit
 #[test]
 fn numbers_have_two_or_four_digits(rt: HostRuntime) -> Result<(), Fail> {
     check(&rt, NUMBERS)
 }
 
-/// Definitions: dm_text Texts operands_pieces second_pieces behind operand_pieces
+/// Definitions: dm_decode Texts operands_pieces second_pieces behind operand_pieces
 #[test]
 fn targets_are_offsets(rt: HostRuntime) -> Result<(), Fail> {
     check(&rt, TARGETS)
 }
 
-/// Definitions: dm_text Texts prefix_pieces segment_pieces lock_pieces repeat_pieces
+/// Definitions: dm_decode Texts prefix_pieces segment_pieces lock_pieces repeat_pieces
 #[test]
 fn kept_prefixes_have_words(rt: HostRuntime) -> Result<(), Fail> {
     check(&rt, PREFIXES)
 }
 
-/// Definitions: dm_text Texts action_pieces is_nop mnemonic_pieces
+/// Definitions: dm_decode Texts action_pieces is_nop mnemonic_pieces
 #[test]
 fn nop_is_an_exchange(rt: HostRuntime) -> Result<(), Fail> {
     check(&rt, EXCHANGES)
 }
 
-/// Definitions: dm_text Texts action_pieces is_nop mnemonic_pieces
+/// Definitions: dm_decode Texts action_pieces is_nop mnemonic_pieces
 #[test]
 fn instructions_with_no_operand(rt: HostRuntime) -> Result<(), Fail> {
     check(&rt, ALONE)
 }
 
-/// Definitions: dm_text Texts action_pieces is_nop mnemonic_pieces
-/// Definitions: dm_text Names name_of word_name byte_name segment_name; dm_exec Effect effect act
+/// Definitions: dm_decode Texts action_pieces is_nop mnemonic_pieces
+/// Definitions: dm_decode Names name_of word_name byte_name segment_name; dm_exec Effect effect act
 /// Definitions: dm_exec Operation operation_of
 #[test]
 fn each_mnemonic_has_a_row(rt: HostRuntime) -> Result<(), Fail> {

@@ -11,11 +11,11 @@
 //! its offset. A line with `#` is a comment.
 
 use crate::checks::same;
+use dm_decode::words::{Numeral, Size, Words, Written, read_words};
+use dm_decode::{byte_register_name, mnemonic_name, segment_register_name, word_register_name};
 use dm_ins::{
     Address, Base, ByteRegister, Ins, Mnemonic, Prefixes, SegmentRegister, WordRegister, encode,
 };
-use dm_text::words::{Numeral, Size, Words, Written, read_words};
-use dm_text::{byte_register_name, mnemonic_name, segment_register_name, word_register_name};
 use std::process::Abort;
 use std::test::Fail;
 

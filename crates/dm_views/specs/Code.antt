@@ -8,7 +8,7 @@ use Rattle.dm_space.specs.EightBytes.{byte_after, sixteen_after}
 use Rattle.dm_ins.specs.declared.ins.Ins.{Ins}
 use Rattle.dm_ins.specs.Ins.{BeginsWith}
 use Rattle.dm_cpu.specs.Guest.{up}
-use Rattle.dm_text.specs.Texts.{text_of}
+use Rattle.dm_decode.specs.Texts.{text_of}
 use Rattle.dm_views.specs.Digits.{two_digits, address_text}
 
 -- the line of an instruction: its address, its bytes and its text. `next` is the offset after it

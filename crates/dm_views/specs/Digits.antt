@@ -1,7 +1,7 @@
 -- Numbers in hexadecimal with a fixed count of digits, and addresses.
 -- Source: MS-DOS User's Reference, "DEBUG" (displays).
 use Rattle.std.specs.Prelude.{ℕ, zero, suc, ◌/◌, ◌%◌, List, [], ◌∷◌, ◌++◌, codes}
-use Rattle.dm_text.specs.Pieces.{digit}
+use Rattle.dm_decode.specs.Pieces.{digit}
 
 -- a byte as two hexadecimal digits
 unfoldable pub two_digits : ℕ → List ℕ

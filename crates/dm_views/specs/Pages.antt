@@ -4,7 +4,7 @@ use Rattle.std.specs.Prelude.{ℕ, List, [], ◌∷◌, ◌++◌, codes, Option,
 use Rattle.std.specs.List.{flat_map}
 use Rattle.std.specs.Option.{option_map_or}
 use Rattle.dm_space.specs.Memory.{Memory}
-use Rattle.dm_text.specs.Pieces.{digit}
+use Rattle.dm_decode.specs.Pieces.{digit}
 use Rattle.dm_ems.specs.declared.readers.Holding.{Holding}
 use Rattle.dm_ems.specs.Tables.{Tables}
 use Rattle.dm_ems.specs.Readers.{holding, page_shown}

@@ -3,15 +3,14 @@
 
 ghost use Rattle.std.specs.Prelude.{◌≡◌, ◌+◌, ◌%◌, ◌++◌, ◌≤◌, List, ℕ, length, take, OnOk, IfOk};
 ghost use Rattle.std.specs.List.{flat_map};
-ghost use Rattle.dm_text.specs.Texts.{text_of};
+ghost use Rattle.dm_decode.specs.Texts.{text_of};
 ghost use Rattle.dm_views.specs.Digits.{two_digits};
 ghost use Rattle.dm_views.specs.Code.{instruction_line, byte_line, IsLine, IsCode};
 
 use crate::digits::{byte_digits, put_address};
-use dm_decode::decode;
+use dm_decode::{Line, decode, text};
 use dm_ins::Ins;
 use dm_space::Space;
-use dm_text::{Line, text};
 use std::alloc::AllocError;
 
 /// Appends bytes, those of an instruction or of the name of an expanded memory handle, as pairs of hexadecimal digits

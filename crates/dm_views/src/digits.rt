@@ -1,7 +1,7 @@
 //! Numbers in hexadecimal, and addresses, as listings show them.
 
 ghost use Rattle.std.specs.Prelude.{◌≡◌, ◌<◌, ◌++◌, OnOk};
-ghost use Rattle.dm_text.specs.Pieces.{digit};
+ghost use Rattle.dm_decode.specs.Pieces.{digit};
 ghost use Rattle.dm_views.specs.Digits.{two_digits, four_digits, eight_digits, address_text};
 
 use std::alloc::AllocError;

@@ -40,7 +40,7 @@ fn put_block(out: &mut Vec<u8>, xms: &Xms, space: &Space, before: u16) -> Result
 {
     let number = before + 1;
     match xms.handle(number) {
-        Some(slot) => put_block_line(out, number, slot.base(space), slot.kib, slot.locks),
+        Some(slot) => put_block_line(out, number, slot.begin_address(space), slot.kib, slot.locks),
         None => Ok(()),
     }
 }
@@ -85,7 +85,7 @@ pub fn put_extended(out: &mut Vec<u8>, xms: &Xms, space: &Space) -> Result<(), A
         put_block(out, xms, space, before)?;
     }
     for number in 0..MOST {
-        put_upper(out, xms.upper(number as usize))?;
+        put_upper(out, xms.upper_block(number as usize))?;
     }
     put_switches(out, space.a20(), xms.hma())
 }

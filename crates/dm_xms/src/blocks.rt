@@ -51,7 +51,7 @@ fn address(space: &Space, block: Block) -> usize
 
 impl Handle {
     /// The linear address of the first byte of the handle's block; 110000h for a block of 0 KiB.
-    pub fn base(&self, space: &Space) -> usize
+    pub fn begin_address(&self, space: &Space) -> usize
         ensures { result ≡ begin_address space.now.memory self.now.block }
     {
         address(space, self.block)
@@ -144,7 +144,7 @@ impl Xms {
         }
         let locks = slot.locks + 1;
         self.set_handle(handle, Some(Handle { locks, ..slot }));
-        Ok(slot.base(space))
+        Ok(slot.begin_address(space))
     }
 
     /// 0Dh: removes one lock from the block of a handle.

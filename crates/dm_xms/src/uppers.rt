@@ -135,7 +135,7 @@ impl Xms {
     }
 
     /// The upper memory block at index `at`, where 0 is the lowest block; None where there are not so many.
-    pub fn upper(&self, at: usize) -> Option<Upper>
+    pub fn upper_block(&self, at: usize) -> Option<Upper>
         ensures { result ≡ slice_get self.now.uppers at }
     {
         self.uppers.as_slice().get(at).copied()

@@ -3,7 +3,7 @@
 use Rattle.std.specs.Prelude.{◌≡◌, ℕ, ◌≤◌, Bool, true, false, List, [], ◌∷◌, ◌++◌, length, Option, Some, None, is_none}
 use Rattle.dm_ins.specs.declared.operand.Operand.{Operand}
 use Rattle.dm_ins.specs.declared.operand.Operand.TheVariants as operand
-use Rattle.dm_text.specs.declared.words.written.Words.{Words}
+use Rattle.dm_decode.specs.declared.words.written.Words.{Words}
 use Rattle.dm_lines.specs.declared.term.Term.{Term}
 use Rattle.dm_lines.specs.declared.term.Term.TheVariants as term
 use Rattle.dm_lines.specs.declared.statement.Instruction.{Instruction}

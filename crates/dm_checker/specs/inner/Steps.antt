@@ -21,7 +21,8 @@ use Rattle.dm_checker.specs.Findings.{Finds, FindsTouched}
 use Rattle.dm_checker.specs.Origins.{IsKnownAfter}
 use Rattle.dm_checker.specs.Checks.{FindsAt, FindsAtStop, reported}
 use Rattle.dm_checker.specs.Processes.{KnowsAtStop}
-use Rattle.dm_checker.specs.Watching.{IsWatch, shown_of}
+use Rattle.dm_checker.specs.Watching.{IsWatch}
+use Rattle.dm_checker.specs.inner.Watching.{shown_of}
 
 -- b is what the checker keeps of the state s before a step: the registers, A20, the present process, the call, where in
 -- its code the program performs it, and the bytes at CS:IP

@@ -33,8 +33,8 @@ reads_as m address [] = true
 reads_as m address (b ∷ bs) = if byte_at m address == b then reads_as m (address + 1) bs else false
 
 -- the linear address of CS:IP: without bit 20 while A20 is off
-abbrev pub place_of : State → ℕ
-place_of s = linear s.memory.a20 s.cpu.cs s.cpu.ip
+abbrev pub code_address : State → ℕ
+code_address s = linear s.memory.a20 s.cpu.cs s.cpu.ip
 
 -- ---- events
 
@@ -51,7 +51,7 @@ bytes_for m _ = []
 -- whether an event has come in the state s, if these were the bytes of its range before
 abbrev pub comes : State → Event → List ℕ → Bool
 comes s (At p) before = p.offset == s.cpu.ip && p.segment == s.cpu.cs
-comes s (Address a) before = a == place_of s
+comes s (Address a) before = a == code_address s
 comes s (Change r) before = not (reads_as s.memory r.address before)
 comes s (Call n) before = calls s n
 comes s (Function n ah) before = calls s n && s.cpu.ax / 256 == ah

@@ -4,7 +4,7 @@ ghost use Rattle.std.specs.Prelude.{◌≡◌, IfOk, map};
 ghost use Rattle.dm_debug.specs.stops.Events.{bytes_for, calls, comes, first_from};
 ghost use Rattle.dm_debug.specs.stops.inner.Watching.{watch_of};
 
-use crate::stops::memory::{place_of, range_bytes, range_reads_as};
+use crate::stops::memory::{code_address, range_bytes, range_reads_as};
 use dm_machine::{Breakpoint, Machine};
 use dm_space::Space;
 use std::alloc::{AllocError, Global};
@@ -90,7 +90,7 @@ impl Watch {
                 let cpu = machine.cpu();
                 point.offset == cpu.ip && point.segment == cpu.cs
             }
-            Event::Address(address) => *address == place_of(machine),
+            Event::Address(address) => *address == code_address(machine),
             Event::Change(range) => !range_reads_as(machine.space(), range, self.before.as_slice()),
             Event::Call(number) => calls(machine, *number),
             Event::Function(number, ah) => {

@@ -1,7 +1,7 @@
 //! Memory by linear addresses (Intel 8086 Family User's Manual, "Memory": segment * 16 + offset).
 
 ghost use Rattle.std.specs.Prelude.{◌≡◌, ◌+◌, ◌≤◌, ◌<◌, IfOk, length};
-ghost use Rattle.dm_debug.specs.stops.Events.{segment_below, byte_at, bytes_there, range_bytes, reads_as, place_of};
+ghost use Rattle.dm_debug.specs.stops.Events.{segment_below, byte_at, bytes_there, range_bytes, reads_as, code_address};
 
 use crate::stops::events::Range;
 use dm_machine::Machine;
@@ -28,8 +28,8 @@ fn byte_at(space: &Space, address: u32) -> u8
 }
 
 /// The linear address of CS:IP: without bit 20 while A20 is off.
-pub(crate) fn place_of(machine: &Machine) -> u32
-    ensures { result ≡ place_of machine.now }
+pub(crate) fn code_address(machine: &Machine) -> u32
+    ensures { result ≡ code_address machine.now }
 {
     let cpu = machine.cpu();
     let linear = cpu.cs as u32 * 16 + cpu.ip as u32;

@@ -60,7 +60,7 @@ fn name_of(space: &Space, prefix: u16) -> [u8; 64]
 
 impl Process {
     /// The process with this prefix, which this step started, by its prefix and environment as they are after it.
-    pub fn at(space: &Space, prefix: u16, step: u64) -> Process
+    pub fn of(space: &Space, prefix: u16, step: u64) -> Process
         ensures { result ≡ process_at space.now.memory prefix step }
     {
         Process {

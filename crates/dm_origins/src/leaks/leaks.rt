@@ -109,7 +109,7 @@ fn put_upper(
 ) -> Result<(), AllocError>
     ensures { OnOk result (out.new.items ≡ out.old.items ++ upper_kept resident xms.now number) }
 {
-    match xms.upper(number as usize) {
+    match xms.upper_block(number as usize) {
         Some(upper) => put(out, resident, Kept::Upper(upper.segment)),
         None => Ok(()),
     }

@@ -7,13 +7,13 @@ use Rattle.dm_machine.specs.Run.{IsRun}
 use Rattle.dm_history.specs.Becomes.{BecomesBy}
 use Rattle.dm_history.specs.Pasts.{Past, Was}
 use Rattle.dm_target.specs.declared.returning.Found.{Found}
-use Rattle.dm_target.specs.Going.{is_among, place_of}
+use Rattle.dm_target.specs.Going.{is_among, code_address}
 use Rattle.dm_target.specs.Watching.{Hits}
 use Rattle.dm_target.specs.Returning.{IsNoHit, AreClear}
 
 -- s is a hit
 pub data IsMet (points : List ℕ) (watches : List Point) (s : State) : Type 0 where
-  stands : is_among points (place_of s) ≡ true → IsMet points watches s
+  stands : is_among points (code_address s) ≡ true → IsMet points watches s
   hits : (point : Point) (t : State) → IsRun s 1 AllSteps t → Hits watches s t (Some point) → IsMet points watches s
 
 -- of the states to which steps lead from o, none from one count of steps up to another is a hit
@@ -34,14 +34,14 @@ pub data Seen (points : List ℕ) (watches : List Point) (o : State) : Option �
 
 -- m is the last hit if it stands at a breakpoint; otherwise the last hit was before it
 pub data Stands (points : List ℕ) (watches : List Point) (o m : State) : Option ℕ → Type 0 where
-  here : is_among points (place_of m) ≡ true → Stands points watches o m (Some m.steps)
-  before : (last : Option ℕ) → is_among points (place_of m) ≡ false → Seen points watches o last m.steps → Stands points watches o m last
+  here : is_among points (code_address m) ≡ true → Stands points watches o m (Some m.steps)
+  before : (last : Option ℕ) → is_among points (code_address m) ≡ false → Seen points watches o last m.steps → Stands points watches o m last
 
 -- the last hit with m among those that were looked at, if m is before `end`; before it, the last one was this
 pub data IsStand (points : List ℕ) (m : State) (end : ℕ) (last : Option ℕ) : Option ℕ → Bool → Type 0 where
   over : end ≤ m.steps → IsStand points m end last last true
-  here : m.steps < end → is_among points (place_of m) ≡ true → IsStand points m end last (Some m.steps) false
-  before : m.steps < end → is_among points (place_of m) ≡ false → IsStand points m end last last false
+  here : m.steps < end → is_among points (code_address m) ≡ true → IsStand points m end last (Some m.steps) false
+  before : m.steps < end → is_among points (code_address m) ≡ false → IsStand points m end last last false
 
 -- what looking further has shown, which led to t: the last hit before `end`, if all was looked at; otherwise the last
 -- one before or at t, and there is one

@@ -25,9 +25,9 @@ use Rattle.dm_views.specs.inventory.Details.{details_of}
 
 -- the kind of a finding, as a number: its place among the kinds, where what a resident program holds counts as left
 -- allocated. C has these numbers (`mezguld_finding_kind`), `dm check --json` a word for each
-abbrev pub kind_of : Finding → ℕ
-kind_of (Held k) = left_kind k
-kind_of f = findings.kind_of f
+abbrev pub kind_number : Finding → ℕ
+kind_number (Held k) = left_kind k
+kind_number f = findings.kind_of f
 
 -- ---- what was performed, and where
 
@@ -48,14 +48,14 @@ act_of (act.Instruction ins next) = record { how = 0; interrupt = 0; function = 
 act_of (act.Call call) = call_record call
 
 -- a place in the code of a program, and whether the instruction that was performed ends there
-abbrev pub place_record : Site → CodePlace
-place_record (At segment offset) = record { cs = segment; ip = offset; before = 0 }
-place_record (Before segment offset) = record { cs = segment; ip = offset; before = 1 }
+abbrev pub site_record : Site → CodePlace
+site_record (At segment offset) = record { cs = segment; ip = offset; before = 0 }
+site_record (Before segment offset) = record { cs = segment; ip = offset; before = 1 }
 
 -- where something was allocated or freed; zeros where that is not known
-abbrev pub origin_place : Option Origin → CodePlace
-origin_place None = record { cs = 0; ip = 0; before = 0 }
-origin_place (Some o) = place_record o.site
+abbrev pub origin_site : Option Origin → CodePlace
+origin_site None = record { cs = 0; ip = 0; before = 0 }
+origin_site (Some o) = site_record o.site
 
 -- the step in which something was allocated or freed; 0 where that is not known
 abbrev pub origin_step : Option Origin → ℕ
@@ -71,10 +71,10 @@ record_of f = record {
   more = f.more;
   last = f.last;
   origin_step = origin_step f.found.origin;
-  kind = kind_of f.found.finding;
+  kind = kind_number f.found.finding;
   is_error = truth_number (is_error f.found.finding);
-  at = place_record f.found.site;
-  origin_at = origin_place f.found.origin;
+  at = site_record f.found.site;
+  origin_at = origin_site f.found.origin;
   act = act_of f.found.act;
   process = f.found.process;
   details = details_of f.found.finding;

@@ -44,7 +44,7 @@ fn put_block(
         return Ok(());
     };
     out.push(ExtendedBlock {
-        address: slot.base(space) as u64,
+        address: slot.begin_address(space) as u64,
         locks: slot.locks as u32,
         handle,
         kib: slot.kib,
@@ -93,7 +93,7 @@ pub fn list_uppers(out: &mut Vec<UpperBlock>, xms: &Xms) -> Result<(), AllocErro
     ensures { OnOk result (out.new.items ≡ out.old.items ++ upper_rows xms.now) }
 {
     for number in 0..MOST {
-        put_upper(out, xms.upper(number as usize))?;
+        put_upper(out, xms.upper_block(number as usize))?;
     }
     Ok(())
 }

@@ -1,7 +1,7 @@
 //! The findings of a checked run as records.
 ghost use Rattle.std.specs.Prelude.{◌≡◌, ◌++◌, map, OnOk};
 ghost use Rattle.dm_findings.specs.Repeats.{left_kind};
-ghost use Rattle.dm_views.specs.inventory.Findings.{kind_of, call_record, act_of, place_record, origin_place, origin_step, record_of};
+ghost use Rattle.dm_views.specs.inventory.Findings.{kind_number, call_record, act_of, site_record, origin_site, origin_step, record_of};
 
 use crate::inventory::details::{Details, details_of};
 use crate::inventory::pages::number_of;
@@ -70,30 +70,12 @@ fn kept_kind(kept: &Kept) -> u32
 }
 
 /// The kind of a finding.
-fn kind_of(finding: &Finding) -> u32
-    ensures { result ≡ kind_of finding.now }
+fn kind_number(finding: &Finding) -> u32
+    ensures { result ≡ kind_number finding.now }
 {
     match finding {
-        Finding::Overwritten(_, _, _) => 0,
-        Finding::MappedAway(_) => 1,
-        Finding::Destroyed(_) => 2,
-        Finding::Whole => 3,
-        Finding::FreedTwice(_) => 4,
-        Finding::Refused(_) => 5,
-        Finding::NotAllocated(_) => 6,
-        Finding::DivisionError => 7,
-        Finding::Short(_, _) => 8,
-        Finding::NotServed => 9,
-        Finding::FreeRead(_, _, _) => 10,
-        Finding::FreeWritten(_, _, _) => 11,
-        Finding::StackFreed(_) => 12,
-        Finding::WindowLost(_, _, _) => 13,
-        Finding::RomWritten(_, _) => 14,
-        Finding::NothingWritten(_, _) => 15,
-        Finding::TailWritten(_, _) => 16,
-        Finding::OtherFreed(_, _) => 17,
-        Finding::NotResized(_) => 18,
-        Finding::Left(kept) | Finding::Held(kept) => kept_kind(kept),
+        Finding::Held(kept) => kept_kind(kept),
+        _ => dm_findings::kind_of(finding) as u32,
     }
 }
 
@@ -157,8 +139,8 @@ fn act_of(act: &dm_findings::Act) -> Act
 }
 
 /// A place in the code of a program.
-fn place_of(site: Site) -> CodePlace
-    ensures { result ≡ place_record site }
+fn site_record(site: Site) -> CodePlace
+    ensures { result ≡ site_record site }
 {
     match site {
         Site::At(cs, ip) => CodePlace { cs, ip, before: 0 },
@@ -167,11 +149,11 @@ fn place_of(site: Site) -> CodePlace
 }
 
 /// Where something was allocated or freed; zeros where that is not known.
-fn origin_place(origin: Option<Origin>) -> CodePlace
-    ensures { result ≡ origin_place origin }
+fn origin_site(origin: Option<Origin>) -> CodePlace
+    ensures { result ≡ origin_site origin }
 {
     match origin {
-        Some(origin) => place_of(origin.site),
+        Some(origin) => site_record(origin.site),
         None => CodePlace {
             cs: 0,
             ip: 0,
@@ -200,10 +182,10 @@ fn record_of(listed: &Listed) -> FoundRecord
         more: listed.more,
         last: listed.last,
         origin_step: origin_step(found.origin),
-        kind: kind_of(&found.finding),
+        kind: kind_number(&found.finding),
         is_error: number_of(found.finding.is_error()) as u32,
-        at: place_of(found.site),
-        origin_at: origin_place(found.origin),
+        at: site_record(found.site),
+        origin_at: origin_site(found.origin),
         act: act_of(&found.act),
         process: found.process,
         details: details_of(&found.finding),

@@ -1,6 +1,6 @@
 use Rattle.std.proofs.Common.{ap, sym, subst}
-use Rattle.dm_text.specs.declared.words.written.Words.{Words}
-use Rattle.dm_text.specs.words.Words.{AreWords}
+use Rattle.dm_decode.specs.declared.words.written.Words.{Words}
+use Rattle.dm_decode.specs.words.Words.{AreWords}
 use Rattle.std.specs.Prelude.{Some}
 use Rattle.dm_asm.specs.Codes.{HasShape}
 use Rattle.dm_asm.proofs.Chosen.{shape_once}

@@ -1,6 +1,6 @@
 use Rattle.std.proofs.Common.{refl, sym, ap, ◌∙◌}
 use Rattle.dm_c.specs.Handles.{occupied, no_memory}
-use Rattle.dm_host_calls.specs.Statuses.{status_of}
+use Rattle.dm_c.specs.calls.Statuses.{status_of}
 use Rattle.dm_c.proofs.Insides.{of_some}
 use Rattle.dm_c.proofs.Taken.{none_held}
 use Rattle.dm_c.proofs.copies.copy.Goals as goal

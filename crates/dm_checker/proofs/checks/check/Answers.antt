@@ -8,7 +8,7 @@ use Rattle.dm_checker.proofs.Underway.{part_none}
 use Rattle.dm_checker.proofs.checks.check.Goals as goal
 
 pub returns-in_err-run-clause-err : goal.returns-in_err-run-clause-err
-returns-in_err-run-clause-err c = at_err c.from_residual.result (part_none c.args.machine.now c.begin.new.machine c.args.n c.begin.ensures.same)
+returns-in_err-run-clause-err c = at_err c.from_residual.result (part_none c.args.machine.now c.new.new.machine c.args.n c.new.ensures.same)
 
 pub returns-in_err-stop-clause-err : goal.returns-in_err-stop-clause-err
 returns-in_err-stop-clause-err c = at_err c.from_residual-in_err-stop.result (c.in_err-stop.ensures.err c.args.machine.now c.args.n c.in_ok-run.ensures.begins)

@@ -1,7 +1,7 @@
 use Rattle.std.proofs.Common.{ℕ, ◌≤◌}
 use Rattle.std.specs.List.{AllWithin}
 use Rattle.dm_checker.specs.declared.watch.Watched.{Watched}
-use Rattle.dm_checker.specs.Marking.{Keeps, HasFree}
+use Rattle.dm_checker.specs.inner.Marking.{Keeps, HasFree}
 use Rattle.dm_checker.proofs.marking.mark_free.Given as goal
 
 abbrev pub invariant-loop-watched : goal.invariant-loop-watched

@@ -1,5 +1,5 @@
 use Rattle.std.specs.List.{AllWithin}
-use Rattle.dm_checker.specs.Marking.{Keeps, HasHeader}
+use Rattle.dm_checker.specs.inner.Marking.{Keeps, HasHeader}
 use Rattle.dm_checker.proofs.marking.mark_headers.Given as goal
 
 abbrev pub invariant-loop-watched : goal.invariant-loop-watched

@@ -1,5 +1,5 @@
 use Rattle.std.proofs.Common.{Bool, arith, subst}
-use Rattle.dm_checker.specs.Marking.{Keeps, HasMap}
+use Rattle.dm_checker.specs.inner.Marking.{Keeps, HasMap}
 use Rattle.dm_checker.proofs.Levels.{map_kept, headers_kept, all_marked}
 use Rattle.dm_checker.proofs.marking.marks_of.Goals as goal
 

@@ -1,6 +1,6 @@
 use Rattle.std.proofs.Common.{ℕ, ap, sym, refl, arith}
 use Rattle.std.proofs.lemmas.Bool.{ne_eqb}
-use Rattle.dm_text.specs.Names.{name_of}
+use Rattle.dm_decode.specs.Names.{name_of}
 use Rattle.dm_lines.specs.inner.Words.{all_words, those}
 use Rattle.dm_lines.specs.inner.Words.{begins}
 use Rattle.dm_lines.proofs.Reserved.{none_begin}

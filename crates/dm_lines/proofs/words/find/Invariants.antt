@@ -1,5 +1,5 @@
 use Rattle.std.proofs.Common.{◌≡◌, drop}
-use Rattle.dm_text.specs.Names.{named}
+use Rattle.dm_decode.specs.Names.{named}
 use Rattle.dm_lines.specs.inner.Words.{spelling_of}
 use Rattle.dm_lines.proofs.words.find.Given as goal
 

@@ -28,7 +28,7 @@ use Rattle.std.proofs.raw_atomic.Walks.{proved_at, leaves}
 use Rattle.std_alloc.specs.Box.Ownership.{box_owns}
 use Rattle.dm_c.proofs.Looses.{al, both, loose_good, loose_in}
 use Rattle.dm_c.proofs.Insides.{single, inside_out, of_some}
-use Rattle.dm_c.specs.Held.{held}
+use Rattle.dm_c.specs.inner.Held.{held}
 use Rattle.dm_host.specs.Hosts.{Hosted}
 use Rattle.dm_host.specs.contracts.host.Host.{the_row}
 use Rattle.dm_c.specs.contracts.inside.Inside as inside

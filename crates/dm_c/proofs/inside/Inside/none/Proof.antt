@@ -15,7 +15,7 @@ use denote.Triple.Walked.{Stays, walk_of}
 use Rattle.std.specs.Prelude.{None}
 use Rattle.std.proofs.raw_atomic.Walks.{proved_at, leaves}
 use Rattle.dm_c.proofs.Insides.{single, inside_in}
-use Rattle.dm_c.specs.Held.{held}
+use Rattle.dm_c.specs.inner.Held.{held}
 use Rattle.dm_c.specs.contracts.inside.Inside.none.{ended, clauses}
 use Rattle.dm_c.specs.contracts.inside.Inside.none.Key.{name as #self}
 use Rattle.dm_c.proofs.inside.Inside.none.Statement.{statement}

@@ -23,7 +23,7 @@ use Rattle.std.specs.contracts.impls.GlobalAllocator.TheImpl.{ghosts}
 use Rattle.std.proofs.raw_atomic.Walks.{proved_at, leaves}
 use Rattle.dm_c.proofs.Looses.{both, Loose, loose_good, loose_out}
 use Rattle.dm_c.proofs.Insides.{single, inside_in}
-use Rattle.dm_c.specs.Held.{held}
+use Rattle.dm_c.specs.inner.Held.{held}
 use Rattle.dm_host.specs.contracts.host.Host.{the_row}
 use Rattle.dm_c.specs.contracts.inside.Inside.of.{ended, clauses}
 use Rattle.dm_c.specs.contracts.inside.Inside.of.Key.{name as #self}

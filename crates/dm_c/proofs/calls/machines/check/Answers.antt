@@ -1,0 +1,6 @@
+use Rattle.std.proofs.Common.{refl}
+use Rattle.dm_c.specs.calls.Calls.{refused}
+use Rattle.dm_c.proofs.calls.machines.check.Goals as goal
+
+pub returns-in-Err : goal.returns-in-Err
+returns-in-Err c = refused c.in-Err.refusal c.status_of.ensures (c.in-Err.ensures.err, refl, refl)

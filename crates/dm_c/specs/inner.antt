@@ -1,0 +1,2 @@
+-- Definitions that private contracts and proofs alone name.
+pub mod Held

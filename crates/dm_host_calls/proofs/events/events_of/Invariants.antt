@@ -1,7 +1,0 @@
-use Rattle.std.proofs.Common.{◌≡◌, take, map}
-use Rattle.dm_host_calls.specs.Events.{event_of}
-use Rattle.dm_host_calls.proofs.events.events_of.Given as goal
-
--- the events that the first of them are
-abbrev pub invariant-loop-event : goal.invariant-loop-event
-invariant-loop-event l = l.wanted.items ≡ map event_of (take l.event-index l.events)

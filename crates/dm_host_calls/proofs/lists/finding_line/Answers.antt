@@ -1,9 +1,0 @@
-use Rattle.std.proofs.Common.{refl}
-use Rattle.dm_host_calls.specs.Lists.{told, refused}
-use Rattle.dm_host_calls.proofs.lists.finding_line.Goals as goal
-
-pub returns-in-Ok : goal.returns-in-Ok
-returns-in-Ok c = told c.in-Ok.text.items c.in-Ok.ensures.ok (rw c.as_slice.ensures.value at c.give.ensures) refl
-
-pub returns-in-Err : goal.returns-in-Err
-returns-in-Err c = refused c.in-Err.refusal c.in-Err.ensures.err c.status_of.ensures refl refl refl

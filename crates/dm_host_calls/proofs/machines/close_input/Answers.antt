@@ -1,5 +1,0 @@
-use Rattle.dm_host_calls.specs.Calls.{refused}
-use Rattle.dm_host_calls.proofs.machines.close_input.Goals as goal
-
-pub returns-in-Err : goal.returns-in-Err
-returns-in-Err c = refused c.in-Err.refusal c.status_of.ensures c.in-Err.ensures.err

@@ -1,6 +1,0 @@
-use Rattle.std.proofs.Common.{refl}
-use Rattle.dm_host_calls.specs.Calls.{refused}
-use Rattle.dm_host_calls.proofs.machines.command.Goals as goal
-
-pub returns-in-Err : goal.returns-in-Err
-returns-in-Err c = refused c.in-Err.refusal c.status_of.ensures (c.in-Err.ensures.err, refl)

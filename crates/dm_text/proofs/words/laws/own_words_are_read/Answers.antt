@@ -1,6 +1,0 @@
-use Rattle.dm_text.proofs.words.Own.{own_words_are_read}
-use Rattle.dm_text.proofs.words.Sizes.{sizes_are_shown}
-use Rattle.dm_text.proofs.words.laws.own_words_are_read.Goals as goal
-
-pub returns : goal.returns
-returns c = record { own = own_words_are_read; sizes = sizes_are_shown }
