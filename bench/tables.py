@@ -52,7 +52,7 @@ def text_of(path):
 
 def mnemonics():
     """The names of all mnemonics, from the crate that prints them."""
-    return re.findall(r'Mnemonic::\w+ => b"([A-Z0-9 ]+)"', text_of("crates/dm_text/src/names.rt"))
+    return re.findall(r'Mnemonic::\w+ => b"([A-Z0-9 ]+)"', text_of("crates/dm_decode/src/names.rt"))
 
 
 def figures():

@@ -49,14 +49,14 @@ impl Model for Pair {
 
 impl Pair {
     /// The segment of the first block, the environment's.
-    pub fn environment(&self) -> u16
+    pub fn environment_block(&self) -> u16
         ensures { result ≡ self.now.environment }
     {
         self.environment
     }
 
     /// The segment of the second block, the program's own, which owns both.
-    pub fn program(&self) -> u16
+    pub fn program_block(&self) -> u16
         ensures { result ≡ self.now.program }
     {
         self.program

@@ -15,7 +15,7 @@ pub(crate) fn copy(alloc: Global, host: &Host, copy: &mut MachineHandle) -> u32
     if copy.is_held() {
         return IN_USE;
     }
-    let host = match host.copy(alloc) {
+    let host = match host.duplicate(alloc) {
         Ok(host) => host,
         Err(refusal) => return status_of(refusal),
     };

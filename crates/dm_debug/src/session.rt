@@ -69,10 +69,10 @@ impl Session {
     /// # Errors
     ///
     /// `AllocError` if an allocation fails.
-    pub fn copy(&self, alloc: Global) -> Result<Session, AllocError>
+    pub fn duplicate(&self, alloc: Global) -> Result<Session, AllocError>
         ensures { IfOk result (λ session. session ≡ self.now) }
     {
-        let machine = self.machine.copy(alloc)?;
+        let machine = self.machine.duplicate(alloc)?;
         let points = self.points.duplicate();
         Ok(Session { machine, points })
     }

@@ -20,7 +20,7 @@ use Rattle.dm_ins.specs.declared.action.Action.{Action}
 use Rattle.dm_ins.specs.declared.prefix.Repeat.{Repeat}
 use Rattle.dm_ins.specs.declared.prefix.Repeat.TheVariants.{NotEqual, Equal}
 use Rattle.dm_decode.specs.Names.{name_of, byte_name, word_name, segment_name}
-use Rattle.dm_decode.specs.Pieces.{Piece, name, word, space, plus, comma, left_bracket, right_bracket, parted}
+use Rattle.dm_decode.specs.Pieces.{Piece, name, word, space_sign, plus, comma, left_bracket, right_bracket, parted}
 use Rattle.dm_decode.specs.Texts.{displacement_pieces, address_pieces, gives_size, jump_pieces, size_pieces, memory_pieces, operand_pieces, behind, second_pieces, operands_pieces, mnemonic_pieces, is_nop, action_pieces, segment_pieces, lock_pieces, repeat_pieces, pieces, width_word}
 use Rattle.dm_decode.specs.Laws.{TextsAreParted}
 
@@ -56,7 +56,7 @@ jump_first Call s qs h k = k
 jump_first Jmp s qs h k = k
 jump_first _ s qs h k = h
 
-width_first : (g : Bool) (w : Width) (qs : List Piece) → parted false qs ≡ true → parted false ((if g then [] else name (width_word w) ∷ space ∷ []) ++ qs) ≡ true
+width_first : (g : Bool) (w : Width) (qs : List Piece) → parted false qs ≡ true → parted false ((if g then [] else name (width_word w) ∷ space_sign ∷ []) ++ qs) ≡ true
 width_first true w qs h = h
 width_first false Byte qs h = h
 width_first false Word qs h = h
@@ -90,7 +90,7 @@ second_last a next operand.Nothing false = refl
 second_last a next o true = operand_last a next o
 second_last a next o false = operand_last a next o
 
-operands_last : (a : Action) (next : ℕ) (o : Operand) → parted true (behind space o (operand_pieces a next o ++ second_pieces a next)) ≡ true
+operands_last : (a : Action) (next : ℕ) (o : Operand) → parted true (behind space_sign o (operand_pieces a next o ++ second_pieces a next)) ≡ true
 operands_last a next operand.Nothing = refl
 operands_last a next o = operand_first a next o (second_pieces a next) (second_last a next a.second true) (second_last a next a.second false)
 
@@ -111,7 +111,7 @@ action_last a next = by (is_nop a)
 
 override_first : (s : Option SegmentRegister) (qs : List Piece) → parted false qs ≡ true → parted false (segment_pieces s ++ qs) ≡ true
 override_first None qs h = h
-override_first (Some r) qs h = segment_first r (space ∷ qs) h
+override_first (Some r) qs h = segment_first r (space_sign ∷ qs) h
 
 lock_first : (l : Bool) (qs : List Piece) → parted false qs ≡ true → parted false (lock_pieces l ++ qs) ≡ true
 lock_first true qs h = h

@@ -39,8 +39,8 @@ text_bytes (p ∷ ps) = piece_bytes p ++ text_bytes ps
 -- ---- the signs
 
 -- the space after a word of a mnemonic, a prefix word or a size word
-abbrev pub space : Piece
-space = sign 32
+abbrev pub space_sign : Piece
+space_sign = sign 32
 
 -- the + between the parts of an address
 abbrev pub plus : Piece

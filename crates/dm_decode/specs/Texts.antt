@@ -21,7 +21,7 @@ use Rattle.dm_ins.specs.declared.prefix.Prefixes.{Prefixes}
 use Rattle.dm_ins.specs.declared.action.Action.{Action}
 use Rattle.dm_ins.specs.declared.ins.Ins.{Ins}
 use Rattle.dm_decode.specs.Names.{name_of, byte_name, word_name, segment_name}
-use Rattle.dm_decode.specs.Pieces.{Piece, name, byte, word, space, plus, comma, colon, left_bracket, right_bracket, text_bytes}
+use Rattle.dm_decode.specs.Pieces.{Piece, name, byte, word, space_sign, plus, comma, colon, left_bracket, right_bracket, text_bytes}
 
 -- ---- memory
 
@@ -82,14 +82,14 @@ width_word Word = codes "WORD"
 abbrev pub jump_pieces : Mnemonic → List Piece → List Piece
 jump_pieces op.CallFar s = []
 jump_pieces op.JmpFar s = []
-jump_pieces op.Call s = name (codes "NEAR") ∷ space ∷ []
-jump_pieces op.Jmp s = name (codes "NEAR") ∷ space ∷ []
+jump_pieces op.Call s = name (codes "NEAR") ∷ space_sign ∷ []
+jump_pieces op.Jmp s = name (codes "NEAR") ∷ space_sign ∷ []
 jump_pieces m s = s
 
 -- the word before a memory operand with a space after it: BYTE or WORD where no general register gives the size, NEAR
 -- for jumps and calls
 abbrev pub size_pieces : Action → Width → List Piece
-size_pieces a w = jump_pieces a.mnemonic (if gives_size a then [] else name (width_word w) ∷ space ∷ [])
+size_pieces a w = jump_pieces a.mnemonic (if gives_size a then [] else name (width_word w) ∷ space_sign ∷ [])
 
 -- a memory operand: its size word, and its address in brackets
 abbrev pub memory_pieces : Action → Width → Address → List Piece
@@ -122,15 +122,15 @@ second_pieces a next = behind comma a.second (operand_pieces a next a.second)
 
 -- both operands of an action: the first after a space, the second after a comma; nothing without a first operand
 abbrev pub operands_pieces : Action → ℕ → List Piece
-operands_pieces a next = behind space a.first (operand_pieces a next a.first ++ second_pieces a next)
+operands_pieces a next = behind space_sign a.first (operand_pieces a next a.first ++ second_pieces a next)
 
 -- ---- actions
 
 -- the one or two words of a mnemonic
 abbrev pub mnemonic_pieces : Mnemonic → List Piece
-mnemonic_pieces op.CallFar = name (name_of op.Call) ∷ space ∷ name (codes "FAR") ∷ []
-mnemonic_pieces op.JmpFar = name (name_of op.Jmp) ∷ space ∷ name (codes "FAR") ∷ []
-mnemonic_pieces op.JmpShort = name (name_of op.Jmp) ∷ space ∷ name (codes "SHORT") ∷ []
+mnemonic_pieces op.CallFar = name (name_of op.Call) ∷ space_sign ∷ name (codes "FAR") ∷ []
+mnemonic_pieces op.JmpFar = name (name_of op.Jmp) ∷ space_sign ∷ name (codes "FAR") ∷ []
+mnemonic_pieces op.JmpShort = name (name_of op.Jmp) ∷ space_sign ∷ name (codes "SHORT") ∷ []
 mnemonic_pieces m = name (name_of m) ∷ []
 
 -- the operand is AX
@@ -150,17 +150,17 @@ action_pieces a next = if is_nop a then name (codes "NOP") ∷ [] else mnemonic_
 -- the name of the register of a segment override prefix, if there is one
 abbrev pub segment_pieces : Option SegmentRegister → List Piece
 segment_pieces None = []
-segment_pieces (Some r) = name (segment_name r) ∷ space ∷ []
+segment_pieces (Some r) = name (segment_name r) ∷ space_sign ∷ []
 
 -- the word LOCK, if there is that prefix
 abbrev pub lock_pieces : Bool → List Piece
-lock_pieces l = if l then name (codes "LOCK") ∷ space ∷ [] else []
+lock_pieces l = if l then name (codes "LOCK") ∷ space_sign ∷ [] else []
 
 -- the word of a repeat prefix, if there is one: F3h is written REP, F2h REPNE
 abbrev pub repeat_pieces : Option Repeat → List Piece
 repeat_pieces None = []
-repeat_pieces (Some NotEqual) = name (codes "REPNE") ∷ space ∷ []
-repeat_pieces (Some Equal) = name (codes "REP") ∷ space ∷ []
+repeat_pieces (Some NotEqual) = name (codes "REPNE") ∷ space_sign ∷ []
+repeat_pieces (Some Equal) = name (codes "REP") ∷ space_sign ∷ []
 
 -- the words of the prefixes of an instruction, always in this order
 abbrev pub prefix_pieces : Prefixes → List Piece

@@ -15,7 +15,8 @@ use Rattle.dm_ems.specs.declared.status.Status.{Status}
 use Rattle.dm_ems.specs.declared.status.Status.TheVariants.{NoPages, NoHandleLeft, OverTotal, OverFree}
 use Rattle.dm_ems.specs.declared.tables.Handle.{Handle}
 use Rattle.dm_ems.specs.Tables.{Expanded, blank, with_page, appended_page, appended, blocks_of, unallocated}
-use Rattle.dm_ems.specs.Consistent.{IsUsed, IsConsistent, HasNumbers}
+use Rattle.dm_ems.specs.Consistent.{IsUsed, IsConsistent}
+use Rattle.dm_ems.specs.inner.Consistent.{HasNumbers}
 use Rattle.dm_ems.specs.Calls.{need, with_slot}
 use Rattle.dm_ems.specs.Handles.{allocate}
 use Rattle.dm_ems.specs.Coming.{IsNewPage, HasPages}

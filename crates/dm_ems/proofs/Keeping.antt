@@ -20,7 +20,7 @@ use Rattle.dm_ems.specs.declared.tables.Handle.{Handle}
 use Rattle.dm_ems.specs.declared.tables.Page.{Page}
 use Rattle.dm_ems.specs.Tables.{Expanded, blank, appended, cut, unallocated, blocks_of, with_windows}
 use Rattle.dm_ems.specs.Consistent.{block_at, IsUsed, IsOwned, ShowsPages, SavesPages, IsConsistent}
-use Rattle.dm_ems.specs.Calls.{left, need, slot, with_slot, with_memory}
+use Rattle.dm_ems.specs.Calls.{state_after, need, slot, with_slot, with_memory}
 use Rattle.dm_ems.specs.Handles.{allocate, deallocate}
 use Rattle.dm_ems.specs.Maps.{map_page, save_map, restore_map, showing}
 use Rattle.dm_ems.specs.Names.{set_name, is_name_of_other}
@@ -32,7 +32,7 @@ use Rattle.dm_ems.proofs.HandleBlocks.{none_left}
 -- ---- rows
 
 pub record Keeps {A : Type 0} (x : Expanded) (r : Result (A × Expanded) Status) : Type 0 where
-  pub kept : IsConsistent (left x r)
+  pub kept : IsConsistent (state_after x r)
 
 pub if_keeps : {A : Type 0} (x : Expanded) (b : Bool) (r s : Result (A × Expanded) Status) → Keeps x r → Keeps x s → Keeps x (cond b r s)
 if_keeps x true r s p q = p

@@ -15,8 +15,8 @@ use Rattle.dm_ems.specs.declared.tables.Handle.{Handle}
 use Rattle.dm_ems.specs.declared.tables.Page.{Page}
 use Rattle.dm_ems.specs.Tables.{Expanded, blank, appended, appended_page, with_page, cut, forgotten, forgotten_all, without_page, is_block, unallocated, blocks_of, with_windows}
 use Rattle.dm_ems.specs.Consistent.{block_at, IsOwned}
-use Rattle.dm_ems.specs.Outside.{LeavesOutside}
-use Rattle.dm_ems.specs.Calls.{left, need, slot, with_slot, with_memory}
+use Rattle.dm_ems.specs.inner.Outside.{LeavesOutside}
+use Rattle.dm_ems.specs.Calls.{state_after, need, slot, with_slot, with_memory}
 use Rattle.dm_ems.specs.Handles.{allocate, deallocate}
 use Rattle.dm_ems.specs.Maps.{map_page, save_map, restore_map, showing}
 use Rattle.dm_ems.specs.Names.{set_name, is_name_of_other}
@@ -134,7 +134,7 @@ cut_leaves x h n = forgotten_leaves x (drop n (blocks_of x.ems h))
 -- ---- rows
 
 pub record Leaves {A : Type 0} (x : Expanded) (r : Result (A × Expanded) Status) : Type 0 where
-  pub kept : LeavesOutside x (left x r)
+  pub kept : LeavesOutside x (state_after x r)
 
 pub if_leaves : {A : Type 0} (x : Expanded) (b : Bool) (r s : Result (A × Expanded) Status) → Leaves x r → Leaves x s → Leaves x (cond b r s)
 if_leaves x true r s p q = p

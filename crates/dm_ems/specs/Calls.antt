@@ -7,14 +7,14 @@ use Rattle.dm_ems.specs.declared.tables.Handle.{Handle}
 use Rattle.dm_ems.specs.Tables.{Expanded}
 
 -- the result of a call, without the state after it
-abbrev pub answer : {A : Type 0} → Result (A × Expanded) Status → Result A Status
-answer (Ok w) = Ok w.0
-answer (Err e) = Err e
+abbrev pub result_of : {A : Type 0} → Result (A × Expanded) Status → Result A Status
+result_of (Ok w) = Ok w.0
+result_of (Err e) = Err e
 
 -- the state after a call from x; x itself if the call fails
-abbrev pub left : {A : Type 0} → Expanded → Result (A × Expanded) Status → Expanded
-left x (Ok w) = w.1
-left x (Err e) = x
+abbrev pub state_after : {A : Type 0} → Expanded → Result (A × Expanded) Status → Expanded
+state_after x (Ok w) = w.1
+state_after x (Err e) = x
 
 -- how a call goes on with a value that it needs, such as a handle's entry: f of the value, or the error e where there
 -- is none

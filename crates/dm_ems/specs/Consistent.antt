@@ -1,7 +1,7 @@
 -- That the tables of expanded memory and the memory are consistent: each page is a block of its own and belongs to a
 -- handle in use, and windows, saved ones too, show pages alone. Blocks are named by their numbers in the pool, whose
 -- table has 576 entries.
-use Rattle.std.specs.Prelude.{ℕ, ◌+◌, ◌<◌, ◌≤◌, ◌≡◌, ◌≢◌, List, length, slice_index_or, AllPairs, count_by, is_some, Option, Some, None, IfSome, IsSome}
+use Rattle.std.specs.Prelude.{ℕ, ◌<◌, ◌≤◌, ◌≡◌, ◌≢◌, List, length, slice_index_or, AllPairs, Option, Some, None, IfSome, IsSome}
 use Rattle.dm_pool.specs.FreeList.{AreBased}
 use Rattle.dm_space.specs.Memory.{IsPage}
 use Rattle.dm_ems.specs.declared.tables.Handle.{Handle}
@@ -47,7 +47,3 @@ pub record IsConsistent (x : Expanded) : Type 0 where
   pub apart : AllPairs (λ (p : Page) (q : Page). p.block ≢ q.block) x.ems.pages
   pub shown : ShowsPages x.ems.pages x.memory.windows
   pub saved : (handle : ℕ) → SavesPages x.ems.pages (slice_index_or x.ems.handles handle None)
-
--- at most 64 blocks of the pool are not pages: so of its 576 numbers 512 are left for pages
-abbrev pub HasNumbers : Expanded → Type 0
-HasNumbers x = count_by is_some x.memory.blocks.places ≤ length x.ems.pages + 64

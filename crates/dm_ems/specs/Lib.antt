@@ -1,7 +1,6 @@
 pub mod Status
 pub mod Tables
 pub mod Consistent
-pub mod Outside
 pub mod Coming
 pub mod Calls
 pub mod Handles

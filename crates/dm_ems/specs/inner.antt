@@ -3,3 +3,4 @@ pub mod Calls
 pub mod Tables
 pub mod Laws
 pub mod Consistent
+pub mod Outside

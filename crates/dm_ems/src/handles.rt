@@ -3,7 +3,7 @@
 ghost use Rattle.std.specs.Prelude.{◌≡◌};
 ghost use Rattle.dm_ems.specs.Tables.{expanded};
 ghost use Rattle.dm_ems.specs.Consistent.{IsConsistent};
-ghost use Rattle.dm_ems.specs.Calls.{answer, left};
+ghost use Rattle.dm_ems.specs.Calls.{result_of, state_after};
 ghost use Rattle.dm_ems.specs.Handles.{allocate, deallocate, count_pages};
 
 use crate::status::Status;
@@ -26,8 +26,8 @@ impl Ems {
     /// In this order: `NoPages` for 0 pages, `NoHandleLeft`, `OverTotal`, `OverFree`. Then nothing has changed.
     #[tactic(auto, unfolding(crate::specs::Handles::allocate))]
     pub fn allocate(&mut self, space: &mut Space, pages: u16) -> Result<u16, Status>
-        ensures answer { result ≡ answer (allocate (expanded self.old space.old.memory) pages) }
-        ensures left { expanded self.new space.new.memory ≡ left (expanded self.old space.old.memory) (allocate (expanded self.old space.old.memory) pages) }
+        ensures answer { result ≡ result_of (allocate (expanded self.old space.old.memory) pages) }
+        ensures left { expanded self.new space.new.memory ≡ state_after (expanded self.old space.old.memory) (allocate (expanded self.old space.old.memory) pages) }
         ensures kept { space.new ≡ record space.old { memory = space.new.memory } }
     {
         if pages == 0 {
@@ -58,8 +58,8 @@ impl Ems {
     #[tactic(auto, unfolding(crate::specs::Handles::deallocate))]
     pub fn deallocate(&mut self, space: &mut Space, handle: u16) -> Result<(), Status>
         requires { IsConsistent (expanded self.old space.old.memory) }
-        ensures answer { result ≡ answer (deallocate (expanded self.old space.old.memory) handle) }
-        ensures left { expanded self.new space.new.memory ≡ left (expanded self.old space.old.memory) (deallocate (expanded self.old space.old.memory) handle) }
+        ensures answer { result ≡ result_of (deallocate (expanded self.old space.old.memory) handle) }
+        ensures left { expanded self.new space.new.memory ≡ state_after (expanded self.old space.old.memory) (deallocate (expanded self.old space.old.memory) handle) }
         ensures kept { space.new ≡ record space.old { memory = space.new.memory } }
     {
         let Some(slot) = self.slot(handle) else {

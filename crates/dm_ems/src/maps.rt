@@ -4,7 +4,7 @@ ghost use Rattle.std.specs.Prelude.{◌≡◌, ◌<◌, Option, IfSome};
 ghost use Rattle.dm_space.specs.Memory.{IsPage, with_window};
 ghost use Rattle.dm_ems.specs.Tables.{expanded};
 ghost use Rattle.dm_ems.specs.Consistent.{IsConsistent};
-ghost use Rattle.dm_ems.specs.Calls.{answer, left};
+ghost use Rattle.dm_ems.specs.Calls.{result_of, state_after};
 ghost use Rattle.dm_ems.specs.Maps.{map_page, save_map, restore_map};
 
 use crate::pages::set_windows;
@@ -34,8 +34,8 @@ impl Ems {
         handle: u16,
     ) -> Result<(), Status>
         requires { IsConsistent (expanded self.now space.old.memory) }
-        ensures answer { result ≡ answer (map_page (expanded self.now space.old.memory) window page handle) }
-        ensures left { expanded self.now space.new.memory ≡ left (expanded self.now space.old.memory) (map_page (expanded self.now space.old.memory) window page handle) }
+        ensures answer { result ≡ result_of (map_page (expanded self.now space.old.memory) window page handle) }
+        ensures left { expanded self.now space.new.memory ≡ state_after (expanded self.now space.old.memory) (map_page (expanded self.now space.old.memory) window page handle) }
         ensures kept { space.new ≡ record space.old { memory = space.new.memory } }
     {
         if self.slot(handle).is_none() {
@@ -64,8 +64,8 @@ impl Ems {
     /// In this order: `UnknownHandle`; `SavedAlready` where the handle has saved windows. Then nothing has changed.
     #[tactic(auto, unfolding(crate::specs::Maps::save_map))]
     pub fn save_map(&mut self, space: &Space, handle: u16) -> Result<(), Status>
-        ensures answer { result ≡ answer (save_map (expanded self.old space.now.memory) handle) }
-        ensures left { expanded self.new space.now.memory ≡ left (expanded self.old space.now.memory) (save_map (expanded self.old space.now.memory) handle) }
+        ensures answer { result ≡ result_of (save_map (expanded self.old space.now.memory) handle) }
+        ensures left { expanded self.new space.now.memory ≡ state_after (expanded self.old space.now.memory) (save_map (expanded self.old space.now.memory) handle) }
     {
         let Some(slot) = self.slot(handle) else {
             return Err(Status::UnknownHandle);
@@ -93,8 +93,8 @@ impl Ems {
     #[tactic(auto, unfolding(crate::specs::Maps::restore_map))]
     pub fn restore_map(&mut self, space: &mut Space, handle: u16) -> Result<(), Status>
         requires { IsConsistent (expanded self.old space.old.memory) }
-        ensures answer { result ≡ answer (restore_map (expanded self.old space.old.memory) handle) }
-        ensures left { expanded self.new space.new.memory ≡ left (expanded self.old space.old.memory) (restore_map (expanded self.old space.old.memory) handle) }
+        ensures answer { result ≡ result_of (restore_map (expanded self.old space.old.memory) handle) }
+        ensures left { expanded self.new space.new.memory ≡ state_after (expanded self.old space.old.memory) (restore_map (expanded self.old space.old.memory) handle) }
         ensures kept { space.new ≡ record space.old { memory = space.new.memory } }
     {
         let Some(slot) = self.slot(handle) else {

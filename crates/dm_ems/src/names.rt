@@ -5,7 +5,7 @@ ghost use Rattle.std.specs.List.{list_any};
 ghost use Rattle.arrayvec.specs.ArrayVec.{array_vec_len};
 ghost use Rattle.dm_space.specs.EightBytes.{eight_after};
 ghost use Rattle.dm_ems.specs.Tables.{expanded};
-ghost use Rattle.dm_ems.specs.Calls.{answer, left};
+ghost use Rattle.dm_ems.specs.Calls.{result_of, state_after};
 ghost use Rattle.dm_ems.specs.Names.{word_bytes, in_turn, page_entry, name_entry, list_pages, list_names, get_name, set_name, find_name, is_no_name, has_name, is_name_of_other};
 
 use crate::status::Status;
@@ -189,8 +189,8 @@ impl Ems {
         segment: u16,
         offset: u16,
     ) -> Result<(), Status>
-        ensures answer { result ≡ answer (get_name (expanded self.now space.old.memory) handle segment offset) }
-        ensures left { expanded self.now space.new.memory ≡ left (expanded self.now space.old.memory) (get_name (expanded self.now space.old.memory) handle segment offset) }
+        ensures answer { result ≡ result_of (get_name (expanded self.now space.old.memory) handle segment offset) }
+        ensures left { expanded self.now space.new.memory ≡ state_after (expanded self.now space.old.memory) (get_name (expanded self.now space.old.memory) handle segment offset) }
         ensures kept { space.new ≡ record space.old { memory = space.new.memory } }
     {
         let Some(slot) = self.slot(handle) else {
@@ -214,8 +214,8 @@ impl Ems {
         segment: u16,
         offset: u16,
     ) -> Result<(), Status>
-        ensures answer { result ≡ answer (set_name (expanded self.old space.now.memory) handle segment offset) }
-        ensures left { expanded self.new space.now.memory ≡ left (expanded self.old space.now.memory) (set_name (expanded self.old space.now.memory) handle segment offset) }
+        ensures answer { result ≡ result_of (set_name (expanded self.old space.now.memory) handle segment offset) }
+        ensures left { expanded self.new space.now.memory ≡ state_after (expanded self.old space.now.memory) (set_name (expanded self.old space.now.memory) handle segment offset) }
     {
         let Some(slot) = self.slot(handle) else {
             return Err(Status::UnknownHandle);

@@ -7,7 +7,8 @@ use Rattle.dm_ems.specs.declared.status.Status.{Status}
 use Rattle.dm_ems.specs.declared.status.Status.TheVariants.{UnknownHandle, OverTotal, OverFree}
 use Rattle.dm_ems.specs.declared.tables.Handle.{Handle}
 use Rattle.dm_ems.specs.Tables.{Expanded, page_count, blocks_of, unallocated, appended, cut}
-use Rattle.dm_ems.specs.Consistent.{IsUsed, IsConsistent, HasNumbers}
+use Rattle.dm_ems.specs.Consistent.{IsUsed, IsConsistent}
+use Rattle.dm_ems.specs.inner.Consistent.{HasNumbers}
 use Rattle.dm_ems.specs.Calls.{need, slot}
 use Rattle.dm_ems.specs.Coming.{HasPages}
 use Rattle.dm_ems.proofs.Consistent.{consistent_cut}

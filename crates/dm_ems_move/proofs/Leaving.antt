@@ -6,7 +6,7 @@ use Rattle.dm_space.specs.Places.{IsShaped}
 use Rattle.dm_ems.specs.declared.status.Status.{Status}
 use Rattle.dm_ems.specs.declared.status.Status.TheVariants.{OverTotal, OverFree, UnknownHandle, NoSubfunction, BadMap, KindsOverlap, TooLong, ExchangeOverlaps}
 use Rattle.dm_ems.specs.Tables.{Expanded, page_count, unallocated, blocks_of, cut, appended}
-use Rattle.dm_ems.specs.Outside.{LeavesOutside}
+use Rattle.dm_ems.specs.inner.Outside.{LeavesOutside}
 use Rattle.dm_ems.specs.Calls.{slot, with_memory}
 use Rattle.dm_space.specs.moves.Spans.{Span}
 use Rattle.dm_space.specs.moves.Overlaps.{overlap}

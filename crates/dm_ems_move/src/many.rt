@@ -4,7 +4,7 @@ ghost use Rattle.std.specs.Prelude.{◌≡◌, ◌<◌, ◌==◌, IfOk, IfSome, 
 ghost use Rattle.dm_space.specs.Memory.{IsPage};
 ghost use Rattle.dm_ems.specs.Tables.{expanded, blocks_of};
 ghost use Rattle.dm_ems.specs.Consistent.{IsConsistent};
-ghost use Rattle.dm_ems.specs.Calls.{answer, left};
+ghost use Rattle.dm_ems.specs.Calls.{result_of, state_after};
 ghost use Rattle.dm_ems_move.specs.Many.{map_many, window_of, paired, after_pairs};
 
 use dm_ems::{Ems, Status, set_windows};
@@ -104,8 +104,8 @@ pub fn map_many(
     offset: u16,
 ) -> Result<(), Status>
     requires { IsConsistent (expanded ems.now space.old.memory) }
-    ensures answer { result ≡ answer (map_many (expanded ems.now space.old.memory) mode handle count segment offset) }
-    ensures left { expanded ems.now space.new.memory ≡ left (expanded ems.now space.old.memory) (map_many (expanded ems.now space.old.memory) mode handle count segment offset) }
+    ensures answer { result ≡ result_of (map_many (expanded ems.now space.old.memory) mode handle count segment offset) }
+    ensures left { expanded ems.now space.new.memory ≡ state_after (expanded ems.now space.old.memory) (map_many (expanded ems.now space.old.memory) mode handle count segment offset) }
     ensures kept { space.new ≡ record space.old { memory = space.new.memory } }
 {
     if mode > 1 {

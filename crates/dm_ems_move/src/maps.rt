@@ -6,7 +6,7 @@ ghost use Rattle.arrayvec.specs.ArrayVec.{array_vec_len};
 ghost use Rattle.dm_space.specs.Buffers.{with_bytes};
 ghost use Rattle.dm_ems.specs.Tables.{expanded, is_block, is_of};
 ghost use Rattle.dm_ems.specs.Consistent.{IsConsistent};
-ghost use Rattle.dm_ems.specs.Calls.{answer, left};
+ghost use Rattle.dm_ems.specs.Calls.{result_of, state_after};
 ghost use Rattle.dm_ems_move.specs.Maps.{whole_map, map_entries, meant, meant_at, map_at};
 ghost use Rattle.dm_ems_move.specs.inner.Maps.{numbers, map_entry};
 
@@ -156,8 +156,8 @@ pub fn whole_map(
     from_offset: u16,
 ) -> Result<Option<u8>, Status>
     requires { IsConsistent (expanded ems.now space.old.memory) }
-    ensures answer { result ≡ answer (whole_map (expanded ems.now space.old.memory) mode to_segment to_offset from_segment from_offset) }
-    ensures left { expanded ems.now space.new.memory ≡ left (expanded ems.now space.old.memory) (whole_map (expanded ems.now space.old.memory) mode to_segment to_offset from_segment from_offset) }
+    ensures answer { result ≡ result_of (whole_map (expanded ems.now space.old.memory) mode to_segment to_offset from_segment from_offset) }
+    ensures left { expanded ems.now space.new.memory ≡ state_after (expanded ems.now space.old.memory) (whole_map (expanded ems.now space.old.memory) mode to_segment to_offset from_segment from_offset) }
     ensures kept { space.new ≡ record space.old { memory = space.new.memory } }
 {
     if mode == 0 {

@@ -3,7 +3,7 @@
 ghost use Rattle.std.specs.Prelude.{◌≡◌, ◌+◌, ◌≤◌, length, Some};
 ghost use Rattle.dm_ems.specs.Tables.{expanded, appended};
 ghost use Rattle.dm_ems.specs.Consistent.{IsConsistent};
-ghost use Rattle.dm_ems.specs.Calls.{answer, left};
+ghost use Rattle.dm_ems.specs.Calls.{result_of, state_after};
 ghost use Rattle.dm_ems_move.specs.Reallocation.{reallocate, reallocated};
 
 use dm_ems::{Ems, Status};
@@ -56,8 +56,8 @@ pub fn reallocate(
     count: u16,
 ) -> Result<Reallocated, Status>
     requires { IsConsistent (expanded ems.old space.old.memory) }
-    ensures answer { result ≡ answer (reallocate (expanded ems.old space.old.memory) handle count) }
-    ensures left { expanded ems.new space.new.memory ≡ left (expanded ems.old space.old.memory) (reallocate (expanded ems.old space.old.memory) handle count) }
+    ensures answer { result ≡ result_of (reallocate (expanded ems.old space.old.memory) handle count) }
+    ensures left { expanded ems.new space.new.memory ≡ state_after (expanded ems.old space.old.memory) (reallocate (expanded ems.old space.old.memory) handle count) }
     ensures kept { space.new ≡ record space.old { memory = space.new.memory } }
 {
     if ems.slot(handle).is_none() {

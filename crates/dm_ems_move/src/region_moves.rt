@@ -5,7 +5,7 @@ ghost use Rattle.std.specs.Prelude.{◌≡◌, ◌≤◌, ◌<◌, ◌+◌, leng
 ghost use Rattle.dm_ems.specs.Tables.{expanded, blocks_of, page_count};
 ghost use Rattle.dm_ems_move.specs.inner.Listed.{HasBlocks};
 ghost use Rattle.dm_ems.specs.Consistent.{IsConsistent};
-ghost use Rattle.dm_ems.specs.Calls.{answer, left};
+ghost use Rattle.dm_ems.specs.Calls.{result_of, state_after};
 ghost use Rattle.dm_space.specs.moves.Spans.{IsInside};
 ghost use Rattle.dm_ems_move.specs.RegionMoves.{length_at, conventional, expanded_region, region_of, regions_of, described, is_linear, are_mixed, move_between, exchange_between, move_region, exchange_region, moved_code};
 
@@ -55,7 +55,7 @@ fn conventional(described: Description, len: usize) -> Result<Span<'static>, Sta
     if start + len > END {
         return Err(Status::PastMemory);
     }
-    Ok(Span::linear(start))
+    Ok(Span::of_linear(start))
 }
 
 /// The blocks of the pages of the handle that the region has which is described `k` bytes after segment:offset; none
@@ -111,7 +111,7 @@ fn expanded_region<'a>(
     if start + len > pages as usize * PAGE {
         return Err(Status::PastPages);
     }
-    Ok(Span::pages(blocks, start))
+    Ok(Span::of_pages(blocks, start))
 }
 
 /// The region of `len` bytes that is described: type 0 is conventional memory, type 1 pages of a handle, whose blocks
@@ -204,8 +204,8 @@ fn move_between(
     requires len { len ≤ 0x100000 }
     requires from { IsInside space.old.memory from.now len }
     requires to { IsInside space.old.memory to.now len }
-    ensures answer { result ≡ answer (move_between (expanded ems.now space.old.memory) len from.now to.now) }
-    ensures left { expanded ems.now space.new.memory ≡ left (expanded ems.now space.old.memory) (move_between (expanded ems.now space.old.memory) len from.now to.now) }
+    ensures answer { result ≡ result_of (move_between (expanded ems.now space.old.memory) len from.now to.now) }
+    ensures left { expanded ems.now space.new.memory ≡ state_after (expanded ems.now space.old.memory) (move_between (expanded ems.now space.old.memory) len from.now to.now) }
     ensures refused { OnErr result (space.new ≡ space.old) }
 {
     if !overlap(space, from, to, len) {
@@ -232,8 +232,8 @@ fn exchange_between(
     requires len { len ≤ 0x100000 }
     requires from { IsInside space.old.memory from.now len }
     requires to { IsInside space.old.memory to.now len }
-    ensures answer { result ≡ answer (exchange_between (expanded ems.now space.old.memory) len from.now to.now) }
-    ensures left { expanded ems.now space.new.memory ≡ left (expanded ems.now space.old.memory) (exchange_between (expanded ems.now space.old.memory) len from.now to.now) }
+    ensures answer { result ≡ result_of (exchange_between (expanded ems.now space.old.memory) len from.now to.now) }
+    ensures left { expanded ems.now space.new.memory ≡ state_after (expanded ems.now space.old.memory) (exchange_between (expanded ems.now space.old.memory) len from.now to.now) }
     ensures refused { OnErr result (space.new ≡ space.old) }
 {
     if !overlap(space, from, to, len) {
@@ -264,8 +264,8 @@ fn exchange_between(
 #[tactic(auto, unfolding(crate::specs::RegionMoves::move_region))]
 pub fn move_region(ems: &Ems, space: &mut Space, segment: u16, offset: u16) -> Result<Moved, Status>
     requires { IsConsistent (expanded ems.now space.old.memory) }
-    ensures answer { result ≡ answer (move_region (expanded ems.now space.old.memory) segment offset) }
-    ensures left { expanded ems.now space.new.memory ≡ left (expanded ems.now space.old.memory) (move_region (expanded ems.now space.old.memory) segment offset) }
+    ensures answer { result ≡ result_of (move_region (expanded ems.now space.old.memory) segment offset) }
+    ensures left { expanded ems.now space.new.memory ≡ state_after (expanded ems.now space.old.memory) (move_region (expanded ems.now space.old.memory) segment offset) }
     ensures refused { OnErr result (space.new ≡ space.old) }
     ensures none { length_at space.old.memory segment offset ≡ 0 → space.new ≡ space.old }
 {
@@ -312,8 +312,8 @@ pub fn exchange_region(
     offset: u16,
 ) -> Result<(), Status>
     requires { IsConsistent (expanded ems.now space.old.memory) }
-    ensures answer { result ≡ answer (exchange_region (expanded ems.now space.old.memory) segment offset) }
-    ensures left { expanded ems.now space.new.memory ≡ left (expanded ems.now space.old.memory) (exchange_region (expanded ems.now space.old.memory) segment offset) }
+    ensures answer { result ≡ result_of (exchange_region (expanded ems.now space.old.memory) segment offset) }
+    ensures left { expanded ems.now space.new.memory ≡ state_after (expanded ems.now space.old.memory) (exchange_region (expanded ems.now space.old.memory) segment offset) }
     ensures refused { OnErr result (space.new ≡ space.old) }
     ensures none { length_at space.old.memory segment offset ≡ 0 → space.new ≡ space.old }
 {

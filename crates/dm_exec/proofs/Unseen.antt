@@ -34,7 +34,7 @@ use Rattle.dm_cpu.specs.Guest.{Guest, at_ip, up, on_cpu}
 use Rattle.dm_exec.specs.Operation.{operation_of}
 use Rattle.dm_cpu.specs.Stack.{popped, top}
 use Rattle.dm_operations.specs.Stack.{through_vector, interrupt, pushed_value, popped_into, flags_popped, stack_effect, interrupt_effect}
-use Rattle.dm_exec.specs.Moves.{moved, exchanged, pointer_loaded, translated, input, move_effect}
+use Rattle.dm_exec.specs.Moves.{moved, exchanged, pointer_loaded, translated, port_input, move_effect}
 use Rattle.dm_operations.specs.Arithmetic.{sum_into, difference_into, compared, logic_into, tested, incremented, decremented, negated, complemented, arithmetic}
 use Rattle.dm_operations.specs.Shifts.{shifted}
 use Rattle.dm_operations.specs.Products.{multiplied, after_division, divided}
@@ -101,8 +101,8 @@ translated-unseen : (f : Memory → Memory) (u : IsUnseen f) (g : Guest) (overri
 unfolding translated
 translated-unseen f u g override = simp (u.a20, u.peek_same)
 
-input-unseen : (f : Memory → Memory) (u : IsUnseen f) (g : Guest) (override : Option SegmentRegister) (a : Operand) → input (changed f g) override a ≡ changed f (input g override a)
-unfolding input
+input-unseen : (f : Memory → Memory) (u : IsUnseen f) (g : Guest) (override : Option SegmentRegister) (a : Operand) → port_input (changed f g) override a ≡ changed f (port_input g override a)
+unfolding port_input
 input-unseen f u g override a = with_operand-unseen f u g override a _
 
 move_effect-unseen : (f : Memory → Memory) (u : IsUnseen f) (g : Guest) (override : Option SegmentRegister) (x : MoveOperation) (a b : Operand) → move_effect (changed f g) override x a b ≡ changed f (move_effect g override x a b)

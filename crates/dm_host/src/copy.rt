@@ -9,7 +9,7 @@ use std::alloc::{AllocError, Global};
 
 impl Setup {
     /// Another setup of the same sizes, variables and programs. `AllocError` if an allocation fails.
-    fn copy(&self, alloc: Global) -> Result<Setup, AllocError>
+    fn duplicate(&self, alloc: Global) -> Result<Setup, AllocError>
         ensures { IfOk result (λ setup. setup ≡ self.now) }
     {
         let variables = Vec::from_slice(alloc, self.config.variables.as_slice())?;
@@ -28,8 +28,8 @@ fn copy_stage(stage: &Stage, alloc: Global) -> Result<Stage, AllocError>
     ensures { IfOk result (λ copy. copy ≡ stage.now) }
 {
     match stage {
-        Stage::Fresh(setup) => Ok(Stage::Fresh(setup.copy(alloc)?)),
-        Stage::Loaded(session) => Ok(Stage::Loaded(session.copy(alloc)?)),
+        Stage::Fresh(setup) => Ok(Stage::Fresh(setup.duplicate(alloc)?)),
+        Stage::Loaded(session) => Ok(Stage::Loaded(session.duplicate(alloc)?)),
         Stage::Spent => Ok(Stage::Spent),
     }
 }
@@ -40,7 +40,7 @@ fn copy_host(host: &Host, alloc: Global) -> Result<Host, AllocError>
 {
     let stage = copy_stage(&host.stage, alloc)?;
     let answer = Vec::from_slice(alloc, host.answer.as_slice())?;
-    let report = host.report.copy(alloc)?;
+    let report = host.report.duplicate(alloc)?;
     Ok(Host {
         stage,
         answer,
@@ -55,7 +55,7 @@ impl Host {
     /// # Errors
     ///
     /// `Memory` if an allocation failed.
-    pub fn copy(&self, alloc: Global) -> Result<Host, Refusal>
+    pub fn duplicate(&self, alloc: Global) -> Result<Host, Refusal>
         ensures ok { IfOk result (λ host. host ≡ self.now) }
         ensures err { IfErr result (λ why. why ≡ Refusal.Memory) }
     {

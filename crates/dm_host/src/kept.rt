@@ -50,7 +50,7 @@ impl KeptReport {
     }
 
     /// The same report once more. `AllocError` if an allocation fails.
-    pub(crate) fn copy(&self, alloc: Global) -> Result<KeptReport, AllocError>
+    pub(crate) fn duplicate(&self, alloc: Global) -> Result<KeptReport, AllocError>
         ensures { IfOk result (λ kept. kept ≡ self.now) }
     {
         Ok(KeptReport {

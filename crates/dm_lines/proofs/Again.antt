@@ -14,7 +14,7 @@ use Rattle.dm_ins.specs.declared.prefix.Repeat.{Repeat}
 use Rattle.dm_ins.specs.declared.prefix.Repeat.TheVariants.{NotEqual, Equal}
 use Rattle.dm_ins.specs.declared.prefix.Prefixes.{Prefixes}
 use Rattle.dm_ins.specs.declared.ins.Ins.{Ins}
-use Rattle.dm_decode.specs.Pieces.{Piece, name, word, space, plus, comma, left_bracket, right_bracket}
+use Rattle.dm_decode.specs.Pieces.{Piece, name, word, space_sign, plus, comma, left_bracket, right_bracket}
 use Rattle.dm_decode.specs.Texts.{base_pieces, displacement_pieces, address_pieces, size_pieces, memory_pieces, operand_pieces, behind, second_pieces, operands_pieces, mnemonic_pieces, is_nop, action_pieces, segment_pieces, lock_pieces, repeat_pieces, prefix_pieces, pieces}
 use Rattle.dm_decode.specs.words.Words.{size_word}
 use Rattle.dm_decode.proofs.words.Sizes.{sizes_are_shown}
@@ -152,7 +152,7 @@ no_front : (r : Option (List Token)) → joined_to [] r ≡ r
 no_front None = refl
 no_front (Some ts) = refl
 
-operands_again : (a : Action) (next : ℕ) (x : Operand) → all_tokens (behind space x (operand_pieces a next x ++ second_pieces a next)) ≡ Some (operands_tokens a next x a.second)
+operands_again : (a : Action) (next : ℕ) (x : Operand) → all_tokens (behind space_sign x (operand_pieces a next x ++ second_pieces a next)) ≡ Some (operands_tokens a next x a.second)
 operands_again a next operand.Nothing = refl
 operands_again a next (operand.ByteRegister r) = no_front _ ∙ both_again a next (operand.ByteRegister r)
 operands_again a next (operand.WordRegister r) = no_front _ ∙ both_again a next (operand.WordRegister r)

@@ -5,7 +5,7 @@ use Rattle.std.specs.List.{AllByRecursion}
 use Rattle.std.proofs.lemmas.Bool.Decides.{nat_tests}
 use Rattle.dm_ins.specs.Walks.{◌>>=◌}
 use Rattle.dm_decode.specs.Names.{name_of}
-use Rattle.dm_decode.specs.Pieces.{Piece, name, byte, space, comma, byte_in_text, text_bytes, parted}
+use Rattle.dm_decode.specs.Pieces.{Piece, name, byte, space_sign, comma, byte_in_text, text_bytes, parted}
 use Rattle.dm_lines.specs.declared.token.Token.{Token}
 use Rattle.dm_lines.specs.declared.token.Token.TheVariants as t
 use Rattle.dm_lines.specs.declared.term.Amount.TheVariants.{Plus}
@@ -52,7 +52,7 @@ unfolding word_token reserved name_of
 data_word = refl
 
 pieces_of : ℕ → List ℕ → List Piece
-pieces_of b bs = name (codes "DB") ∷ space ∷ byte b ∷ more_pieces bs
+pieces_of b bs = name (codes "DB") ∷ space_sign ∷ byte b ∷ more_pieces bs
 
 data_bytes : (b : ℕ) (bs : List ℕ) → data_text b bs ≡ text_bytes (pieces_of b bs)
 unfolding pieces_of

@@ -27,7 +27,7 @@ use Rattle.dm_ins.specs.Walks.{◌>>=◌}
 use Rattle.dm_ins.proofs.TableRules.{both_true}
 use Rattle.dm_ins.proofs.Shortest.{action_fits}
 use Rattle.dm_decode.specs.Names.{byte_name, word_name, segment_name, name_of}
-use Rattle.dm_decode.specs.Pieces.{byte, digit, is_in_names, is_mark, parted, Piece, name, word, sign, space, plus, comma, left_bracket, right_bracket, byte_in_text, word_in_text, text_bytes}
+use Rattle.dm_decode.specs.Pieces.{byte, digit, is_in_names, is_mark, parted, Piece, name, word, sign, space_sign, plus, comma, left_bracket, right_bracket, byte_in_text, word_in_text, text_bytes}
 use Rattle.dm_decode.specs.Texts.{base_pieces, displacement_pieces, address_pieces, size_pieces, memory_pieces, operand_pieces, behind, second_pieces, operands_pieces, mnemonic_pieces, is_nop, action_pieces, segment_pieces, lock_pieces, repeat_pieces, prefix_pieces, pieces, text_of}
 use Rattle.dm_decode.proofs.Pieces.{bytes-append}
 use Rattle.dm_decode.proofs.Parted.{texts_are_parted}
@@ -124,7 +124,7 @@ action_fit a next h k = by (is_nop a)
     second = behind_fit comma a.second (operand_pieces a next a.second) (tt, operand_fit a next a.second k)
 
     operands : AllFit (operands_pieces a next)
-    operands = behind_fit space a.first (operand_pieces a next a.first ++ second_pieces a next) (tt, fit-append (operand_pieces a next a.first) (second_pieces a next) (operand_fit a next a.first h) second)
+    operands = behind_fit space_sign a.first (operand_pieces a next a.first ++ second_pieces a next) (tt, fit-append (operand_pieces a next a.first) (second_pieces a next) (operand_fit a next a.first h) second)
 
     by : (n : Bool) → AllFit (if n then name (codes "NOP") ∷ [] else mnemonic_pieces a.mnemonic ++ operands_pieces a next)
     by true = (tt, tt)
@@ -261,7 +261,7 @@ action_long a next = by (is_nop a)
 segments_long : (s : Option SegmentRegister) → Long 3 (segment_pieces s)
 unfolding Long
 segments_long None = omega arith
-segments_long (Some r) = long-append 2 1 (name (segment_name r) ∷ []) (space ∷ []) (segment_long r) (sign_long 32)
+segments_long (Some r) = long-append 2 1 (name (segment_name r) ∷ []) (space_sign ∷ []) (segment_long r) (sign_long 32)
 
 lock_long : (l : Bool) → Long 5 (lock_pieces l)
 unfolding Long

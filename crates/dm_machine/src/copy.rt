@@ -12,7 +12,7 @@ impl Machine {
     /// # Errors
     ///
     /// `AllocError` if an allocation fails.
-    pub fn copy(&self, alloc: Global) -> Result<Machine, AllocError>
+    pub fn duplicate(&self, alloc: Global) -> Result<Machine, AllocError>
         ensures { IfOk result (λ machine. machine ≡ self.now) }
     {
         let parts = self.parts.duplicate(alloc)?;

@@ -431,7 +431,7 @@ impl Store {
     }
 
     /// How many units of the pool are in no block.
-    pub fn free(&self) -> usize
+    pub fn free_units(&self) -> usize
         ensures { result ≡ free_units (gaps self.now.blocks.places self.now.blocks.units) }
     {
         if self.in_use {

@@ -227,8 +227,8 @@ pub(crate) fn start(
     ensures written { (p : IsPlannedOn upper space.old.memory pair) → IsWritten upper space.old.memory pair p (take environment_bytes space.old.scratch) image.now parent (passed_of arguments.now) space.new.memory }
 {
     let blocks = Blocks {
-        environment_segment: pair.environment(),
-        program: pair.program(),
+        environment_segment: pair.environment_block(),
+        program: pair.program_block(),
         size: pair.size(),
     };
     let prefix = make_prefix(space, blocks, parent, arguments);

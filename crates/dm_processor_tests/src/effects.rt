@@ -648,7 +648,7 @@ pub(crate) const ALL: [&str; 19] = [
 /// Definitions: dm_cpu Operands value_of with_operand with_result address_of far_segment_of
 /// Definitions: dm_cpu Values width_of value_in read_in written_in accumulator with_accumulator
 /// Definitions: dm_exec Moves move_effect moved exchanged pointer_loaded translated byte_extended word_extended
-/// Definitions: dm_exec Moves flags_loaded flags_stored input
+/// Definitions: dm_exec Moves flags_loaded flags_stored port_input
 #[test]
 fn moves_between_registers_memory_and_values(rt: HostRuntime) -> Result<(), Fail> {
     check(&rt, rt.alloc(), MOVES)
@@ -659,7 +659,7 @@ fn moves_between_registers_memory_and_values(rt: HostRuntime) -> Result<(), Fail
 /// Definitions: dm_cpu Operands base_of offset_of segment_for data_segment value_of with_operand with_result address_of
 /// Definitions: dm_cpu Operands far_segment_of
 /// Definitions: dm_exec Moves move_effect moved exchanged pointer_loaded translated byte_extended
-/// Definitions: dm_exec Moves word_extended flags_loaded flags_stored input
+/// Definitions: dm_exec Moves word_extended flags_loaded flags_stored port_input
 #[test]
 fn bases_and_overrides_name_the_place(rt: HostRuntime) -> Result<(), Fail> {
     check(&rt, rt.alloc(), ADDRESSES)
@@ -673,7 +673,7 @@ fn word_wraps_at_segment_end(rt: HostRuntime) -> Result<(), Fail> {
 /// Definitions: dm_ins Spelling word_bytes sign_extended
 /// Definitions: dm_cpu Operands value_of with_operand with_result address_of far_segment_of
 /// Definitions: dm_exec Moves move_effect moved exchanged pointer_loaded translated byte_extended word_extended
-/// Definitions: dm_exec Moves flags_loaded flags_stored input
+/// Definitions: dm_exec Moves flags_loaded flags_stored port_input
 #[test]
 fn exchanges_pointers_and_conversions(rt: HostRuntime) -> Result<(), Fail> {
     check(&rt, rt.alloc(), TRANSFERS_OF_DATA)

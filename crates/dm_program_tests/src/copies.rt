@@ -48,7 +48,7 @@ fn a_copy_goes_on_as_its_original(rt: HostRuntime) -> Result<(), Fail> {
     for steps in [0, 2, 4, 6, 7, 8] {
         let mut machine = loaded(rt.alloc(), &HELLO, b"")?;
         let _stop = machine.run(steps);
-        let mut copy = machine.copy(rt.alloc())?;
+        let mut copy = machine.duplicate(rt.alloc())?;
         alike(&rt, &machine, &copy);
         ends(&rt, &mut copy, Stop::Exited(0), 7, b"hi");
         ends(&rt, &mut machine, Stop::Exited(0), 7, b"hi");
@@ -60,7 +60,7 @@ fn a_copy_goes_on_as_its_original(rt: HostRuntime) -> Result<(), Fail> {
 #[test]
 fn neither_sees_what_the_other_writes(rt: HostRuntime) -> Result<(), Fail> {
     let mut machine = loaded(rt.alloc(), &HELLO, b"")?;
-    let mut copy = machine.copy(rt.alloc())?;
+    let mut copy = machine.duplicate(rt.alloc())?;
     copy.poke(SEGMENT, 0x010C, b'H');
     machine.poke(SEGMENT, 0x010D, b'o');
     same(&rt, "in the original", machine.peek(SEGMENT, 0x010C), b'h');
@@ -79,7 +79,7 @@ fn a_copy_has_input_and_room_of_its_own(rt: HostRuntime) -> Result<(), Fail> {
     same(&rt, "stop", machine.run(3), Stop::Steps);
     same(&rt, "output", machine.output(), b"a".as_slice());
     machine.reserve_output(5)?;
-    let mut copy = machine.copy(rt.alloc())?;
+    let mut copy = machine.duplicate(rt.alloc())?;
     same(&rt, "room", copy.room(), 5);
     ends(&rt, &mut copy, Stop::Exited(0), 9, b"ab");
     same(&rt, "room of the copy", copy.room(), 4);
@@ -93,7 +93,7 @@ fn a_copy_has_pages_of_its_own(rt: HostRuntime) -> Result<(), Fail> {
     let mut machine = loaded(rt.alloc(), &PAGE, b"")?;
     same(&rt, "in the window", machine.peek(0xE000, 0), 0xFF);
     same(&rt, "stop", machine.run(8), Stop::Steps);
-    let mut copy = machine.copy(rt.alloc())?;
+    let mut copy = machine.duplicate(rt.alloc())?;
     copy.poke(0xE000, 0, 0x55);
     same(&rt, "in the copy", copy.peek(0xE000, 0), 0x55);
     same(&rt, "in the original", machine.peek(0xE000, 0), 0);
@@ -105,7 +105,7 @@ fn a_copy_has_pages_of_its_own(rt: HostRuntime) -> Result<(), Fail> {
 fn a_copy_can_be_loaded_apart(rt: HostRuntime) -> Result<(), Fail> {
     let programs = store(rt.alloc(), b"HI.COM", &HELLO)?;
     let machine = machine_with(rt.alloc(), programs, b"", b"")?;
-    let mut copy = machine.copy(rt.alloc())?;
+    let mut copy = machine.duplicate(rt.alloc())?;
     copy.load(b"hi.com", b"")?;
     same(&rt, "the copy", copy.is_loaded(), true);
     same(&rt, "the original", machine.is_loaded(), false);

@@ -51,18 +51,18 @@ pub(crate) fn make_machine(rt: &impl Print, alloc: Global) -> Result<()> {
 
 /// A copy of a machine that has made some steps.
 pub(crate) fn copy_machine(rt: &impl Print, alloc: Global) -> Result<()> {
-    let call = "Machine::copy";
+    let call = "Machine::duplicate";
     let scene = Scene {
         program: &HELLO,
         input: b"in",
         steps: 4,
     };
     let machine = machine_at(alloc, scene)?;
-    let copy = match machine.copy(alloc) {
+    let copy = match machine.duplicate(alloc) {
         Ok(copy) => copy,
         Err(_) => {
             tell_refused(rt, call, is_at(alloc, &machine, scene)?)?;
-            machine.copy(alloc)?
+            machine.duplicate(alloc)?
         }
     };
     tell(

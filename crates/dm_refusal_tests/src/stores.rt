@@ -43,7 +43,7 @@ pub(crate) fn make_store(rt: &impl Print, alloc: Global) -> Result<()> {
             Store::new(alloc, sizes)?
         }
     };
-    println!(rt; "{call}: {} KiB free", store.free())?;
+    println!(rt; "{call}: {} KiB free", store.free_units())?;
     Ok(())
 }
 

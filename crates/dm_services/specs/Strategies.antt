@@ -66,8 +66,8 @@ subfunction_of number =
     if number == 3 then SetLink else Unlisted
 
 -- 58h fails with error 1 in AX, CF = 1: no such subfunction, or no such value in BX. The strategy and memory stay
-abbrev pub unlisted : State → Answer
-unlisted s = answered s (record s.cpu { ax = 1 }) s.memory true
+abbrev pub no_such_value : State → Answer
+no_such_value s = answered s (record s.cpu { ax = 1 }) s.memory true
 
 -- 58h with AL = 0: AX is the strategy's number, CF = 0
 abbrev pub strategy_reported : State → Answer
@@ -76,7 +76,7 @@ strategy_reported s = answered s (record s.cpu { ax = number_of_area s.strategy.
 -- 58h with AL = 1, by the strategy with the number in BX: it becomes the allocation strategy, CF = 0, and AX and memory
 -- stay; error 1, and the strategy stays, if there is none
 abbrev pub set_to : State → Option Strategy → Answer
-set_to s None = unlisted s
+set_to s None = no_such_value s
 set_to s (Some strategy) = answered (record s { strategy = strategy }) s.cpu s.memory false
 
 -- what 58h with AL = 2 returns: AL is 1 if the block list is linked with upper memory, else 0, and CF = 0; after an
@@ -115,7 +115,7 @@ pub record Linking (on : Bool) (s : State) (x : Answer) : Type 0 where
 
 -- 58h with AL = 3, by the link state that BX asks for: error 1, and memory stays, where it is None; else as `Linking`
 abbrev pub SetsLink : Option Bool → State → Answer → Type 0
-SetsLink None s x = x ≡ unlisted s
+SetsLink None s x = x ≡ no_such_value s
 SetsLink (Some on) s x = Linking on s x
 
 -- x is a result that 58h, called from the state s, may have, by the subfunction that AL names
@@ -124,4 +124,4 @@ StrategyCalls s TellStrategy x = x ≡ strategy_reported s
 StrategyCalls s SetStrategy x = x ≡ set_to s (strategy_of s.upper s.cpu.bx)
 StrategyCalls s TellLink x = TellsLink s.upper s x
 StrategyCalls s SetLink x = SetsLink (wanted s.upper s.cpu.bx) s x
-StrategyCalls s Unlisted x = x ≡ unlisted s
+StrategyCalls s Unlisted x = x ≡ no_such_value s

@@ -110,7 +110,7 @@ fn wanted(number: u16, upper: bool) -> Option<bool>
 
 /// Returns from function 58h with error 1 in AX and CF set: no such subfunction, or no such value in BX.
 fn refuse_number(parts: &mut Parts)
-    ensures { parts.new ≡ (Strategies.unlisted parts.old).state }
+    ensures { parts.new ≡ (Strategies.no_such_value parts.old).state }
 {
     parts.cpu.ax = 1;
     answer(parts, true);

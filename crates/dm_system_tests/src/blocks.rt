@@ -144,7 +144,7 @@ fn play(rt: &impl Abort, taken: &mut Taken, step: Step) {
         Step::Resize(name, units, base) => resize(rt, taken, name, units, base),
         Step::Tells(largest, free, fitting) => {
             same(rt, "largest gap", taken.store.largest(), largest);
-            same(rt, "free units", taken.store.free(), free);
+            same(rt, "free units", taken.store.free_units(), free);
             same(
                 rt,
                 "blocks of two units",
@@ -172,13 +172,13 @@ fn a_duplicate_has_blocks_of_its_own(rt: HostRuntime) -> Result<(), Fail> {
     fill(&mut store, second, 7);
     give_back(&mut store, first);
     let mut twin = store.duplicate(rt.alloc())?;
-    same(&rt, "free", (twin.free(), twin.largest()), (14, 10));
+    same(&rt, "free", (twin.free_units(), twin.largest()), (14, 10));
     same(&rt, "bytes", is_sound(&twin, second, 2048, 7), true);
     let third = twin.take(3).ok_or("no room")?;
     same(&rt, "place", place_of(&twin, third), (Some(0), 3072));
     fill(&mut twin, second, 9);
-    same(&rt, "free in the duplicate", twin.free(), 11);
-    same(&rt, "free in the original", store.free(), 14);
+    same(&rt, "free in the duplicate", twin.free_units(), 11);
+    same(&rt, "free in the original", store.free_units(), 14);
     same(
         &rt,
         "bytes of the original",
@@ -207,10 +207,10 @@ fn scratch_bytes_come_as_asked_for(rt: HostRuntime) -> Result<(), Fail> {
         twin.scratch(),
         b"ab".as_slice(),
     );
-    same(&rt, "free in the duplicate", twin.free(), 16);
+    same(&rt, "free in the duplicate", twin.free_units(), 16);
     let second = twin.take(4).ok_or("no room")?;
     same(&rt, "zeros", is_sound(&twin, second, 4096, 0), true);
-    same(&rt, "free then", (twin.free(), store.free()), (12, 12));
+    same(&rt, "free then", (twin.free_units(), store.free_units()), (12, 12));
     Ok(())
 }
 
@@ -304,7 +304,7 @@ fn sizes_have_bounds(rt: HostRuntime) {
     same(&rt, "nothing", made(alloc, 0, 0).is_ok(), true);
     match made(alloc, 512, 15_360) {
         Ok(mut store) => {
-            same(&rt, "free units", store.free(), 23_552);
+            same(&rt, "free units", store.free_units(), 23_552);
             same(&rt, "largest gap", store.largest(), 23_552);
             same(&rt, "pages", store.count_fitting(16), 1472);
             same(&rt, "low bytes", store.low().len(), 0x11_0000);
@@ -324,7 +324,7 @@ fn a_table_has_576_blocks(rt: HostRuntime) -> Result<(), Fail> {
         same(&rt, "a block of no unit", store.take(0).is_some(), true);
     }
     same(&rt, "one more", store.take(0).is_none(), true);
-    same(&rt, "free units", store.free(), 1);
+    same(&rt, "free units", store.free_units(), 1);
     Ok(())
 }
 

@@ -20,7 +20,7 @@ use Rattle.dm_operations.specs.Products.{multiplied, after_division, divided}
 use Rattle.dm_exec.specs.Operation.{operation_of}
 use Rattle.dm_exec.specs.declared.operation.StringOperation.{StringOperation}
 use Rattle.dm_exec.specs.declared.operation.StringOperation.TheVariants as string
-use Rattle.dm_exec.specs.Moves.{moved, exchanged, pointer_loaded, input, move_effect}
+use Rattle.dm_exec.specs.Moves.{moved, exchanged, pointer_loaded, port_input, move_effect}
 use Rattle.dm_exec.specs.Jumps.{jumped, jumped_where, jumped_if, looped, far_jumped, called, far_called, returned, transferred}
 use Rattle.dm_exec.specs.Strings.{once, string_effect}
 use Rattle.dm_exec.specs.Effect.{act, effect}
@@ -74,7 +74,7 @@ string_keeps w g override (Some repeat) operation start = unless_keeps (g.cpu.cx
 -- ---- each instruction
 
 act_keeps : (g : Guest) (p : Prefixes) (start : ℕ) (m : Mnemonic) (a b : Operand) → KeepsOthers g.memory (act g p start (operation_of m) a b).memory (bytes_of (writes_by g p (access_of m) a b))
-unfolding operation_of access_of writes_by move_effect moved exchanged pointer_loaded input stack_effect popped_into flags_popped arithmetic sum_into difference_into compared logic_into tested incremented decremented negated complemented shifted multiplied divided jumped_if looped transferred jumped far_jumped called far_called returned far_returned interrupt_effect interrupt_return push
+unfolding operation_of access_of writes_by move_effect moved exchanged pointer_loaded port_input stack_effect popped_into flags_popped arithmetic sum_into difference_into compared logic_into tested incremented decremented negated complemented shifted multiplied divided jumped_if looped transferred jumped far_jumped called far_called returned far_returned interrupt_effect interrupt_return push
 act_keeps g p start op.Push a b = keeps_push g _
 act_keeps g p start op.Pushf a b = keeps_push g _
 act_keeps g p start op.Call a b = keeps_push g _

@@ -20,7 +20,8 @@ use Rattle.dm_xms.specs.Tables.{Extended}
 use Rattle.dm_xms.specs.Calls.{need, with_slot}
 use Rattle.dm_xms.specs.Blocks.{largest_gap, leaving, allocate}
 use Rattle.dm_xms.specs.Consistent.{handle_at, IsConsistent}
-use Rattle.dm_xms.specs.Coming.{HasNumbers, HasNewBlock, Gives}
+use Rattle.dm_xms.specs.Coming.{HasNewBlock, Gives}
+use Rattle.dm_xms.specs.inner.Coming.{HasNumbers}
 use Rattle.dm_xms.specs.inner.Laws.{BlockComes}
 use Rattle.dm_xms.proofs.Consistent.{set_at, taken_new, not_live, allocated}
 

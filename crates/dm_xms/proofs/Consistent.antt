@@ -18,7 +18,7 @@ use Rattle.dm_space.specs.Unseen.{shows}
 use Rattle.dm_xms.specs.declared.status.Status.{Status}
 use Rattle.dm_xms.specs.declared.tables.Handle.{Handle}
 use Rattle.dm_xms.specs.Tables.{Tables, Extended, extended}
-use Rattle.dm_xms.specs.Calls.{left, need, slot, with_slot}
+use Rattle.dm_xms.specs.Calls.{state_after, need, slot, with_slot}
 use Rattle.dm_xms.specs.declared.status.Status.TheVariants.{LineError, AreaTaken, AreaNotTaken, LineStillOn, NoMemory, NoHandleLeft, UnknownHandle, UnknownSource, PastSource, UnknownDestination, PastDestination, BadLength, NotLocked, Locked, TooManyLocks}
 use Rattle.dm_xms.specs.Area.{take_area, release_area}
 use Rattle.dm_xms.specs.declared.tables.Upper.{Upper}
@@ -148,7 +148,7 @@ turn_consistent x k i new t l u = record {
 -- ---- rows
 
 pub record Keeps {A : Type 0} (x : Extended) (r : Result (A × Extended) Status) : Type 0 where
-  pub kept : IsConsistent (left x r)
+  pub kept : IsConsistent (state_after x r)
 
 if_keeps : {A : Type 0} (x : Extended) (b : Bool) (r s : Result (A × Extended) Status) → Keeps x r → Keeps x s → Keeps x (cond b r s)
 if_keeps x true r s p q = p
@@ -164,7 +164,7 @@ refused x e l = record { kept = l }
 -- ---- rows of the tables alone
 
 pub record KeepsTables {A E : Type 0} (x : Extended) (r : Result (A × Tables) E) : Type 0 where
-  pub kept : IsConsistent (extended (left x.xms r) x.memory)
+  pub kept : IsConsistent (extended (state_after x.xms r) x.memory)
 
 if_tables : {A E : Type 0} (x : Extended) (b : Bool) (r s : Result (A × Tables) E) → KeepsTables x r → KeepsTables x s → KeepsTables x (cond b r s)
 if_tables x true r s p q = p

@@ -13,14 +13,14 @@ use Rattle.dm_xms.specs.declared.tables.Handle.{Handle}
 use Rattle.dm_xms.specs.declared.uppers.UpperRefusal.TheVariants as refusal
 use Rattle.dm_xms.specs.declared.moves.Side.{Side}
 use Rattle.dm_xms.specs.Tables.{Tables, Extended, extended}
-use Rattle.dm_xms.specs.Calls.{left, need, slot}
+use Rattle.dm_xms.specs.Calls.{state_after, need, slot}
 use Rattle.dm_xms.specs.Area.{take_area, release_area}
 use Rattle.dm_xms.specs.Uppers.{at_least_one, largest_upper, lowest_upper, new_upper, begins_at, room, request_upper, release_upper, resize_upper}
 use Rattle.dm_xms.specs.Line.{is_on, switched, enable_globally, disable_globally, enable_locally, disable_locally}
 use Rattle.dm_xms.specs.Moves.{and_then, double_after, described, side, move_between, move_memory}
 use Rattle.dm_xms.specs.Blocks.{allocate, deallocate, lock, unlock, reallocate}
 use Rattle.dm_xms.specs.Consistent.{handle_at}
-use Rattle.dm_xms.specs.Outside.{IsOutside, LeavesOutside}
+use Rattle.dm_xms.specs.inner.Outside.{IsOutside, LeavesOutside}
 use Rattle.dm_xms.specs.inner.Laws.{CallsLeaveOutside}
 use Rattle.dm_space.specs.moves.Spans as regions
 use Rattle.dm_space.proofs.moves.Shapes.{moves_keep}
@@ -125,7 +125,7 @@ no_block (p ∷ ps) (suc i) = no_block ps i
 -- ---- rows
 
 record Leaves {A E : Type 0} (x : Extended) (r : Result (A × Extended) E) : Type 0 where
-  pub kept : LeavesOutside x (left x r)
+  pub kept : LeavesOutside x (state_after x r)
 
 if_leaves : {A E : Type 0} (x : Extended) (b : Bool) (r s : Result (A × Extended) E) → Leaves x r → Leaves x s → Leaves x (cond b r s)
 if_leaves x true r s p q = p
@@ -145,7 +145,7 @@ refused x e = record { kept = leaves_all x }
 -- ---- rows of the tables alone
 
 record LeavesTables {A E : Type 0} (xms : Tables) (r : Result (A × Tables) E) : Type 0 where
-  pub kept : (left xms r).handles ≡ xms.handles
+  pub kept : (state_after xms r).handles ≡ xms.handles
 
 if_tables : {A E : Type 0} (xms : Tables) (b : Bool) (r s : Result (A × Tables) E) → LeavesTables xms r → LeavesTables xms s → LeavesTables xms (cond b r s)
 if_tables xms true r s p q = p
@@ -239,16 +239,16 @@ lock_leaves x n =
     if_leaves x (s.locks == 255) (Err TooManyLocks) _ (refused x TooManyLocks)
     (record { kept = locks_leave x (n - 1) (s.locks + 1) s (slot_at x.xms n s e) }))
 
-unlock_if : (x : Extended) (n : ℕ) (o : Option Handle) → slot x.xms n ≡ o → LeavesOutside x (extended (left x.xms (need o UnknownHandle (λ (s : Handle).
+unlock_if : (x : Extended) (n : ℕ) (o : Option Handle) → slot x.xms n ≡ o → LeavesOutside x (extended (state_after x.xms (need o UnknownHandle (λ (s : Handle).
     cond (s.locks == 0) (Err NotLocked) (Ok (tt {0}, record x.xms { handles = set x.xms.handles (n - 1) (Some (record s { locks = s.locks - 1 })) }))))) x.memory)
 unlock_if x n None e = leaves_all x
 unlock_if x n (Some s) e = either (s.locks == 0)
   where
-    either : (b : Bool) → LeavesOutside x (extended (left x.xms (cond b (Err NotLocked) (Ok (tt {0}, record x.xms { handles = set x.xms.handles (n - 1) (Some (record s { locks = s.locks - 1 })) })))) x.memory)
+    either : (b : Bool) → LeavesOutside x (extended (state_after x.xms (cond b (Err NotLocked) (Ok (tt {0}, record x.xms { handles = set x.xms.handles (n - 1) (Some (record s { locks = s.locks - 1 })) })))) x.memory)
     either true = leaves_all x
     either false = locks_leave x (n - 1) (s.locks - 1) s (slot_at x.xms n s e)
 
-unlock_leaves : (x : Extended) (n : ℕ) → LeavesOutside x (extended (left x.xms (unlock x.xms n)) x.memory)
+unlock_leaves : (x : Extended) (n : ℕ) → LeavesOutside x (extended (state_after x.xms (unlock x.xms n)) x.memory)
 unfolding unlock
 unlock_leaves x n = unlock_if x n (slot x.xms n) refl
 

@@ -6,14 +6,14 @@ use Rattle.dm_xms.specs.declared.tables.Handle.{Handle}
 use Rattle.dm_xms.specs.Tables.{Tables}
 
 -- the result of a call, without the state after it
-abbrev pub answer : {A S E : Type 0} → Result (A × S) E → Result A E
-answer (Ok w) = Ok w.0
-answer (Err e) = Err e
+abbrev pub result_of : {A S E : Type 0} → Result (A × S) E → Result A E
+result_of (Ok w) = Ok w.0
+result_of (Err e) = Err e
 
 -- the state after a call from x; x itself if the call fails
-abbrev pub left : {A S E : Type 0} → S → Result (A × S) E → S
-left x (Ok w) = w.1
-left x (Err e) = x
+abbrev pub state_after : {A S E : Type 0} → S → Result (A × S) E → S
+state_after x (Ok w) = w.1
+state_after x (Err e) = x
 
 -- how a call goes on with a value that it needs, such as a handle's entry: f of the value, or the error e where there
 -- is none

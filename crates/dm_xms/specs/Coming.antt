@@ -1,6 +1,6 @@
 -- That 09h gives each block which a gap of the pool holds, as long as a handle is free (the law `BlockComes` of
 -- dm_drivers).
-use Rattle.std.specs.Prelude.{ℕ, ◌+◌, ◌<◌, ◌≤◌, ◌≡◌, ◌⊎◌, count_by, is_some, is_none, position, Some, None, Result, Ok, Err}
+use Rattle.std.specs.Prelude.{ℕ, ◌<◌, ◌≡◌, ◌⊎◌, is_none, position, Some, None, Result, Ok, Err}
 use Rattle.dm_pool.specs.Blocks.{IsLive, zeros}
 use Rattle.dm_space.specs.Memory.{page_bytes}
 use Rattle.dm_xms.specs.declared.status.Status.{Status}
@@ -9,10 +9,6 @@ use Rattle.dm_xms.specs.Tables.{Extended}
 use Rattle.dm_xms.specs.Consistent.{IsConsistent}
 use Rattle.dm_xms.specs.Calls.{slot}
 use Rattle.dm_xms.specs.Blocks.{largest_gap}
-
--- at most 512 blocks of the pool belong to no handle: so of its 576 numbers 64 are left for the blocks of handles
-abbrev pub HasNumbers : Extended → Type 0
-HasNumbers x = count_by is_some x.memory.blocks.places ≤ count_by is_some x.xms.handles + 512
 
 -- from x to y the handle has come into use: its block of so many KiB is not in the pool of x, has zeros alone and no
 -- lock. Tables and memory are consistent in y

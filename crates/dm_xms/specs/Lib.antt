@@ -7,6 +7,5 @@ pub mod Blocks
 pub mod Uppers
 pub mod Moves
 pub mod Consistent
-pub mod Outside
 pub mod Coming
 pub mod inner

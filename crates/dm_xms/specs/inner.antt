@@ -4,3 +4,5 @@ pub mod Tables
 pub mod Walks
 pub mod Laws
 pub mod Consistent
+pub mod Outside
+pub mod Coming

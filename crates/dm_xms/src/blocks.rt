@@ -3,7 +3,7 @@
 
 ghost use Rattle.std.specs.Prelude.{◌≡◌};
 ghost use Rattle.dm_xms.specs.Tables.{extended};
-ghost use Rattle.dm_xms.specs.Calls.{answer, left};
+ghost use Rattle.dm_xms.specs.Calls.{result_of, state_after};
 ghost use Rattle.dm_xms.specs.Consistent.{IsConsistent};
 ghost use Rattle.dm_xms.specs.Blocks.{begin_address, free_memory, allocate, deallocate, lock, unlock, information, reallocate};
 
@@ -74,7 +74,7 @@ impl Xms {
         }
         Ok(FreeMemory {
             largest: largest.min(0xFFFF) as u16,
-            total: space.free().min(0xFFFF) as u16,
+            total: space.free_units().min(0xFFFF) as u16,
         })
     }
 
@@ -87,8 +87,8 @@ impl Xms {
     /// machine it always has one (`block_comes` of `dm_drivers`). Then nothing has changed.
     #[tactic(auto, unfolding(crate::specs::Blocks::allocate))]
     pub fn allocate(&mut self, space: &mut Space, kib: u16) -> Result<u16, Status>
-        ensures answer { result ≡ answer (allocate (extended self.old space.old.memory) kib) }
-        ensures left { extended self.new space.new.memory ≡ left (extended self.old space.old.memory) (allocate (extended self.old space.old.memory) kib) }
+        ensures answer { result ≡ result_of (allocate (extended self.old space.old.memory) kib) }
+        ensures left { extended self.new space.new.memory ≡ state_after (extended self.old space.old.memory) (allocate (extended self.old space.old.memory) kib) }
         ensures kept { space.new ≡ record space.old { memory = space.new.memory } }
     {
         let Some(at) = self.free_slot() else {
@@ -110,8 +110,8 @@ impl Xms {
     #[tactic(auto, unfolding(crate::specs::Blocks::deallocate))]
     pub fn deallocate(&mut self, space: &mut Space, handle: u16) -> Result<(), Status>
         requires { IsConsistent (extended self.old space.old.memory) }
-        ensures answer { result ≡ answer (deallocate (extended self.old space.old.memory) handle) }
-        ensures left { extended self.new space.new.memory ≡ left (extended self.old space.old.memory) (deallocate (extended self.old space.old.memory) handle) }
+        ensures answer { result ≡ result_of (deallocate (extended self.old space.old.memory) handle) }
+        ensures left { extended self.new space.new.memory ≡ state_after (extended self.old space.old.memory) (deallocate (extended self.old space.old.memory) handle) }
         ensures kept { space.new ≡ record space.old { memory = space.new.memory } }
     {
         let Some(slot) = self.handle(handle) else {
@@ -133,8 +133,8 @@ impl Xms {
     /// In this order: `UnknownHandle`; `TooManyLocks` where it has 255 locks already. Then nothing has changed.
     #[tactic(auto, unfolding(crate::specs::Blocks::lock))]
     pub fn lock(&mut self, space: &Space, handle: u16) -> Result<usize, Status>
-        ensures answer { result ≡ answer (lock (extended self.old space.now.memory) handle) }
-        ensures left { extended self.new space.now.memory ≡ left (extended self.old space.now.memory) (lock (extended self.old space.now.memory) handle) }
+        ensures answer { result ≡ result_of (lock (extended self.old space.now.memory) handle) }
+        ensures left { extended self.new space.now.memory ≡ state_after (extended self.old space.now.memory) (lock (extended self.old space.now.memory) handle) }
     {
         let Some(slot) = self.handle(handle) else {
             return Err(Status::UnknownHandle);
@@ -154,8 +154,8 @@ impl Xms {
     /// In this order: `UnknownHandle`; `NotLocked`. Then nothing has changed.
     #[tactic(auto, unfolding(crate::specs::Blocks::unlock))]
     pub fn unlock(&mut self, handle: u16) -> Result<(), Status>
-        ensures answer { result ≡ answer (unlock self.old handle) }
-        ensures left { self.new ≡ left self.old (unlock self.old handle) }
+        ensures answer { result ≡ result_of (unlock self.old handle) }
+        ensures left { self.new ≡ state_after self.old (unlock self.old handle) }
     {
         let Some(slot) = self.handle(handle) else {
             return Err(Status::UnknownHandle);
@@ -197,8 +197,8 @@ impl Xms {
     #[tactic(auto, unfolding(crate::specs::Blocks::reallocate))]
     pub fn reallocate(&mut self, space: &mut Space, handle: u16, kib: u16) -> Result<(), Status>
         requires { IsConsistent (extended self.old space.old.memory) }
-        ensures answer { result ≡ answer (reallocate (extended self.old space.old.memory) handle kib) }
-        ensures left { extended self.new space.new.memory ≡ left (extended self.old space.old.memory) (reallocate (extended self.old space.old.memory) handle kib) }
+        ensures answer { result ≡ result_of (reallocate (extended self.old space.old.memory) handle kib) }
+        ensures left { extended self.new space.new.memory ≡ state_after (extended self.old space.old.memory) (reallocate (extended self.old space.old.memory) handle kib) }
         ensures kept { space.new ≡ record space.old { memory = space.new.memory } }
     {
         let Some(slot) = self.handle(handle) else {

@@ -3,7 +3,7 @@
 
 ghost use Rattle.std.specs.Prelude.{◌≡◌};
 ghost use Rattle.dm_xms.specs.Tables.{extended};
-ghost use Rattle.dm_xms.specs.Calls.{answer, left};
+ghost use Rattle.dm_xms.specs.Calls.{result_of, state_after};
 ghost use Rattle.dm_xms.specs.Line.{is_on, switched, enable_globally, disable_globally, enable_locally, disable_locally};
 
 use crate::status::Status;
@@ -65,8 +65,8 @@ impl Xms {
     /// `LineError` where the count is FFFFh, and nothing has changed.
     #[tactic(auto, unfolding(crate::specs::Line::enable_locally))]
     pub fn enable_locally(&mut self, space: &mut Space) -> Result<(), Status>
-        ensures answer { result ≡ answer (enable_locally (extended self.old space.old.memory)) }
-        ensures left { extended self.new space.new.memory ≡ left (extended self.old space.old.memory) (enable_locally (extended self.old space.old.memory)) }
+        ensures answer { result ≡ result_of (enable_locally (extended self.old space.old.memory)) }
+        ensures left { extended self.new space.new.memory ≡ state_after (extended self.old space.old.memory) (enable_locally (extended self.old space.old.memory)) }
         ensures kept { space.new ≡ record space.old { memory = space.new.memory } }
     {
         let global = self.global;

@@ -2,7 +2,7 @@
 
 ghost use Rattle.std.specs.Prelude.{◌≡◌, ◌<◌, ◌≤◌, ◌+◌, ◌^◌, IfOk, OnErr};
 ghost use Rattle.dm_xms.specs.Tables.{extended};
-ghost use Rattle.dm_xms.specs.Calls.{answer, left};
+ghost use Rattle.dm_xms.specs.Calls.{result_of, state_after};
 ghost use Rattle.dm_xms.specs.Consistent.{IsConsistent};
 ghost use Rattle.dm_xms.specs.inner.Sides.{is_single, Reaches};
 ghost use Rattle.dm_xms.specs.Moves.{double_after, described, side, move_between, move_memory};
@@ -88,8 +88,8 @@ fn move_between(
     requires len { len < 2 ^ 32 }
     requires from { Reaches space.old.memory from.now }
     requires to { Reaches space.old.memory to.now }
-    ensures answer { result ≡ answer (move_between (extended xms.now space.old.memory) len from.now to.now) }
-    ensures left { extended xms.now space.new.memory ≡ left (extended xms.now space.old.memory) (move_between (extended xms.now space.old.memory) len from.now to.now) }
+    ensures answer { result ≡ result_of (move_between (extended xms.now space.old.memory) len from.now to.now) }
+    ensures left { extended xms.now space.new.memory ≡ state_after (extended xms.now space.old.memory) (move_between (extended xms.now space.old.memory) len from.now to.now) }
     ensures refused { OnErr result (space.new ≡ space.old) }
 {
     if from.end < from.region.at(len) || to.end < to.region.at(len) {
@@ -121,7 +121,7 @@ impl Xms {
         let offset = described.offset as usize;
         if described.handle == 0 {
             let start = offset / 0x1_0000 * 16 + offset % 0x1_0000;
-            let region = Span::linear(start);
+            let region = Span::of_linear(start);
             return Ok(Side { region, end: END });
         }
         let Some(slot) = self.entry(described.handle) else {
@@ -131,7 +131,7 @@ impl Xms {
         if offset > end {
             return Err(past);
         }
-        let region = Span::block(&slot.block, offset);
+        let region = Span::of_block(&slot.block, offset);
         Ok(Side { region, end })
     }
 
@@ -149,8 +149,8 @@ impl Xms {
     #[tactic(auto, unfolding(crate::specs::Moves::move_memory))]
     pub fn move_memory(&self, space: &mut Space, segment: u16, offset: u16) -> Result<(), Status>
         requires { IsConsistent (extended self.now space.old.memory) }
-        ensures answer { result ≡ answer (move_memory (extended self.now space.old.memory) segment offset) }
-        ensures left { extended self.now space.new.memory ≡ left (extended self.now space.old.memory) (move_memory (extended self.now space.old.memory) segment offset) }
+        ensures answer { result ≡ result_of (move_memory (extended self.now space.old.memory) segment offset) }
+        ensures left { extended self.now space.new.memory ≡ state_after (extended self.now space.old.memory) (move_memory (extended self.now space.old.memory) segment offset) }
         ensures refused { OnErr result (space.new ≡ space.old) }
     {
         let len = double_after(space, segment, offset, 0) as usize;

@@ -4,7 +4,7 @@
 ghost use Rattle.std.specs.Prelude.{◌≡◌, ◌≤◌, ◌<◌, ◌+◌, ◌-◌, length, count_by, position, slice_get, slice_set, IfSome};
 ghost use Rattle.dm_pool.specs.Gaps.{first_fit, largest};
 ghost use Rattle.dm_xms.specs.inner.Tables.{Rise};
-ghost use Rattle.dm_xms.specs.Calls.{answer, left};
+ghost use Rattle.dm_xms.specs.Calls.{result_of, state_after};
 ghost use Rattle.dm_xms.specs.Uppers.{at_least_one, is_below, begins_at, begin_or_end, request_upper, release_upper, resize_upper, largest_upper, lowest_upper, code_of};
 ghost use Rattle.dm_xms.specs.inner.Walks.{gaps_between, segment_of};
 
@@ -150,8 +150,8 @@ impl Xms {
     /// of the largest gap, where no gap holds it. Then nothing has changed.
     #[tactic(auto, unfolding(crate::specs::Uppers::request_upper))]
     pub fn request_upper(&mut self, paragraphs: u16) -> Result<Upper, UpperRefusal>
-        ensures answer { result ≡ answer (request_upper self.old paragraphs) }
-        ensures left { self.new ≡ left self.old (request_upper self.old paragraphs) }
+        ensures answer { result ≡ result_of (request_upper self.old paragraphs) }
+        ensures left { self.new ≡ state_after self.old (request_upper self.old paragraphs) }
     {
         let largest = self.largest_upper();
         if self.uppers.len() == MOST || largest == 0 {
@@ -177,8 +177,8 @@ impl Xms {
     /// `Unknown` where none begins there, and nothing has changed.
     #[tactic(auto, unfolding(crate::specs::Uppers::release_upper))]
     pub fn release_upper(&mut self, segment: u16) -> Result<(), UpperRefusal>
-        ensures answer { result ≡ answer (release_upper self.old segment) }
-        ensures left { self.new ≡ left self.old (release_upper self.old segment) }
+        ensures answer { result ≡ result_of (release_upper self.old segment) }
+        ensures left { self.new ≡ state_after self.old (release_upper self.old segment) }
     {
         let Some(at) = first_at(self.uppers.as_slice(), segment) else {
             return Err(UpperRefusal::Unknown);
@@ -208,8 +208,8 @@ impl Xms {
     /// it can have there. Then nothing has changed.
     #[tactic(auto, unfolding(crate::specs::Uppers::resize_upper))]
     pub fn resize_upper(&mut self, segment: u16, paragraphs: u16) -> Result<(), UpperRefusal>
-        ensures answer { result ≡ answer (resize_upper self.old segment paragraphs) }
-        ensures left { self.new ≡ left self.old (resize_upper self.old segment paragraphs) }
+        ensures answer { result ≡ result_of (resize_upper self.old segment paragraphs) }
+        ensures left { self.new ≡ state_after self.old (resize_upper self.old segment paragraphs) }
     {
         let Some(at) = first_at(self.uppers.as_slice(), segment) else {
             return Err(UpperRefusal::Unknown);

@@ -5,7 +5,7 @@ use Rattle.dm_ins.specs.declared.operand.Width.{Width}
 use Rattle.dm_ins.specs.declared.operand.Width.TheVariants as width
 use Rattle.dm_ins.specs.declared.action.Mnemonic.{Mnemonic}
 use Rattle.dm_ins.specs.declared.action.Mnemonic.TheVariants as op
-use Rattle.dm_decode.specs.Pieces.{name, space}
+use Rattle.dm_decode.specs.Pieces.{name, space_sign}
 use Rattle.dm_decode.specs.Texts as text
 use Rattle.dm_decode.specs.declared.words.written.Size.{Size}
 use Rattle.dm_decode.specs.declared.words.written.Size.TheVariants.{Absent}
@@ -19,7 +19,7 @@ jump_shown op.Call s = refl
 jump_shown op.Jmp s = refl
 jump_shown _ s = refl
 
-width_shown : (g : Bool) (v : Width) → (if g then [] else name (text.width_word v) ∷ space ∷ []) ≡ word_pieces (if g then Absent else width_word v)
+width_shown : (g : Bool) (v : Width) → (if g then [] else name (text.width_word v) ∷ space_sign ∷ []) ≡ word_pieces (if g then Absent else width_word v)
 width_shown true v = refl
 width_shown false width.Byte = refl
 width_shown false width.Word = refl

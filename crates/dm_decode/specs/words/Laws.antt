@@ -6,7 +6,7 @@ use Rattle.dm_ins.specs.declared.action.Action.{Action}
 use Rattle.dm_ins.specs.declared.ins.Ins.{Ins}
 use Rattle.dm_ins.specs.Spelling.{SpellsAction}
 use Rattle.dm_ins.specs.Preferred.{IsPreferred}
-use Rattle.dm_decode.specs.Pieces.{Piece, name, space}
+use Rattle.dm_decode.specs.Pieces.{Piece, name, space_sign}
 use Rattle.dm_decode.specs.Texts.{size_pieces}
 use Rattle.dm_decode.specs.declared.words.written.Size.{Size}
 use Rattle.dm_decode.specs.declared.words.written.Size.TheVariants.{Absent, Byte, Word, Near}
@@ -28,9 +28,9 @@ OwnWordsAreRead = (a : Action) (next : ℕ) (x : List ℕ) → next < 2 ^ 16 →
 -- a size word as the text of an instruction has it, with a space after it
 abbrev pub word_pieces : Size → List Piece
 word_pieces Absent = []
-word_pieces Byte = name (codes "BYTE") ∷ space ∷ []
-word_pieces Word = name (codes "WORD") ∷ space ∷ []
-word_pieces Near = name (codes "NEAR") ∷ space ∷ []
+word_pieces Byte = name (codes "BYTE") ∷ space_sign ∷ []
+word_pieces Word = name (codes "WORD") ∷ space_sign ∷ []
+word_pieces Near = name (codes "NEAR") ∷ space_sign ∷ []
 
 -- the word that has to be written before a memory operand is the one that the text of the instruction has there
 abbrev pub SizesAreShown : Type 0

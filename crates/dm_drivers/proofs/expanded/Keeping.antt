@@ -6,8 +6,8 @@ use Rattle.dm_cpu.specs.Cpu.{byte_of}
 use Rattle.dm_ems.specs.declared.status.Status.TheVariants.{UnknownHandle}
 use Rattle.dm_ems.specs.declared.tables.Handle.{Handle}
 use Rattle.dm_ems.specs.Consistent.{IsConsistent}
-use Rattle.dm_ems.specs.Outside.{LeavesOutside}
-use Rattle.dm_ems.specs.Calls.{slot, left, need}
+use Rattle.dm_ems.specs.inner.Outside.{LeavesOutside}
+use Rattle.dm_ems.specs.Calls.{slot, state_after, need}
 use Rattle.dm_ems.specs.Names as names
 use Rattle.dm_ems.specs.Names.{writing}
 use Rattle.dm_ems.proofs.Keeping.{calls_keep, writes_keep}
@@ -40,7 +40,7 @@ writing_keeps c cpu s o bytes =
     let shape = bytes_shaped c.x.memory s o bytes in
     record { consistency = writes_keep c.x _ shape; outside = leaves_shaped c.x _ shape }
 
-told_keeps : (c : Caller) (cpu : Cpu) (o : Option Handle) (s p : ℕ) → Keeps c (record { cpu = cpu; x = left c.x (need o UnknownHandle (λ (h : Handle). Ok (tt {0}, writing c.x s p h.name))) })
+told_keeps : (c : Caller) (cpu : Cpu) (o : Option Handle) (s p : ℕ) → Keeps c (record { cpu = cpu; x = state_after c.x (need o UnknownHandle (λ (h : Handle). Ok (tt {0}, writing c.x s p h.name))) })
 told_keeps c cpu None s p = nothing c cpu
 told_keeps c cpu (Some h) s p = writing_keeps c cpu s p h.name
 

@@ -8,7 +8,7 @@ use Rattle.dm_xms.specs.declared.uppers.UpperRefusal.TheVariants as refusal
 use Rattle.dm_xms.specs.Uppers.{request_upper, release_upper, resize_upper}
 use Rattle.dm_xms.specs.Tables.{Extended}
 use Rattle.dm_xms.specs.Consistent.{IsConsistent}
-use Rattle.dm_xms.specs.Outside.{LeavesOutside}
+use Rattle.dm_xms.specs.inner.Outside.{LeavesOutside}
 use Rattle.dm_xms.proofs.Consistent.{calls_keep}
 use Rattle.dm_xms.proofs.Leaving.{calls_leave, leaves_all}
 use Rattle.dm_drivers.specs.extended.Caller.{Caller}

@@ -8,7 +8,7 @@ use Rattle.dm_cpu.specs.Cpu.{with_byte}
 use Rattle.dm_ems.specs.declared.status.Status.{Status}
 use Rattle.dm_ems.specs.Status.{code_of}
 use Rattle.dm_ems.specs.Tables.{Tables, Expanded, expanded}
-use Rattle.dm_ems.specs.Calls.{answer, left}
+use Rattle.dm_ems.specs.Calls.{result_of, state_after}
 
 -- the registers of the program that calls, the tables of the driver, and the memory
 pub record Caller : Type 0 where
@@ -50,11 +50,11 @@ settled_with_status cpu (Err e) set = refused cpu e
 -- the state after a call: registers as in `settled`, and the tables and memory that the call leaves, which an error
 -- does not change
 abbrev pub after_call : {A : Type 0} → Caller → Result (A × Expanded) Status → (A → Cpu) → Caller
-after_call c r set = record { cpu = settled c.cpu (answer r) set; x = left c.x r }
+after_call c r set = record { cpu = settled c.cpu (result_of r) set; x = state_after c.x r }
 
 -- the same with registers as in `settled_with_status`
 abbrev pub after_call_with_status : {A : Type 0} → Caller → Result (A × Expanded) Status → (A → Cpu) → Caller
-after_call_with_status c r set = record { cpu = settled_with_status c.cpu (answer r) set; x = left c.x r }
+after_call_with_status c r set = record { cpu = settled_with_status c.cpu (result_of r) set; x = state_after c.x r }
 
 -- the state after a list is written, which cannot fail: `set` of its count, AH is 0, and the tables and memory with the
 -- list

@@ -8,7 +8,7 @@ use Rattle.dm_cpu.specs.Cpu.{with_byte}
 use Rattle.dm_xms.specs.declared.status.Status.{Status}
 use Rattle.dm_xms.specs.Status.{code_of}
 use Rattle.dm_xms.specs.Tables.{Tables, Extended, extended}
-use Rattle.dm_xms.specs.Calls.{answer, left}
+use Rattle.dm_xms.specs.Calls.{result_of, state_after}
 
 -- the registers of the program that calls, the tables of the driver, and the memory
 pub record Caller : Type 0 where
@@ -40,12 +40,12 @@ settled cpu (Err e) set = refused cpu (code_of e)
 -- the state after a call: registers as in `settled`, and the tables and memory that the call leaves, which an error
 -- does not change
 abbrev pub after_call : {A : Type 0} → Caller → Result (A × Extended) Status → (A → Cpu) → Caller
-after_call c r set = record { cpu = settled c.cpu (answer r) set; x = left c.x r }
+after_call c r set = record { cpu = settled c.cpu (result_of r) set; x = state_after c.x r }
 
 -- the state after a call that changes the tables but not memory: registers as in `settled`, and the tables that the
 -- call leaves
 abbrev pub after_tables : {A : Type 0} → Caller → Result (A × Tables) Status → (A → Cpu) → Caller
-after_tables c r set = record { cpu = settled c.cpu (answer r) set; x = extended (left c.x.xms r) c.x.memory }
+after_tables c r set = record { cpu = settled c.cpu (result_of r) set; x = extended (state_after c.x.xms r) c.x.memory }
 
 -- the state after a call that may change tables and memory even where it returns an error (04h and 06h): registers as
 -- in `settled`, and the tables and memory that the call leaves

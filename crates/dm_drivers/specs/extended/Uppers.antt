@@ -6,7 +6,7 @@ use Rattle.dm_cpu.specs.declared.cpu.Cpu.{Cpu}
 use Rattle.dm_xms.specs.declared.uppers.UpperRefusal.{UpperRefusal}
 use Rattle.dm_xms.specs.declared.uppers.UpperRefusal.TheVariants as refusal
 use Rattle.dm_xms.specs.Tables.{Tables, extended}
-use Rattle.dm_xms.specs.Calls.{answer, left}
+use Rattle.dm_xms.specs.Calls.{result_of, state_after}
 use Rattle.dm_xms.specs.Uppers.{code_of}
 use Rattle.dm_drivers.specs.extended.Caller.{Caller, succeeded, refused}
 
@@ -25,4 +25,4 @@ settled cpu (Err e) set = refused (with_room cpu e) (code_of e)
 
 -- the state after a call on upper memory blocks, which may change the tables but not memory
 abbrev pub after_call : {A : Type 0} → Caller → Result (A × Tables) UpperRefusal → (A → Cpu) → Caller
-after_call c r set = record { cpu = settled c.cpu (answer r) set; x = extended (left c.x.xms r) c.x.memory }
+after_call c r set = record { cpu = settled c.cpu (result_of r) set; x = extended (state_after c.x.xms r) c.x.memory }

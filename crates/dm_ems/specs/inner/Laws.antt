@@ -7,10 +7,11 @@ use Rattle.dm_pool.specs.Blocks.{no_blocks}
 use Rattle.dm_space.specs.Memory.{Memory, of_ram}
 use Rattle.dm_space.specs.Places.{IsShaped}
 use Rattle.dm_ems.specs.Tables.{Expanded, expanded, new_tables, appended_page, cut}
-use Rattle.dm_ems.specs.Consistent.{IsUsed, IsConsistent, HasNumbers}
+use Rattle.dm_ems.specs.Consistent.{IsUsed, IsConsistent}
+use Rattle.dm_ems.specs.inner.Consistent.{HasNumbers}
 use Rattle.dm_ems.specs.Coming.{HasPages}
-use Rattle.dm_ems.specs.Outside.{LeavesOutside}
-use Rattle.dm_ems.specs.Calls.{left, with_memory}
+use Rattle.dm_ems.specs.inner.Outside.{LeavesOutside}
+use Rattle.dm_ems.specs.Calls.{state_after, with_memory}
 use Rattle.dm_ems.specs.Handles.{allocate, deallocate}
 use Rattle.dm_ems.specs.Maps.{map_page, save_map, restore_map}
 use Rattle.dm_ems.specs.Names.{set_name}
@@ -23,12 +24,12 @@ StartIsConsistent = (total units : ℕ) (low : List ℕ) → total ≤ 512 → I
 -- each of these calls leaves tables and memory consistent if they are so before it, and so do the two steps of
 -- reallocation (51h), `appended_page` for a handle in use where the machine has one more page, and `cut`
 pub record CallsKeepConsistency : Type 0 where
-  pub allocating : (x : Expanded) (n : ℕ) → IsConsistent x → IsConsistent (left x (allocate x n))
-  pub deallocating : (x : Expanded) (handle : ℕ) → IsConsistent x → IsConsistent (left x (deallocate x handle))
-  pub mapping : (x : Expanded) (window page handle : ℕ) → IsConsistent x → IsConsistent (left x (map_page x window page handle))
-  pub saving : (x : Expanded) (handle : ℕ) → IsConsistent x → IsConsistent (left x (save_map x handle))
-  pub restoring : (x : Expanded) (handle : ℕ) → IsConsistent x → IsConsistent (left x (restore_map x handle))
-  pub naming : (x : Expanded) (handle segment offset : ℕ) → IsConsistent x → IsConsistent (left x (set_name x handle segment offset))
+  pub allocating : (x : Expanded) (n : ℕ) → IsConsistent x → IsConsistent (state_after x (allocate x n))
+  pub deallocating : (x : Expanded) (handle : ℕ) → IsConsistent x → IsConsistent (state_after x (deallocate x handle))
+  pub mapping : (x : Expanded) (window page handle : ℕ) → IsConsistent x → IsConsistent (state_after x (map_page x window page handle))
+  pub saving : (x : Expanded) (handle : ℕ) → IsConsistent x → IsConsistent (state_after x (save_map x handle))
+  pub restoring : (x : Expanded) (handle : ℕ) → IsConsistent x → IsConsistent (state_after x (restore_map x handle))
+  pub naming : (x : Expanded) (handle segment offset : ℕ) → IsConsistent x → IsConsistent (state_after x (set_name x handle segment offset))
   pub appending : (x : Expanded) (handle : ℕ) → IsUsed x.ems.handles handle → length x.ems.pages < x.ems.total → IsConsistent x → IsConsistent (appended_page x handle)
   pub cutting : (x : Expanded) (handle count : ℕ) → IsConsistent x → IsConsistent (cut x handle count)
 
@@ -40,12 +41,12 @@ WritesKeepConsistency = (x : Expanded) (m : Memory) → IsShaped x.memory m → 
 -- each of these calls, the two steps of reallocation, and a program's write keep the blocks that are not pages, their
 -- sizes, and A20
 pub record CallsLeaveOutside : Type 0 where
-  pub allocating : (x : Expanded) (n : ℕ) → LeavesOutside x (left x (allocate x n))
-  pub deallocating : (x : Expanded) (handle : ℕ) → LeavesOutside x (left x (deallocate x handle))
-  pub mapping : (x : Expanded) (window page handle : ℕ) → LeavesOutside x (left x (map_page x window page handle))
-  pub saving : (x : Expanded) (handle : ℕ) → LeavesOutside x (left x (save_map x handle))
-  pub restoring : (x : Expanded) (handle : ℕ) → LeavesOutside x (left x (restore_map x handle))
-  pub naming : (x : Expanded) (handle segment offset : ℕ) → LeavesOutside x (left x (set_name x handle segment offset))
+  pub allocating : (x : Expanded) (n : ℕ) → LeavesOutside x (state_after x (allocate x n))
+  pub deallocating : (x : Expanded) (handle : ℕ) → LeavesOutside x (state_after x (deallocate x handle))
+  pub mapping : (x : Expanded) (window page handle : ℕ) → LeavesOutside x (state_after x (map_page x window page handle))
+  pub saving : (x : Expanded) (handle : ℕ) → LeavesOutside x (state_after x (save_map x handle))
+  pub restoring : (x : Expanded) (handle : ℕ) → LeavesOutside x (state_after x (restore_map x handle))
+  pub naming : (x : Expanded) (handle segment offset : ℕ) → LeavesOutside x (state_after x (set_name x handle segment offset))
   pub appending : (x : Expanded) (handle : ℕ) → LeavesOutside x (appended_page x handle)
   pub cutting : (x : Expanded) (handle count : ℕ) → LeavesOutside x (cut x handle count)
   pub writing : (x : Expanded) (m : Memory) → IsShaped x.memory m → LeavesOutside x (with_memory x m)

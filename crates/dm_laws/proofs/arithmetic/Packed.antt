@@ -1,7 +1,7 @@
 -- Sums and differences of packed digits.
 use Rattle.std.proofs.Common.{Bool, ◌≡◌, ℕ, ◌+◌, ◌-◌, ◌*◌, ◌/◌, ◌%◌, ◌<◌, ◌≤◌, true, false, ◌||◌, MatchBool, if◌then◌else◌, nat_le, nat_lt, sym, ◌∙◌, ap, subst, arith}
 use Rattle.std.specs.Int.{from_bool}
-use Rattle.dm_alu.specs.Adjustments.{adjusted_value, flags_after_adjustment, high, low, word_of_halves}
+use Rattle.dm_alu.specs.Adjustments.{adjusted_value, flags_after_adjustment, ah_of, al_of, word_of_halves}
 use Rattle.dm_alu.specs.Sums.{difference_value, flags_after_difference, flags_after_sum, sum_value}
 use Rattle.dm_laws.specs.arithmetic.Decimal.{IsPacked, PackedDigitsAdd, PackedDigitsSubtract, packed}
 use Rattle.dm_laws.proofs.arithmetic.Tests.{bit-below, low-of, test_le, test_lt}
@@ -48,15 +48,15 @@ module _ (a b : ℕ) (carry : Bool) (x : IsPacked a) (y : IsPacked b) where
 pub packed_add : PackedDigitsAdd
 unfolding adjusted_value flags_after_adjustment sum_value flags_after_sum daa
 packed_add x b carry word a d =
-    let s : ℕ = (low x.ax + b + from_bool carry) % 256 in
-    let l : ℕ = low (word_of_halves (high x.ax) s) in
+    let s : ℕ = (al_of x.ax + b + from_bool carry) % 256 in
+    let l : ℕ = al_of (word_of_halves (ah_of x.ax) s) in
     let at : l ≡ s = omega arith in
-    let r = packed-sum (low x.ax) b carry a d l at in
+    let r = packed-sum (al_of x.ax) b carry a d l at in
     let F : ℕ → Type 0 = IsPacked in
-    let v = low-of (high (word_of_halves (high x.ax) s)) (l + ((if nat_lt 9 (l % 16) || nat_le 16 (low x.ax % 16 + b % 16 + from_bool carry) then 6 else 0) + (if nat_lt 0x99 l || nat_le 256 (low x.ax + b + from_bool carry) then 0x60 else 0))) in
+    let v = low-of (ah_of (word_of_halves (ah_of x.ax) s)) (l + ((if nat_lt 9 (l % 16) || nat_le 16 (al_of x.ax % 16 + b % 16 + from_bool carry) then 6 else 0) + (if nat_lt 0x99 l || nat_le 256 (al_of x.ax + b + from_bool carry) then 0x60 else 0))) in
     record {
       digits = subst F (sym v) r.0;
-      sum = ap (λ z. packed z + 100 * from_bool (nat_lt 0x99 l || nat_le 256 (low x.ax + b + from_bool carry))) v ∙ r.1;
+      sum = ap (λ z. packed z + 100 * from_bool (nat_lt 0x99 l || nat_le 256 (al_of x.ax + b + from_bool carry))) v ∙ r.1;
       rest = omega arith;
     }
 
@@ -102,12 +102,12 @@ module _ (a b : ℕ) (borrow : Bool) (x : IsPacked a) (y : IsPacked b) where
 pub packed_subtract : PackedDigitsSubtract
 unfolding adjusted_value flags_after_adjustment difference_value flags_after_difference das
 packed_subtract x b borrow word a d =
-    let s : ℕ = (low x.ax + 256 - (b + from_bool borrow)) % 256 in
-    let l : ℕ = low (word_of_halves (high x.ax) s) in
+    let s : ℕ = (al_of x.ax + 256 - (b + from_bool borrow)) % 256 in
+    let l : ℕ = al_of (word_of_halves (ah_of x.ax) s) in
     let at : l ≡ s = omega arith in
-    let r = packed-difference (low x.ax) b borrow a d l at in
+    let r = packed-difference (al_of x.ax) b borrow a d l at in
     let F : ℕ → Type 0 = IsPacked in
-    let v = low-of (high (word_of_halves (high x.ax) s)) (l + 256 - ((if nat_lt 9 (l % 16) || nat_lt (low x.ax % 16) (b % 16 + from_bool borrow) then 6 else 0) + (if nat_lt 0x99 l || nat_lt (low x.ax) (b + from_bool borrow) then 0x60 else 0))) in
+    let v = low-of (ah_of (word_of_halves (ah_of x.ax) s)) (l + 256 - ((if nat_lt 9 (l % 16) || nat_lt (al_of x.ax % 16) (b % 16 + from_bool borrow) then 6 else 0) + (if nat_lt 0x99 l || nat_lt (al_of x.ax) (b + from_bool borrow) then 0x60 else 0))) in
     record {
       digits = subst F (sym v) r.0;
       difference = ap (λ z. packed z + (packed b + from_bool borrow)) v ∙ r.1;

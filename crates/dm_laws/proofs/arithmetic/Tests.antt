@@ -2,7 +2,7 @@
 use Rattle.std.proofs.Common.{Bool, ◌≡◌, ℕ, ◌%◌, ◌<◌, ◌≤◌, true, false, MatchBool, nat_le, nat_lt, refl, arith}
 use Rattle.std.proofs.lemmas.Bool.Decides.{nat_tests}
 use Rattle.std.specs.Int.{from_bool}
-use Rattle.dm_alu.specs.Adjustments.{high, low, word_of_halves}
+use Rattle.dm_alu.specs.Adjustments.{ah_of, al_of, word_of_halves}
 
 less : (x y : ℕ) (b : Bool) → nat_lt x y ≡ b → MatchBool b (x < y) (y ≤ x)
 less x y true e = grind (arith, nat_tests)
@@ -23,8 +23,8 @@ bit-below true = omega arith
 bit-below false = omega arith
 
 -- the halves of a word made of halves
-pub low-of : (h l : ℕ) → low (word_of_halves h l) ≡ l % 256
+pub low-of : (h l : ℕ) → al_of (word_of_halves h l) ≡ l % 256
 low-of h l = omega arith
 
-pub high-of : (h l : ℕ) → high (word_of_halves h l) ≡ h % 256
+pub high-of : (h l : ℕ) → ah_of (word_of_halves h l) ≡ h % 256
 high-of h l = omega arith

@@ -24,7 +24,7 @@ use Rattle.dm_cpu.specs.Values.{width_of, value_in, accumulator}
 use Rattle.dm_operations.specs.Arithmetic.{sum_into, difference_into, compared, logic_into, tested, incremented, decremented, negated, complemented}
 use Rattle.dm_operations.specs.Shifts.{shifted}
 use Rattle.dm_operations.specs.Products.{with_double, multiplied}
-use Rattle.dm_exec.specs.Moves.{moved, exchanged, pointer_loaded, translated, input}
+use Rattle.dm_exec.specs.Moves.{moved, exchanged, pointer_loaded, translated, port_input}
 use Rattle.dm_touches.specs.declared.elements.Element.TheVariants as element
 use Rattle.dm_touches.specs.Elements.{bytes_of, one_element, two_elements}
 use Rattle.dm_touches.specs.Touches.{element_of, word_behind}
@@ -62,8 +62,8 @@ module _ (c : Cpu) (m n : Memory) (override : Option SegmentRegister) where
   pub done_address : (a b : Operand) → Writes a (λ g. with_operand g override a (address_of g.cpu b))
   done_address a b = done_one m n _ _ (element_of c override a) (done_operand c m n override a _ _ refl)
 
-  pub done_input : (a : Operand) → Writes a (λ g. input g override a)
-  unfolding input
+  pub done_input : (a : Operand) → Writes a (λ g. port_input g override a)
+  unfolding port_input
   done_input a = done_one m n _ _ (element_of c override a) (done_operand c m n override a _ _ refl)
 
   pub done_exchange : (a b : Operand) → ReadsBoth a b → Done m n (exchanged (guest c m) override a b) (exchanged (guest c n) override a b) (bytes_of (two_elements (element_of c override a) (element_of (with_operand (guest c m) override a (value_of (guest c m) override b)).cpu override b)))

@@ -8,7 +8,7 @@ use Rattle.dm_alu.specs.declared.flags.Flags.{Flags}
 use Rattle.dm_alu.specs.declared.products.Sign.TheVariants.{Unsigned}
 use Rattle.dm_alu.specs.declared.width.Width.{Width}
 use Rattle.dm_alu.specs.declared.width.Width.TheVariants.{Byte}
-use Rattle.dm_alu.specs.Adjustments.{high, low, word_of_halves}
+use Rattle.dm_alu.specs.Adjustments.{ah_of, al_of, word_of_halves}
 use Rattle.dm_alu.specs.Products.{flags_after_product, product_value}
 use Rattle.dm_alu.specs.Sums.{difference_value, flags_after_difference, flags_after_sum, sum_value}
 use Rattle.dm_laws.specs.arithmetic.Decimal.{Accumulator, HasDigits, HasPackedDifference, HasPackedSum, HasUnpackedDifference, HasUnpackedSum, by_addition, by_adjustment as adjusted_in, by_multiplication as multiplied_in, packed, subtracted, unpacked}
@@ -108,23 +108,23 @@ unfolding value_in
 byte-in-same g ip override o = ap (λ z. z % 256) (value-same g ip override o)
 
 -- AL takes a byte
-al-value : (g : Guest) (override : Option SegmentRegister) → value_in Byte g override (operand.ByteRegister Al) ≡ low g.cpu.ax
+al-value : (g : Guest) (override : Option SegmentRegister) → value_in Byte g override (operand.ByteRegister Al) ≡ al_of g.cpu.ax
 unfolding value_in value_of byte_of
 al-value g override = omega arith
 
-al-result : (g : Guest) (override : Option SegmentRegister) (v : ℕ) (f : Flags) → g.cpu.ax < 65536 → accumulator_of (with_result g override (operand.ByteRegister Al) v f) ≡ record { ax = word_of_halves (high g.cpu.ax) v; flags = f }
+al-result : (g : Guest) (override : Option SegmentRegister) (v : ℕ) (f : Flags) → g.cpu.ax < 65536 → accumulator_of (with_result g override (operand.ByteRegister Al) v f) ≡ record { ax = word_of_halves (ah_of g.cpu.ax) v; flags = f }
 unfolding with_operand with_byte
 al-result g override v f h = ap (λ (z : ℕ). record { ax = z; flags = f }) (omega arith)
 
 summed : (g : Guest) (ip : ℕ) (override : Option SegmentRegister) (o : Operand) (c : Bool) → g.cpu.ax < 65536 → accumulator_of (sum_in Byte (at_ip g ip) c override (operand.ByteRegister Al) override o) ≡ by_addition (accumulator_of g) (value_in Byte g override o) c
 summed g ip override o c h =
     al-result (at_ip g ip) override _ _ h
-    ∙ ap₂ (λ a b. record { ax = word_of_halves (high g.cpu.ax) (sum_value Byte a b c); flags = flags_after_sum Byte a b c g.cpu.flags }) (al-value (at_ip g ip) override) (byte-in-same g ip override o)
+    ∙ ap₂ (λ a b. record { ax = word_of_halves (ah_of g.cpu.ax) (sum_value Byte a b c); flags = flags_after_sum Byte a b c g.cpu.flags }) (al-value (at_ip g ip) override) (byte-in-same g ip override o)
 
 taken : (g : Guest) (ip : ℕ) (override : Option SegmentRegister) (o : Operand) (c : Bool) → g.cpu.ax < 65536 → accumulator_of (difference_in Byte (at_ip g ip) c override (operand.ByteRegister Al) override o) ≡ subtracted (accumulator_of g) (value_in Byte g override o) c
 taken g ip override o c h =
     al-result (at_ip g ip) override _ _ h
-    ∙ ap₂ (λ a b. record { ax = word_of_halves (high g.cpu.ax) (difference_value Byte a b c); flags = flags_after_difference Byte a b c g.cpu.flags }) (al-value (at_ip g ip) override) (byte-in-same g ip override o)
+    ∙ ap₂ (λ a b. record { ax = word_of_halves (ah_of g.cpu.ax) (difference_value Byte a b c); flags = flags_after_difference Byte a b c g.cpu.flags }) (al-value (at_ip g ip) override) (byte-in-same g ip override o)
 
 -- each instruction on the accumulator
 effect-as : (g : Guest) (i : Ins) (k : ℕ) (x : Operation) → operation_of i.action.mnemonic ≡ x → effect g i k ≡ act (at_ip g (up g.cpu.ip k)) i.prefixes g.cpu.ip x i.action.first i.action.second
@@ -171,7 +171,7 @@ product-at : (g : Guest) (ip : ℕ) (override : Option SegmentRegister) (o : Ope
 unfolding with_double accumulator byte_of
 product-at g ip override o w e =
     ap (λ v. accumulator_of (with_flags (on_cpu (at_ip g ip) (with_double v (at_ip g ip).cpu (product_value Unsigned v (accumulator v (at_ip g ip).cpu) (value_in v (at_ip g ip) override o)))) (flags_after_product Unsigned v (accumulator v (at_ip g ip).cpu) (value_in v (at_ip g ip) override o) g.cpu.flags))) e
-    ∙ ap (λ b. record { ax = product_value Unsigned Byte (low g.cpu.ax) b; flags = flags_after_product Unsigned Byte (low g.cpu.ax) b g.cpu.flags }) (byte-in-same g ip override o)
+    ∙ ap (λ b. record { ax = product_value Unsigned Byte (al_of g.cpu.ax) b; flags = flags_after_product Unsigned Byte (al_of g.cpu.ax) b g.cpu.flags }) (byte-in-same g ip override o)
 
 product-is : (g : Guest) (i : Ins) (k : ℕ) → IsOfByte i op.Mul → accumulator_of (effect g i k) ≡ multiplied_in (accumulator_of g) (first_byte g i)
 unfolding multiplied operation_of
@@ -186,9 +186,9 @@ both g i j k n a y e f = adjust-is (effect g i k) j n a e ∙ ap (adjusted_in a)
 pub compute : InstructionsComputeInDecimal
 unfolding operation_of
 compute g i j k n h = record {
-  daa = λ c s m a b. subst (λ y. HasPackedSum y (packed (low g.cpu.ax) + packed (second_byte g i) + from_bool (carry_in c g)) (high g.cpu.ax)) (sym (both g i j k n adjustment.DecimalAddition _ (ap operation_of m) (sum-is g i k c s h))) (packed_add (accumulator_of g) (second_byte g i) (carry_in c g) h a b);
-  das = λ c s m a b. subst (λ y. HasPackedDifference y (packed (second_byte g i) + from_bool (carry_in c g)) (packed (low g.cpu.ax)) (high g.cpu.ax)) (sym (both g i j k n adjustment.DecimalSubtraction _ (ap operation_of m) (difference-is g i k c s h))) (packed_subtract (accumulator_of g) (second_byte g i) (carry_in c g) h a b);
-  aaa = λ c s m a b. subst (λ y. HasUnpackedSum y (unpacked (low g.cpu.ax) + unpacked (second_byte g i) + from_bool (carry_in c g)) (high g.cpu.ax)) (sym (both g i j k n adjustment.AsciiAddition _ (ap operation_of m) (sum-is g i k c s h))) (unpacked_add (accumulator_of g) (second_byte g i) (carry_in c g) h a b);
-  aas = λ c s m a b. subst (λ y. HasUnpackedDifference y (unpacked (second_byte g i) + from_bool (carry_in c g)) (unpacked (low g.cpu.ax)) (high g.cpu.ax)) (sym (both g i j k n adjustment.AsciiSubtraction _ (ap operation_of m) (difference-is g i k c s h))) (unpacked_subtract (accumulator_of g) (second_byte g i) (carry_in c g) h a b);
-  aam = λ s m a b. subst (λ y. HasDigits y (low g.cpu.ax * first_byte g i)) (sym (both g i j k n adjustment.AsciiMultiplication _ (ap operation_of m) (product-is g i k s))) (unpacked_multiply (accumulator_of g) (first_byte g i) a b);
+  daa = λ c s m a b. subst (λ y. HasPackedSum y (packed (al_of g.cpu.ax) + packed (second_byte g i) + from_bool (carry_in c g)) (ah_of g.cpu.ax)) (sym (both g i j k n adjustment.DecimalAddition _ (ap operation_of m) (sum-is g i k c s h))) (packed_add (accumulator_of g) (second_byte g i) (carry_in c g) h a b);
+  das = λ c s m a b. subst (λ y. HasPackedDifference y (packed (second_byte g i) + from_bool (carry_in c g)) (packed (al_of g.cpu.ax)) (ah_of g.cpu.ax)) (sym (both g i j k n adjustment.DecimalSubtraction _ (ap operation_of m) (difference-is g i k c s h))) (packed_subtract (accumulator_of g) (second_byte g i) (carry_in c g) h a b);
+  aaa = λ c s m a b. subst (λ y. HasUnpackedSum y (unpacked (al_of g.cpu.ax) + unpacked (second_byte g i) + from_bool (carry_in c g)) (ah_of g.cpu.ax)) (sym (both g i j k n adjustment.AsciiAddition _ (ap operation_of m) (sum-is g i k c s h))) (unpacked_add (accumulator_of g) (second_byte g i) (carry_in c g) h a b);
+  aas = λ c s m a b. subst (λ y. HasUnpackedDifference y (unpacked (second_byte g i) + from_bool (carry_in c g)) (unpacked (al_of g.cpu.ax)) (ah_of g.cpu.ax)) (sym (both g i j k n adjustment.AsciiSubtraction _ (ap operation_of m) (difference-is g i k c s h))) (unpacked_subtract (accumulator_of g) (second_byte g i) (carry_in c g) h a b);
+  aam = λ s m a b. subst (λ y. HasDigits y (al_of g.cpu.ax * first_byte g i)) (sym (both g i j k n adjustment.AsciiMultiplication _ (ap operation_of m) (product-is g i k s))) (unpacked_multiply (accumulator_of g) (first_byte g i) a b);
 }

@@ -43,7 +43,7 @@ use Rattle.dm_cpu.specs.Values.{accumulator, value_in, width_of}
 use Rattle.dm_exec.specs.Operation.{operation_of}
 use Rattle.dm_cpu.specs.Stack.{push, popped, top, interrupt_return, far_returned}
 use Rattle.dm_operations.specs.Stack.{through_vector, interrupt, popped_into, flags_popped, pushed_value, stack_effect, interrupt_effect}
-use Rattle.dm_exec.specs.Moves.{moved, exchanged, pointer_loaded, translated, byte_extended, word_extended, flags_loaded, flags_stored, input, move_effect}
+use Rattle.dm_exec.specs.Moves.{moved, exchanged, pointer_loaded, translated, byte_extended, word_extended, flags_loaded, flags_stored, port_input, move_effect}
 use Rattle.dm_operations.specs.Arithmetic.{sum_into, difference_into, compared, logic_into, tested, incremented, decremented, negated, complemented, arithmetic}
 use Rattle.dm_operations.specs.Shifts.{shifted}
 use Rattle.dm_operations.specs.Products.{multiplied, after_division, divided, with_division, with_double}
@@ -161,7 +161,7 @@ interrupt_kept g override interrupts.Return o w = come_back g w
 -- ---- moves
 
 move_kept : (g : Guest) (override : Option SegmentRegister) (x : MoveOperation) (a b : Operand) → IsWellFormed g → AreValues a → AreValues b → IsWellFormed (move_effect g override x a b)
-unfolding move_effect moved exchanged pointer_loaded translated byte_extended word_extended flags_loaded flags_stored input
+unfolding move_effect moved exchanged pointer_loaded translated byte_extended word_extended flags_loaded flags_stored port_input
 move_kept g override moves.Move a b w u v = stored g override a _ (value-below g override b w v) w
 move_kept g override moves.Exchange a b w u v = stored _ override b _ (value-below g override a w u) (stored g override a _ (value-below g override b w v) w)
 move_kept g override moves.LoadAddress a b w u v = stored g override a _ (address-below g.cpu b) w

@@ -16,7 +16,7 @@ use Rattle.dm_alu.specs.declared.shifts.ShiftOperation.{ShiftOperation}
 use Rattle.dm_alu.specs.declared.shifts.ShiftOperation.TheVariants.{ArithmeticRight, Left, LogicalRight, RotateLeft, RotateRight, RotateThroughCarryLeft, RotateThroughCarryRight}
 use Rattle.dm_alu.specs.declared.width.Width.{Width}
 use Rattle.dm_alu.specs.declared.width.Width.TheVariants.{Byte, Word}
-use Rattle.dm_alu.specs.Adjustments.{adjusted_value, low_digit_off, low, high, word_of_halves}
+use Rattle.dm_alu.specs.Adjustments.{adjusted_value, low_digit_off, al_of, ah_of, word_of_halves}
 use Rattle.dm_alu.specs.Bitwise.{logic_value}
 use Rattle.dm_alu.specs.Flags.{flags_word}
 use Rattle.dm_alu.specs.Products.{product_value, quotient_of, signed_division, signed_double, twos_complement}
@@ -154,12 +154,12 @@ choice-below false x y h k = k
 
 pub adjusted-below : (a : Adjustment) (ax : ℕ) (f : Flags) → adjusted_value a ax f < 65536
 unfolding adjusted_value
-adjusted-below AsciiAddition ax f = choice-below (low_digit_off (low ax) f) _ _ (halves-below _ _) (halves-below _ _)
-adjusted-below AsciiSubtraction ax f = choice-below (low_digit_off (low ax) f) _ _ (halves-below _ _) (halves-below _ _)
+adjusted-below AsciiAddition ax f = choice-below (low_digit_off (al_of ax) f) _ _ (halves-below _ _) (halves-below _ _)
+adjusted-below AsciiSubtraction ax f = choice-below (low_digit_off (al_of ax) f) _ _ (halves-below _ _) (halves-below _ _)
 adjusted-below DecimalAddition ax f = halves-below _ _
 adjusted-below DecimalSubtraction ax f = halves-below _ _
-adjusted-below AsciiMultiplication ax f = halves-below (low ax / 10) (low ax % 10)
-adjusted-below AsciiDivision ax f = halves-below 0 (high ax * 10 + low ax)
+adjusted-below AsciiMultiplication ax f = halves-below (al_of ax / 10) (al_of ax % 10)
+adjusted-below AsciiDivision ax f = halves-below 0 (ah_of ax * 10 + al_of ax)
 
 bit-below : (c : Bool) → from_bool c ≤ 1
 bit-below true = omega arith

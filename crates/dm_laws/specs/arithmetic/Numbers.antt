@@ -3,7 +3,7 @@
 use Rattle.std.specs.Prelude.{List, [], length, ℕ, ◌*◌, ◌+◌, ◌^◌, ◌∷◌, ◌≡◌}
 use Rattle.std.specs.Int.{from_bool}
 use Rattle.dm_alu.specs.declared.adjustments.Adjustment.TheVariants.{DecimalAddition, DecimalSubtraction}
-use Rattle.dm_alu.specs.Adjustments.{high, low, word_of_halves}
+use Rattle.dm_alu.specs.Adjustments.{ah_of, al_of, word_of_halves}
 use Rattle.dm_laws.specs.arithmetic.Decimal.{Accumulator, IsPacked, by_addition, by_adjustment, packed, subtracted}
 
 -- a byte of each of two numbers, at one place
@@ -32,7 +32,7 @@ ArePacked (p ∷ L) = IsPacked p.a × IsPacked p.b × ArePacked L
 
 -- AL takes a byte; AH and the flags stay
 abbrev pub loaded : Accumulator → ℕ → Accumulator
-loaded x d = record x { ax = word_of_halves (high x.ax) d }
+loaded x d = record x { ax = word_of_halves (ah_of x.ax) d }
 
 -- one place of a sum: AL takes the first byte, ADC adds the second one, DAA adjusts; and one of a difference, by SBB
 -- and DAS
@@ -45,7 +45,7 @@ place_subtracted x p = by_adjustment DecimalSubtraction (subtracted (loaded x p.
 -- the bytes of the sum, which AL has after each place, and the accumulator after the last one
 abbrev pub sum_bytes : Accumulator → List Places → List ℕ
 sum_bytes x [] = []
-sum_bytes x (p ∷ L) = low (place_added x p).ax ∷ sum_bytes (place_added x p) L
+sum_bytes x (p ∷ L) = al_of (place_added x p).ax ∷ sum_bytes (place_added x p) L
 
 abbrev pub after_sum : Accumulator → List Places → Accumulator
 after_sum x [] = x
@@ -54,7 +54,7 @@ after_sum x (p ∷ L) = after_sum (place_added x p) L
 -- the same of the difference
 abbrev pub difference_bytes : Accumulator → List Places → List ℕ
 difference_bytes x [] = []
-difference_bytes x (p ∷ L) = low (place_subtracted x p).ax ∷ difference_bytes (place_subtracted x p) L
+difference_bytes x (p ∷ L) = al_of (place_subtracted x p).ax ∷ difference_bytes (place_subtracted x p) L
 
 abbrev pub after_difference : Accumulator → List Places → Accumulator
 after_difference x [] = x

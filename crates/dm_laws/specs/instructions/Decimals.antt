@@ -4,7 +4,7 @@
 use Rattle.std.specs.Prelude.{Bool, false, true, ℕ, ◌*◌, ◌+◌, ◌<◌, ◌≡◌}
 use Rattle.std.specs.Int.{from_bool}
 use Rattle.dm_alu.specs.declared.width.Width.TheVariants.{Byte}
-use Rattle.dm_alu.specs.Adjustments.{high, low}
+use Rattle.dm_alu.specs.Adjustments.{ah_of, al_of}
 use Rattle.dm_laws.specs.arithmetic.Decimal.{Accumulator, HasDigits, HasPackedDifference, HasPackedSum, HasUnpackedDifference, HasUnpackedSum, IsPacked, IsUnpacked, packed, unpacked}
 use Rattle.dm_ins.specs.declared.action.Mnemonic.{Mnemonic}
 use Rattle.dm_ins.specs.declared.action.Mnemonic.TheVariants as op
@@ -58,20 +58,20 @@ after_both g i k j n = accumulator_of (effect (effect g i k) j n)
 -- what the pairs of instructions make of AL and the operand
 pub record ComputesInDecimal (g : Guest) (i j : Ins) (k n : ℕ) : Type 0 where
   pub daa :
-      (c : Bool) → IsOnAl i (sum_mnemonic c) → j.action.mnemonic ≡ op.Daa → IsPacked (low g.cpu.ax) → IsPacked (second_byte g i)
-      → HasPackedSum (after_both g i k j n) (packed (low g.cpu.ax) + packed (second_byte g i) + from_bool (carry_in c g)) (high g.cpu.ax)
+      (c : Bool) → IsOnAl i (sum_mnemonic c) → j.action.mnemonic ≡ op.Daa → IsPacked (al_of g.cpu.ax) → IsPacked (second_byte g i)
+      → HasPackedSum (after_both g i k j n) (packed (al_of g.cpu.ax) + packed (second_byte g i) + from_bool (carry_in c g)) (ah_of g.cpu.ax)
   pub das :
-      (c : Bool) → IsOnAl i (difference_mnemonic c) → j.action.mnemonic ≡ op.Das → IsPacked (low g.cpu.ax) → IsPacked (second_byte g i)
-      → HasPackedDifference (after_both g i k j n) (packed (second_byte g i) + from_bool (carry_in c g)) (packed (low g.cpu.ax)) (high g.cpu.ax)
+      (c : Bool) → IsOnAl i (difference_mnemonic c) → j.action.mnemonic ≡ op.Das → IsPacked (al_of g.cpu.ax) → IsPacked (second_byte g i)
+      → HasPackedDifference (after_both g i k j n) (packed (second_byte g i) + from_bool (carry_in c g)) (packed (al_of g.cpu.ax)) (ah_of g.cpu.ax)
   pub aaa :
-      (c : Bool) → IsOnAl i (sum_mnemonic c) → j.action.mnemonic ≡ op.Aaa → IsUnpacked (low g.cpu.ax) → IsUnpacked (second_byte g i)
-      → HasUnpackedSum (after_both g i k j n) (unpacked (low g.cpu.ax) + unpacked (second_byte g i) + from_bool (carry_in c g)) (high g.cpu.ax)
+      (c : Bool) → IsOnAl i (sum_mnemonic c) → j.action.mnemonic ≡ op.Aaa → IsUnpacked (al_of g.cpu.ax) → IsUnpacked (second_byte g i)
+      → HasUnpackedSum (after_both g i k j n) (unpacked (al_of g.cpu.ax) + unpacked (second_byte g i) + from_bool (carry_in c g)) (ah_of g.cpu.ax)
   pub aas :
-      (c : Bool) → IsOnAl i (difference_mnemonic c) → j.action.mnemonic ≡ op.Aas → IsUnpacked (low g.cpu.ax) → IsUnpacked (second_byte g i)
-      → HasUnpackedDifference (after_both g i k j n) (unpacked (second_byte g i) + from_bool (carry_in c g)) (unpacked (low g.cpu.ax)) (high g.cpu.ax)
+      (c : Bool) → IsOnAl i (difference_mnemonic c) → j.action.mnemonic ≡ op.Aas → IsUnpacked (al_of g.cpu.ax) → IsUnpacked (second_byte g i)
+      → HasUnpackedDifference (after_both g i k j n) (unpacked (second_byte g i) + from_bool (carry_in c g)) (unpacked (al_of g.cpu.ax)) (ah_of g.cpu.ax)
   pub aam :
-      IsOfByte i op.Mul → j.action.mnemonic ≡ op.Aam → low g.cpu.ax < 10 → first_byte g i < 10
-      → HasDigits (after_both g i k j n) (low g.cpu.ax * first_byte g i)
+      IsOfByte i op.Mul → j.action.mnemonic ≡ op.Aam → al_of g.cpu.ax < 10 → first_byte g i < 10
+      → HasDigits (after_both g i k j n) (al_of g.cpu.ax * first_byte g i)
 
 -- they compute in decimal digits
 abbrev pub InstructionsComputeInDecimal : Type 0

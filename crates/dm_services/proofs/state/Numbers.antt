@@ -10,12 +10,12 @@ use Rattle.dm_pool.specs.declared.extent.Extent.{Extent}
 use Rattle.dm_pool.proofs.FreeRuns.{below_length}
 use Rattle.dm_ems.specs.declared.tables.Page.{Page}
 use Rattle.dm_ems.specs.Tables.{expanded}
-use Rattle.dm_ems.specs.Consistent as expanded_memory
+use Rattle.dm_ems.specs.inner.Consistent as expanded_memory
 use Rattle.dm_ems.specs.Consistent.{block_at, IsOwned}
 use Rattle.dm_xms.specs.declared.tables.Handle.{Handle}
 use Rattle.dm_xms.specs.Consistent.{handle_at}
 use Rattle.dm_xms.specs.Tables.{extended}
-use Rattle.dm_xms.specs.Coming as extended_memory
+use Rattle.dm_xms.specs.inner.Coming as extended_memory
 use Rattle.dm_services.specs.state.State.{State, IsHandled, AreConsistent}
 
 -- ---- blocks whose numbers are n numbers are n at most

@@ -9,7 +9,7 @@ use Rattle.dm_space.specs.inner.Runs.{shift}
 use Rattle.dm_space.proofs.Copies.{place-run}
 use Rattle.dm_space.specs.declared.moves.spans.SpanKind.{SpanKind}
 use Rattle.dm_space.specs.declared.moves.spans.SpanKind.TheVariants.{Linear, Pages, Single}
-use Rattle.dm_space.specs.moves.Spans.{Span, spot, place_in, IsWithin, IsInside}
+use Rattle.dm_space.specs.moves.Spans.{Span, place_by_kind, place_in, IsWithin, IsInside}
 
 -- ---- fewer bytes, and another memory of one shape
 
@@ -58,7 +58,7 @@ single-of m r n i e = subst (Of m r n) e i.within
 
 -- ---- places side by side
 
-spot-run : (m : Memory) (kind : SpanKind) (blocks : List ℕ) (a i : ℕ) → a % 0x4000 + i < 0x4000 → IsWithin m kind blocks (a + i + 1) → spot m kind blocks (a + i) ≡ shift (spot m kind blocks a) i
+spot-run : (m : Memory) (kind : SpanKind) (blocks : List ℕ) (a i : ℕ) → a % 0x4000 + i < 0x4000 → IsWithin m kind blocks (a + i + 1) → place_by_kind m kind blocks (a + i) ≡ shift (place_by_kind m kind blocks a) i
 spot-run m Linear blocks a i h w = place-run m a i h (omega (arith, w))
 spot-run m Pages blocks a i h w =
     let q : (a + i) / 0x4000 ≡ a / 0x4000 = omega arith in
@@ -70,5 +70,5 @@ pub place-in-run : (m : Memory) (r : Span) (k n i : ℕ) → IsInside m r (k + n
 place-in-run m r k n i inside cell h =
     let e : r.start + (k + i) ≡ r.start + k + i = omega arith in
     let top : r.start + k + i + 1 ≤ r.start + (k + n) = omega arith in
-    ap (spot m r.kind r.blocks) e
+    ap (place_by_kind m r.kind r.blocks) e
     ∙ spot-run m r.kind r.blocks (r.start + k) i (omega arith) (within-less m r.kind r.blocks (r.start + k + i + 1) (r.start + (k + n)) top inside.within)

@@ -14,7 +14,7 @@ use Rattle.dm_space.specs.inner.Runs.{with_run}
 use Rattle.dm_space.proofs.Copies.{length-values, values-more, values-part, part-more, none-written, one-more, same-content}
 use Rattle.dm_space.proofs.Places.{peek-place, page-there}
 use Rattle.dm_space.specs.declared.moves.spans.SpanKind.TheVariants.{Linear, Pages, Single}
-use Rattle.dm_space.specs.moves.Spans.{Span, spot, place_in, byte_in, bytes_in, span_written, span_moved, spans_exchanged, IsInside}
+use Rattle.dm_space.specs.moves.Spans.{Span, place_by_kind, place_in, byte_in, bytes_in, span_written, span_moved, spans_exchanged, IsInside}
 use Rattle.dm_space.specs.moves.inner.Copying.{read_in, written_out}
 use Rattle.dm_space.proofs.moves.Inside.{page-of, single-of, inside-shaped}
 use Rattle.dm_space.proofs.moves.Shapes.{stored-shaped}
@@ -31,7 +31,7 @@ pub read-linear : (h : Held) (r : Span) (k at n : ℕ) → r.kind ≡ Linear →
 read-linear h r k at n e =
     ap (λ (xs : List ℕ). record h { scratch = with_part h.scratch at n xs })
     (values-from (peek h.memory) (byte_in h.memory r) r.start k n
-    (λ j. peek-place h.memory (r.start + j) ∙ ap (λ kind. byte_at h.memory (spot h.memory kind r.blocks (r.start + j))) (sym e)))
+    (λ j. peek-place h.memory (r.start + j) ∙ ap (λ kind. byte_at h.memory (place_by_kind h.memory kind r.blocks (r.start + j))) (sym e)))
 
 poked : (m : Memory) (a v : ℕ) → poke m a v ≡ with_byte m (place m a) v
 unfolding poke
@@ -41,7 +41,7 @@ stored-linear : (vs : List ℕ) (m : Memory) (r : Span) (k : ℕ) → r.kind ≡
 stored-linear [] m r k e = refl
 stored-linear (v ∷ vs) m r k e =
     let next : suc (r.start + k) ≡ r.start + suc k = omega arith in
-    let first : poke m (r.start + k) v ≡ with_byte m (place_in m r k) v = poked m (r.start + k) v ∙ ap (λ kind. with_byte m (spot m kind r.blocks (r.start + k)) v) (sym e) in
+    let first : poke m (r.start + k) v ≡ with_byte m (place_in m r k) v = poked m (r.start + k) v ∙ ap (λ kind. with_byte m (place_by_kind m kind r.blocks (r.start + k)) v) (sym e) in
     ap (λ (t : Memory). bytes_written t (suc (r.start + k)) vs) first ∙ ap (λ a. bytes_written (with_byte m (place_in m r k) v) a vs) next
     ∙ stored-linear vs (with_byte m (place_in m r k) v) r (suc k) e
 
@@ -99,10 +99,10 @@ pages-run r k n e cell t i h =
     let s : r.start + (k + i) ≡ a + i = omega arith in
     let q : (a + i) / 0x4000 ≡ a / 0x4000 = omega arith in
     let m : (a + i) % 0x4000 ≡ a % 0x4000 + i = omega arith in
-    ap (λ kind. spot t kind r.blocks (r.start + (k + i))) e ∙ rw (s, q, m) refl
+    ap (λ kind. place_by_kind t kind r.blocks (r.start + (k + i))) e ∙ rw (s, q, m) refl
 
 single-run : (r : Span) (k n : ℕ) → r.kind ≡ Single → IsBlockRun r k (slice_index r.blocks 0) (r.start + k) n
-single-run r k n e t i h = let s : r.start + (k + i) ≡ r.start + k + i = omega arith in ap (λ kind. spot t kind r.blocks (r.start + (k + i))) e ∙ ap (Page (slice_index r.blocks 0)) s
+single-run r k n e t i h = let s : r.start + (k + i) ≡ r.start + k + i = omega arith in ap (λ kind. place_by_kind t kind r.blocks (r.start + (k + i))) e ∙ ap (Page (slice_index r.blocks 0)) s
 
 pub read-pages : (h : Held) (r : Span) (k at n : ℕ) → r.kind ≡ Pages → IsInside h.memory r (k + n) → 0 < n → (r.start + k) % 0x4000 + n ≤ 0x4000
     → block_copied_in h (slice_index r.blocks ((r.start + k) / 0x4000)) ((r.start + k) % 0x4000) at n ≡ read_in h r k at n

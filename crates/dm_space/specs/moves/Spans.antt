@@ -22,14 +22,14 @@ abbrev pub span : SpanKind → ℕ → List ℕ → Span
 span kind start blocks = record { kind = kind; start = start; blocks = blocks }
 
 -- the place of byte a, counted from linear address 0, or from the first byte of the pages or of the block
-abbrev pub spot : Memory → SpanKind → List ℕ → ℕ → Place
-spot m Linear blocks a = place m a
-spot m Pages blocks a = Page (slice_index blocks (a / 0x4000)) (a % 0x4000)
-spot m Single blocks a = Page (slice_index blocks 0) a
+abbrev pub place_by_kind : Memory → SpanKind → List ℕ → ℕ → Place
+place_by_kind m Linear blocks a = place m a
+place_by_kind m Pages blocks a = Page (slice_index blocks (a / 0x4000)) (a % 0x4000)
+place_by_kind m Single blocks a = Page (slice_index blocks 0) a
 
 -- the place of byte k of a span; linear addresses are taken with A20 on
 abbrev pub place_in : Memory → Span → ℕ → Place
-place_in m r k = spot m r.kind r.blocks (r.start + k)
+place_in m r k = place_by_kind m r.kind r.blocks (r.start + k)
 
 -- ---- bytes
 

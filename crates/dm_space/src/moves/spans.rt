@@ -41,7 +41,7 @@ impl<'a> Model for Span<'a> {
 
 impl<'a> Span<'a> {
     /// The span from a linear address on.
-    pub fn linear(address: usize) -> Span<'a>
+    pub fn of_linear(address: usize) -> Span<'a>
         ensures { result ≡ span SpanKind.Linear address [] }
     {
         Span {
@@ -53,7 +53,7 @@ impl<'a> Span<'a> {
 
     /// The span from byte `start` of a list of pages on. Their bytes are counted from the first page on, 4000h for each
     /// page.
-    pub fn pages(blocks: &'a [Block], start: usize) -> Span<'a>
+    pub fn of_pages(blocks: &'a [Block], start: usize) -> Span<'a>
         ensures { result ≡ span SpanKind.Pages start blocks.now }
     {
         Span {
@@ -64,7 +64,7 @@ impl<'a> Span<'a> {
     }
 
     /// The span from byte `start` of a block on.
-    pub fn block(block: &'a Block, start: usize) -> Span<'a>
+    pub fn of_block(block: &'a Block, start: usize) -> Span<'a>
         ensures { result ≡ span SpanKind.Single start (block.now ∷ []) }
     {
         Span {

@@ -90,7 +90,7 @@ fn pair(
     most: u32,
 ) -> Result<(u16, u16, u16), ArenaRefusal> {
     let pair = plan_pair(space, strategy, environment, least, most, false)?;
-    let placed = (pair.environment(), pair.program(), pair.size());
+    let placed = (pair.environment_block(), pair.program_block(), pair.size());
     write_pair(space, pair, false);
     Ok(placed)
 }

@@ -336,8 +336,8 @@ fn write_two(rt: &impl Abort, space: &mut Space) {
         false,
     )
     .expect(rt, "there is room");
-    same(rt, "environment", pair.environment(), 0x1104);
-    same(rt, "program", pair.program(), 0x1106);
+    same(rt, "environment", pair.environment_block(), 0x1104);
+    same(rt, "program", pair.program_block(), 0x1106);
     same(rt, "size", pair.size(), 0x8EFA);
     write_pair(space, pair, false);
 }

@@ -75,7 +75,7 @@ fn pair(
     size: u32,
 ) -> Result<(u16, u16), ArenaRefusal> {
     let pair = plan_pair(space, strategy, environment, size, size, true)?;
-    let placed = (pair.environment(), pair.program());
+    let placed = (pair.environment_block(), pair.program_block());
     write_pair(space, pair, true);
     Ok(placed)
 }

@@ -7,9 +7,10 @@ use Rattle.dm_space.specs.Memory.{Memory, of_ram}
 use Rattle.dm_space.specs.Places.{IsShaped}
 use Rattle.dm_xms.specs.Tables.{Extended, extended, new_tables}
 use Rattle.dm_xms.specs.Consistent.{IsConsistent}
-use Rattle.dm_xms.specs.Outside.{LeavesOutside}
-use Rattle.dm_xms.specs.Coming.{HasNumbers, Gives}
-use Rattle.dm_xms.specs.Calls.{left}
+use Rattle.dm_xms.specs.inner.Outside.{LeavesOutside}
+use Rattle.dm_xms.specs.Coming.{Gives}
+use Rattle.dm_xms.specs.inner.Coming.{HasNumbers}
+use Rattle.dm_xms.specs.Calls.{state_after}
 use Rattle.dm_xms.specs.Area.{take_area, release_area}
 use Rattle.dm_xms.specs.Uppers.{request_upper, release_upper, resize_upper}
 use Rattle.dm_xms.specs.Line.{enable_globally, disable_globally, enable_locally, disable_locally}
@@ -23,21 +24,21 @@ StartIsConsistent = (units : ℕ) (low : List ℕ) → IsConsistent (extended ne
 
 -- each call leaves tables, A20 and memory consistent if they are so before it, whether it succeeds or fails
 pub record CallsKeepConsistency : Type 0 where
-  pub taking_area : (x : Extended) → IsConsistent x → IsConsistent (extended (left x.xms (take_area x.xms)) x.memory)
-  pub releasing_area : (x : Extended) → IsConsistent x → IsConsistent (extended (left x.xms (release_area x.xms)) x.memory)
+  pub taking_area : (x : Extended) → IsConsistent x → IsConsistent (extended (state_after x.xms (take_area x.xms)) x.memory)
+  pub releasing_area : (x : Extended) → IsConsistent x → IsConsistent (extended (state_after x.xms (release_area x.xms)) x.memory)
   pub enabling_globally : (x : Extended) → IsConsistent x → IsConsistent (enable_globally x)
   pub disabling_globally : (x : Extended) → IsConsistent x → IsConsistent (disable_globally x).1
-  pub enabling_locally : (x : Extended) → IsConsistent x → IsConsistent (left x (enable_locally x))
+  pub enabling_locally : (x : Extended) → IsConsistent x → IsConsistent (state_after x (enable_locally x))
   pub disabling_locally : (x : Extended) → IsConsistent x → IsConsistent (disable_locally x).1
-  pub allocating : (x : Extended) (kib : ℕ) → IsConsistent x → IsConsistent (left x (allocate x kib))
-  pub deallocating : (x : Extended) (handle : ℕ) → IsConsistent x → IsConsistent (left x (deallocate x handle))
-  pub moving : (x : Extended) (segment offset : ℕ) → IsConsistent x → IsConsistent (left x (move_memory x segment offset))
-  pub locking : (x : Extended) (handle : ℕ) → IsConsistent x → IsConsistent (left x (lock x handle))
-  pub unlocking : (x : Extended) (handle : ℕ) → IsConsistent x → IsConsistent (extended (left x.xms (unlock x.xms handle)) x.memory)
-  pub reallocating : (x : Extended) (handle kib : ℕ) → IsConsistent x → IsConsistent (left x (reallocate x handle kib))
-  pub requesting : (x : Extended) (paragraphs : ℕ) → IsConsistent x → IsConsistent (extended (left x.xms (request_upper x.xms paragraphs)) x.memory)
-  pub releasing : (x : Extended) (segment : ℕ) → IsConsistent x → IsConsistent (extended (left x.xms (release_upper x.xms segment)) x.memory)
-  pub resizing : (x : Extended) (segment paragraphs : ℕ) → IsConsistent x → IsConsistent (extended (left x.xms (resize_upper x.xms segment paragraphs)) x.memory)
+  pub allocating : (x : Extended) (kib : ℕ) → IsConsistent x → IsConsistent (state_after x (allocate x kib))
+  pub deallocating : (x : Extended) (handle : ℕ) → IsConsistent x → IsConsistent (state_after x (deallocate x handle))
+  pub moving : (x : Extended) (segment offset : ℕ) → IsConsistent x → IsConsistent (state_after x (move_memory x segment offset))
+  pub locking : (x : Extended) (handle : ℕ) → IsConsistent x → IsConsistent (state_after x (lock x handle))
+  pub unlocking : (x : Extended) (handle : ℕ) → IsConsistent x → IsConsistent (extended (state_after x.xms (unlock x.xms handle)) x.memory)
+  pub reallocating : (x : Extended) (handle kib : ℕ) → IsConsistent x → IsConsistent (state_after x (reallocate x handle kib))
+  pub requesting : (x : Extended) (paragraphs : ℕ) → IsConsistent x → IsConsistent (extended (state_after x.xms (request_upper x.xms paragraphs)) x.memory)
+  pub releasing : (x : Extended) (segment : ℕ) → IsConsistent x → IsConsistent (extended (state_after x.xms (release_upper x.xms segment)) x.memory)
+  pub resizing : (x : Extended) (segment paragraphs : ℕ) → IsConsistent x → IsConsistent (extended (state_after x.xms (resize_upper x.xms segment paragraphs)) x.memory)
 
 -- tables and memory stay consistent when a program writes to memory: with the same tables and any memory of the same
 -- map and the same blocks, whatever its bytes
@@ -46,21 +47,21 @@ WritesKeepConsistency = (x : Extended) (m : Memory) → IsShaped x.memory m → 
 
 -- each call keeps the blocks that belong to no handle, their sizes, and the windows, whether it succeeds or fails
 pub record CallsLeaveOutside : Type 0 where
-  pub taking_area : (x : Extended) → LeavesOutside x (extended (left x.xms (take_area x.xms)) x.memory)
-  pub releasing_area : (x : Extended) → LeavesOutside x (extended (left x.xms (release_area x.xms)) x.memory)
+  pub taking_area : (x : Extended) → LeavesOutside x (extended (state_after x.xms (take_area x.xms)) x.memory)
+  pub releasing_area : (x : Extended) → LeavesOutside x (extended (state_after x.xms (release_area x.xms)) x.memory)
   pub enabling_globally : (x : Extended) → LeavesOutside x (enable_globally x)
   pub disabling_globally : (x : Extended) → LeavesOutside x (disable_globally x).1
-  pub enabling_locally : (x : Extended) → LeavesOutside x (left x (enable_locally x))
+  pub enabling_locally : (x : Extended) → LeavesOutside x (state_after x (enable_locally x))
   pub disabling_locally : (x : Extended) → LeavesOutside x (disable_locally x).1
-  pub allocating : (x : Extended) (kib : ℕ) → LeavesOutside x (left x (allocate x kib))
-  pub deallocating : (x : Extended) (handle : ℕ) → LeavesOutside x (left x (deallocate x handle))
-  pub moving : (x : Extended) (segment offset : ℕ) → LeavesOutside x (left x (move_memory x segment offset))
-  pub locking : (x : Extended) (handle : ℕ) → LeavesOutside x (left x (lock x handle))
-  pub unlocking : (x : Extended) (handle : ℕ) → LeavesOutside x (extended (left x.xms (unlock x.xms handle)) x.memory)
-  pub reallocating : (x : Extended) (handle kib : ℕ) → LeavesOutside x (left x (reallocate x handle kib))
-  pub requesting : (x : Extended) (paragraphs : ℕ) → LeavesOutside x (extended (left x.xms (request_upper x.xms paragraphs)) x.memory)
-  pub releasing : (x : Extended) (segment : ℕ) → LeavesOutside x (extended (left x.xms (release_upper x.xms segment)) x.memory)
-  pub resizing : (x : Extended) (segment paragraphs : ℕ) → LeavesOutside x (extended (left x.xms (resize_upper x.xms segment paragraphs)) x.memory)
+  pub allocating : (x : Extended) (kib : ℕ) → LeavesOutside x (state_after x (allocate x kib))
+  pub deallocating : (x : Extended) (handle : ℕ) → LeavesOutside x (state_after x (deallocate x handle))
+  pub moving : (x : Extended) (segment offset : ℕ) → LeavesOutside x (state_after x (move_memory x segment offset))
+  pub locking : (x : Extended) (handle : ℕ) → LeavesOutside x (state_after x (lock x handle))
+  pub unlocking : (x : Extended) (handle : ℕ) → LeavesOutside x (extended (state_after x.xms (unlock x.xms handle)) x.memory)
+  pub reallocating : (x : Extended) (handle kib : ℕ) → LeavesOutside x (state_after x (reallocate x handle kib))
+  pub requesting : (x : Extended) (paragraphs : ℕ) → LeavesOutside x (extended (state_after x.xms (request_upper x.xms paragraphs)) x.memory)
+  pub releasing : (x : Extended) (segment : ℕ) → LeavesOutside x (extended (state_after x.xms (release_upper x.xms segment)) x.memory)
+  pub resizing : (x : Extended) (segment paragraphs : ℕ) → LeavesOutside x (extended (state_after x.xms (resize_upper x.xms segment paragraphs)) x.memory)
 
 -- if tables and memory are consistent, and at most 512 blocks belong to no handle, 09h gives a handle with a new block
 -- of zeros, except where each handle is in use, or no gap holds the block

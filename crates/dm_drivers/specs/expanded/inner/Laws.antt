@@ -1,7 +1,7 @@
 -- The law of INT 67h (`dispatched`), whatever function AH selects: tables and memory stay consistent, and what is
 -- outside of expanded memory is kept.
 use Rattle.dm_ems.specs.Consistent.{IsConsistent}
-use Rattle.dm_ems.specs.Outside.{LeavesOutside}
+use Rattle.dm_ems.specs.inner.Outside.{LeavesOutside}
 use Rattle.dm_drivers.specs.expanded.Caller.{Caller}
 use Rattle.dm_drivers.specs.expanded.Functions.{dispatched}
 

@@ -2,7 +2,7 @@
 -- consistent, and what is outside of extended memory is kept.
 use Rattle.std.specs.Prelude.{Bool}
 use Rattle.dm_xms.specs.Consistent.{IsConsistent}
-use Rattle.dm_xms.specs.Outside.{LeavesOutside}
+use Rattle.dm_xms.specs.inner.Outside.{LeavesOutside}
 use Rattle.dm_drivers.specs.extended.Caller.{Caller}
 use Rattle.dm_drivers.specs.extended.Functions.{dispatched}
 

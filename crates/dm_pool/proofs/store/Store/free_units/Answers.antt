@@ -3,7 +3,7 @@ use Rattle.dm_pool.specs.Gaps.{gaps, free_units}
 use Rattle.dm_pool.specs.Stored.{Stored}
 use Rattle.dm_pool.proofs.Fresh.{fresh_free_units}
 use Rattle.dm_pool.proofs.Stored.{not_used, pool_fits, pool_told, used_store}
-use Rattle.dm_pool.proofs.store.Store.free.Goals as goal
+use Rattle.dm_pool.proofs.store.Store.free_units.Goals as goal
 
 pub part-requires : goal.part-requires
 part-requires c = (pool_fits c.self.inside.region.bytes c.pool_len-len.result c.self.inside.table c.pool_len-len.ensures (used_store c.self.inside.region c.self.inside.table c.self.inside.in_use c.self.invariant c.if-self.true), inr (inl (c.self.invariant.used c.if-self.true)))
