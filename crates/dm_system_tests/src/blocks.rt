@@ -210,7 +210,12 @@ fn scratch_bytes_come_as_asked_for(rt: HostRuntime) -> Result<(), Fail> {
     same(&rt, "free in the duplicate", twin.free_units(), 16);
     let second = twin.take(4).ok_or("no room")?;
     same(&rt, "zeros", is_sound(&twin, second, 4096, 0), true);
-    same(&rt, "free then", (twin.free_units(), store.free_units()), (12, 12));
+    same(
+        &rt,
+        "free then",
+        (twin.free_units(), store.free_units()),
+        (12, 12),
+    );
     Ok(())
 }
 

@@ -286,7 +286,12 @@ fn base_of(space: &Space, block: Block) -> Option<usize> {
 #[test]
 fn blocks_come_and_go(rt: HostRuntime) -> Result<(), Fail> {
     let mut space = new_space(rt.alloc())?;
-    same(&rt, "free units", (space.free_units(), space.largest()), (48, 48));
+    same(
+        &rt,
+        "free units",
+        (space.free_units(), space.largest()),
+        (48, 48),
+    );
     same(&rt, "pages that fit", space.count_fitting(16), 3);
     let Pages { first, second } = two_pages(&mut space).ok_or("no room")?;
     show(&mut space, 2, second);
@@ -295,7 +300,12 @@ fn blocks_come_and_go(rt: HostRuntime) -> Result<(), Fail> {
     // the first page is freed, and a smaller block is allocated in its place
     same(&rt, "given", give(&mut space, first), true);
     same(&rt, "shown, so not given", give(&mut space, second), false);
-    same(&rt, "free units", (space.free_units(), space.largest()), (32, 16));
+    same(
+        &rt,
+        "free units",
+        (space.free_units(), space.largest()),
+        (32, 16),
+    );
     same(&rt, "pages that fit", space.count_fitting(16), 2);
     let third = space.take(10).ok_or("no room")?;
     same(&rt, "base", base_of(&space, third), Some(0));
