@@ -4,7 +4,7 @@ pub mod OneRun
 pub mod OneStop
 mod DecodeCaches
 mod Elements
-mod Blocks
+mod Bundles
 mod Confined
 mod Kept
 mod Extended

@@ -1,5 +1,5 @@
 -- Definitions that private contracts and proofs alone name.
-pub mod Block
+pub mod Bundle
 pub mod DecodeCache
 pub mod Quick
 pub mod Repeats

@@ -1,7 +1,7 @@
 //! The machine: load, step and run, and their laws.
 #![tactic(auto)]
 
-mod block;
+mod bundle;
 mod copy;
 mod decode_cache;
 mod input;
