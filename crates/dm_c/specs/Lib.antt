@@ -1,7 +1,7 @@
 pub mod calls
 pub mod Held
 pub mod Statuses
-pub mod Calls
+pub mod Endings
 pub mod Handles
 pub mod Texts
 pub mod inner

@@ -4,7 +4,7 @@
 //! none (3 if an allocation for the points of `dm_c_run_until` fails before), and nothing changes then.
 ghost use Rattle.std.specs.Prelude.{◌≡◌, ◌<◌, true, false, nat_lt};
 ghost use Rattle.dm_c.specs.Statuses.{version_number};
-ghost use Rattle.dm_c.specs.Calls.{IsCall, IsNone};
+ghost use Rattle.dm_c.specs.Endings.{IsCall, IsNone};
 ghost use Rattle.dm_c.specs.Handles.{Makes, CopiesTo};
 ghost use Rattle.dm_c.specs.calls.Events.{EventsTo};
 ghost use Rattle.dm_c.specs.calls.Machines.{AddsTo, LoadsTo, RunsBy, RunsUntilTo, StepsTo, RegistersTo, SetsRegistersTo, ReadsTo, WritesTo, ReadsLinearTo, WritesLinearTo, OutputTo, OutputCountTo, SetsMoreTo, SuppliesTo, InputLeftTo, CommandsTo, ChecksTo, AnswersTo};

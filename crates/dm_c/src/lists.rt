@@ -2,7 +2,7 @@
 //! `exports.rt`, the status is 1 if the handle holds no machine, and 14 if no program is loaded, unless the export says
 //! that none need be; nothing changes then.
 ghost use Rattle.std.specs.Prelude.{◌≡◌};
-ghost use Rattle.dm_c.specs.Calls.{IsCall};
+ghost use Rattle.dm_c.specs.Endings.{IsCall};
 ghost use Rattle.dm_c.specs.calls.Lists.{BlocksTo, PageHandlesTo, WindowsTo, ExtendedBlocksTo, UpperBlocksTo, HighMemoryTo, ReadsPageTo, ReadsBlockTo, FindingsTo, FindingCountsTo, FindingLineTo};
 
 use crate::calls;

@@ -1,5 +1,5 @@
 use Rattle.std.proofs.Common.{refl}
-use Rattle.dm_c.specs.Calls.{called}
+use Rattle.dm_c.specs.Endings.{called}
 use Rattle.dm_c.proofs.Taken.{taken}
 use Rattle.dm_c.proofs.exports.dm_c_copy.Goals as goal
 

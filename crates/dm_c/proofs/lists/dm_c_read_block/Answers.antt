@@ -1,4 +1,4 @@
-use Rattle.dm_c.specs.Calls.{called}
+use Rattle.dm_c.specs.Endings.{called}
 use Rattle.dm_c.proofs.Taken.{taken}
 use Rattle.dm_c.proofs.lists.dm_c_read_block.Goals as goal
 
