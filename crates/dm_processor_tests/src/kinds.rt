@@ -14,7 +14,7 @@ pub(crate) const FORMS: usize = 143;
 
 /// The number of a form, in the order of their declaration.
 pub(crate) fn number_of(form: &Form) -> usize
-    ensures { result < 140 }
+    ensures { result < 143 }
 {
     match *form {
         Form::MoveWord(..) => 0,
