@@ -246,7 +246,7 @@ fn replies(
     (payload, wanted): Row,
 ) -> Result<(), Fail> {
     let request = read_request(alloc, payload.as_bytes())?;
-    let reply = server.answer(&request, most)?;
+    let reply = server.reply_to(&request, most)?;
     let mut text = Vec::new(alloc);
     put_reply(alloc, &mut text, &reply)?;
     same_of(rt, payload, "the reply", text.as_slice(), wanted.as_bytes());
