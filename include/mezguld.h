@@ -145,7 +145,7 @@ typedef struct mezguld_event {
 } mezguld_event;
 
 /* A header of the DOS memory arena (a memory control block): its own segment, one below that of its block; the owner of the
- * block, 0 if it is free, 8 for DOS, otherwise the segment of a program's prefix; the size of the block in paragraphs; its
+ * block, 0 if it is free, 8 for DOS, otherwise the segment of a program's PSP; the size of the block in paragraphs; its
  * signature, 5Ah (`Z`) in the last header of its list, otherwise 4Dh (`M`); and its list: 0 for the first one, 1 for that of
  * upper memory where the first does not lead to it. */
 typedef struct mezguld_block {
@@ -262,7 +262,7 @@ typedef struct mezguld_finding {
     uint32_t is_error;    /* 1 for an error, 0 for a note */
     mezguld_place at, origin_at; /* where the step was performed, and where that of `origin_step` was */
     mezguld_act act;      /* what was performed */
-    uint16_t process;     /* the process that performed it: the segment of its prefix */
+    uint16_t process;     /* the process that performed it: the segment of its PSP */
     mezguld_details details;
 } mezguld_finding;
 
@@ -471,9 +471,9 @@ MEZGULD_CALL mezguld_status mezguld_answer(const mezguld *machine, char *buffer,
 MEZGULD_CALL mezguld_status mezguld_findings(const mezguld *machine, mezguld_finding *buffer, size_t room, size_t *wanted);
 
 /* Writes how many errors and how many notes that report has, repetitions included, into `*errors` and `*notes`, and how many
- * findings it neither lists nor counts as repetitions, since it lists 100 of their kind, into `*unlisted`. NO_MACHINE. */
+ * findings it neither lists nor counts as repetitions, since it lists 100 of their kind, into `*not_listed`. NO_MACHINE. */
 MEZGULD_CALL mezguld_status mezguld_finding_counts(const mezguld *machine, uint64_t *errors, uint64_t *notes,
-                                                   uint64_t *unlisted);
+                                                   uint64_t *not_listed);
 
 /* Copies the line of finding `k` of that report, from 0, with its line feed, into a buffer, and writes its count into
  * `*wanted`. NO_MACHINE, NO_FINDING, OUT_OF_MEMORY, TOO_SMALL (then `*wanted` alone is written). */

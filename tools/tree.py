@@ -13,6 +13,9 @@ import usage
 import versions
 
 PROGRAM = "crates/dm/out/dm"
+# The pages for users, besides those of the examples, and a link: its text, its file and the heading.
+PAGES = ("README.md", "docs/manual.md", "docs/install.md", "docs/picture.md", "docs/proved.md", "bench/README.md")
+PAGE_LINK = re.compile(r"(?<!!)\[([^\[\]]+)\]\(([^)#\s]+)(?:#[^)\s]*)?\)")
 PKG_CONFIG = """\
 prefix=${{pcfiledir}}/{up}
 includedir=${{prefix}}/include
@@ -136,13 +139,23 @@ def library(layout):
     yield f"{layout.prefix}include/mezguld.h", (bytes_of("include/mezguld.h"), 0o644)
 
 
+def page(path, names):
+    """A page's bytes with the links that lead to files of these names; a link to another file of the tree is its text alone."""
+
+    def kept(link):
+        target = os.path.normpath(f"{os.path.dirname(path)}/{link[2]}") if os.path.dirname(path) else link[2]
+        return link[1] if target not in names and os.path.exists(f"{kit.ROOT}/{target}") else link[0]
+
+    return PAGE_LINK.sub(kept, bytes_of(path).decode()).encode()
+
+
 def documents(layout):
-    """The examples, the manual and the gdb scripts, where there are any."""
-    for path in tracked("examples"):
-        yield f"{layout.prefix}share/doc/mezguld/{path}", (bytes_of(path), 0o644)
-    data = bytes_of("docs/manual.md")
-    name = f"{layout.prefix}share/doc/mezguld/manual.md"
-    yield (f"{name}.gz", (compressed(data), 0o644)) if layout.is_compressed else (name, (data, 0o644))
+    """The pages for users, as they lie in the tree, with their pictures and the examples, and the gdb scripts, where there are any. (In the Debian package
+    they are not compressed: no link would lead to them.)"""
+    paths = [*PAGES, *tracked("docs/pictures", "examples")]
+    for path in paths:
+        data = page(path, paths) if path.endswith(".md") else bytes_of(path)
+        yield f"{layout.prefix}share/doc/mezguld/{path}", (data, 0o644)
     for path in tracked("share/gdb"):
         yield f"{layout.prefix}share/mezguld/{path[len('share/') :]}", (bytes_of(path), 0o644)
 

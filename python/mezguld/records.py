@@ -210,14 +210,19 @@ class Finding:
 
 
 class Findings(list):
-    """The findings that a report lists, in the order in which they happened; `errors` and `notes` count all, and `unlisted` those that are left out."""
+    """The findings that a report lists, in the order in which they happened; `errors` and `notes` count all, and `not_listed` those that are left out."""
 
-    def __init__(self, found: Iterable[Finding] = (), errors: int = 0, notes: int = 0, unlisted: int = 0) -> None:
+    def __init__(self, found: Iterable[Finding] = (), errors: int = 0, notes: int = 0, not_listed: int = 0) -> None:
         super().__init__(found)
-        self.errors, self.notes, self.unlisted = errors, notes, unlisted
+        self.errors, self.notes, self.not_listed = errors, notes, not_listed
+
+    @property
+    def unlisted(self) -> int:
+        """The same as `not_listed`, for programs written before it had this name."""
+        return self.not_listed
 
     def __repr__(self) -> str:
-        return f"Findings({super().__repr__()}, errors={self.errors}, notes={self.notes}, unlisted={self.unlisted})"
+        return f"Findings({super().__repr__()}, errors={self.errors}, notes={self.notes}, not_listed={self.not_listed})"
 
 
 # ---- from the records of the library

@@ -342,7 +342,7 @@ class Reports(unittest.TestCase):
             self.assertEqual(machine.check(1)[0].why, Stop.HALTED)
             self.assertEqual((machine.findings(), machine.findings().notes), ([], 0))
         self.assertEqual(stopped.why, Stop.HALTED)
-        self.assertEqual((found.errors, found.notes, found.unlisted, len(found)), (2, 3, 0, 3))
+        self.assertEqual((found.errors, found.notes, found.not_listed, len(found)), (2, 3, 0, 3))
         place, act = Place(0x0103, 0x0105), Act(How.INSTRUCTION, next=0x010B)
         old, new = Contents(0x5A, 0x0103, 0x9EFD), Contents(0, 0x0103, 0x9EFD)
         self.assertEqual(fields(found[0])[:10], (FindingKind.OVERWRITTEN, True, 3, 0x0103, place, act, Details(old, new, header=0x0102), None, 0, 3))
@@ -372,7 +372,7 @@ class Reports(unittest.TestCase):
         with started("MOV AH,0EEh\nINT 21h\n" * 120 + END) as machine:
             machine.check(1000)
             found = machine.findings()
-        self.assertEqual((len(found), found.errors, found.notes, found.unlisted), (100, 0, 120, 20))
+        self.assertEqual((len(found), found.errors, found.notes, found.not_listed, found.unlisted), (100, 0, 120, 20, 20))
         self.assertEqual([(it.step, it.at.ip) for it in found], [(3 + 3 * at, 0x0102 + 4 * at) for at in range(100)])
         self.assertEqual({(it.kind, it.act, it.details) for it in found}, {(FindingKind.REFUSED, Act(How.FUNCTION, None, 0x21, 0xEE), Details(code=1))})
 
@@ -1150,7 +1150,7 @@ class Interrupts(unittest.TestCase):
     """Ctrl-C is served within a quarter of a second."""
 
     # These steps take some seconds.
-    CHECKED = 100_000_000
+    CHECKED = 1_000_000_000
 
     def interrupted(self, call: object) -> None:
         sent = []

@@ -31,6 +31,7 @@ PLANTED = (
     ("include/mezguld.h", '#define MEZGULD_VERSION "', '#define MEZGULD_VERSION "9', "the version is 9"),
     ("docs/names.md", "| `total` | how many there are in all: bytes of statements, pages |\n", "", "does not have `total`"),
     ("docs/manual.md", "| `--ems` | pages of 16 KiB | 64 |", "| `--ems` | pages of 16 KiB | 65 |", "the default of --ems is 65, and 64"),
+    ("docs/proved.md", "`put_not_listed`", "`put_told`, `put_pages`", "dm_reports has no public `put_pages`"),
 )
 # The same, of what stands in the kit's files.
 OF_KIT = (

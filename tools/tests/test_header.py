@@ -19,7 +19,7 @@ PLANTED = (
     (HEADER, "MEZGULD_NULL_POINTER = 24,", "MEZGULD_NULL_POINTER = 23,", "MEZGULD_NULL_POINTER"),
     (EXPORTS, "dm_c_free(mezguld *machine)", "dm_c_free(mezguld **machine)", "dm_c_free"),
     (EXPORTS, "mezguld_status dm_c_supply(mezguld *machine, const void *bytes", "mezguld_status dm_c_supply(mezguld *machine, void *bytes", "dm_c_supply"),
-    (EXPORTS, "    void *inside;\n    uint64_t mark;", "    uint64_t mark;\n    void *inside;", "struct mezguld"),
+    (EXPORTS, "    void *inside;\n    uint64_t tag;", "    uint64_t tag;\n    void *inside;", "struct mezguld"),
     (HEADER, "uint32_t mezguld_version(void)", "mezguld_status mezguld_version(void)", "mezguld_version returns"),
     (HEADER, "    case MEZGULD_SHORT: return", "    case MEZGULD_NO_SHORT: return", "MEZGULD_SHORT has no text"),
     (HEADER, "} mezguld_status;", "} mezguld_state;", "MEZGULD_SHORT"),

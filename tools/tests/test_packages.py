@@ -1,10 +1,11 @@
-"""Tests of the modules behind the packages: each planted difference between versions, or between help and the manual, is reported, and a list of an
-installation that is none is refused. From the top: `python3 -m unittest discover -s tools/tests`."""
+"""Tests of the modules behind the packages: each planted difference between versions, or between help and the manual, is reported, a list of an installation
+that is none is refused, and each link of an installed page leads to an installed one. From the top: `python3 -m unittest discover -s tools/tests`."""
 import contextlib
 import importlib.machinery
 import importlib.util
 import io
 import os
+import re
 import sys
 import tempfile
 import unittest
@@ -13,6 +14,7 @@ from unittest import mock
 ROOT = os.path.dirname(os.path.dirname(os.path.dirname(os.path.abspath(__file__))))
 sys.path.insert(0, f"{ROOT}/tools")
 import pages  # noqa: E402
+import tree  # noqa: E402
 import usage  # noqa: E402
 import versions  # noqa: E402
 
@@ -91,6 +93,21 @@ def module(script):
     return made
 
 
+def headings(text):
+    """The names by which links reach the headings of a page."""
+    found = [re.sub(r"[^\w -]", "", it.lower()).replace(" ", "-") for it in re.findall(r"^#+ (.*)$", text, re.M)]
+    return {f"{name}-{found[:at].count(name)}" if name in found[:at] else name for at, name in enumerate(found)}
+
+
+def dead_links(installed):
+    """The links of installed pages, as path and target, that lead to no installed file, or to no heading of it."""
+    for path, data in installed.items():
+        for target, heading in re.findall(r"\]\(([^)#\s]*)(?:#([^)\s]*))?\)", data.decode()) if path.endswith(".md") else ():
+            there = os.path.normpath(f"{os.path.dirname(path)}/{target}") if target else path
+            if "://" not in target and (there not in installed or heading and heading not in headings(installed[there].decode())):
+                yield f"{path}: {target}#{heading}"
+
+
 def faults_of_help(text):
     """The faults where `dm run --help` prints a text, and `dm debug --help` and `dm check --help` the same with one option more, or two."""
     texts = {
@@ -156,6 +173,23 @@ class Pages(unittest.TestCase):
         self.assertEqual([name for name in names if f".SS {name}\n" not in text], [])
         self.assertEqual(text.count("/*"), text.count("*/"))
         self.assertIn("} mezguld_cpu;", text)
+
+
+class Documents(unittest.TestCase):
+    def test_each_link_leads_to_what_is_installed(self):
+        for layout in (tree.PREFIX, tree.DEBIAN):
+            with self.subTest(prefix=layout.prefix):
+                installed = {path: data for path, (data, _) in tree.documents(layout)}
+                self.assertIn(f"{layout.prefix}share/doc/mezguld/docs/manual.md", installed)
+                self.assertEqual([*dead_links(installed)], [])
+
+    def test_dead_links_are_found(self):
+        pages_there = {"a/b.md": b"# One two\n\n[x](c.md#three), [x](c.md#four), [x](../d.md), [x](#one-two), [x](#two) [x](http://e)", "a/c.md": b"## Three"}
+        self.assertEqual([*dead_links(pages_there)], ["a/b.md: c.md#four", "a/b.md: ../d.md#", "a/b.md: #two"])
+
+    def test_a_link_to_what_is_not_installed_is_its_text(self):
+        with mock.patch.object(tree, "bytes_of", lambda _: b"[a](testing.md#rows), [b](manual.md), [c\nd](../CHANGELOG.md), [e](no-file)"):
+            self.assertEqual(tree.page("docs/proved.md", ["docs/manual.md"]), b"a, [b](manual.md), c\nd, [e](no-file)")
 
 
 class Lists(unittest.TestCase):

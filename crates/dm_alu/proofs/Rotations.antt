@@ -45,7 +45,7 @@ nine_right : (x k : ℕ) → x < 512 → k < 9 → rotated 512 x (9 - suc k % 9)
 nine_right x (suc (suc (suc (suc (suc (suc (suc (suc zero)))))))) h l = omega arith
 nine_right x k h l = omega arith
 
-nine_below : (x k : ℕ) → x < 512 → k ≤ 9 → rotated 512 x k < 512
+pub nine_below : (x k : ℕ) → x < 512 → k ≤ 9 → rotated 512 x k < 512
 nine_below x (suc (suc (suc (suc (suc (suc (suc (suc (suc zero))))))))) h l = omega arith
 nine_below x k h l = omega arith
 
@@ -71,7 +71,7 @@ seventeen_right : (x k : ℕ) → x < 131072 → k < 17 → rotated 131072 x (17
 seventeen_right x (suc (suc (suc (suc (suc (suc (suc (suc (suc (suc (suc (suc (suc (suc (suc (suc zero)))))))))))))))) h l = omega arith
 seventeen_right x k h l = omega arith
 
-seventeen_below : (x k : ℕ) → x < 131072 → k ≤ 17 → rotated 131072 x k < 131072
+pub seventeen_below : (x k : ℕ) → x < 131072 → k ≤ 17 → rotated 131072 x k < 131072
 seventeen_below x (suc (suc (suc (suc (suc (suc (suc (suc (suc (suc (suc (suc (suc (suc (suc (suc (suc zero))))))))))))))))) h l = omega arith
 seventeen_below x k h l = omega arith
 

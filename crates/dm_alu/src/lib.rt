@@ -20,6 +20,6 @@ pub use adjustments::{Adjustment, adjust};
 pub use bitwise::{LogicOperation, logic};
 pub use flags::Flags;
 pub use products::{Division, Sign, div, mul};
-pub use shifts::{ShiftOperation, Shifted, moved_by, overflow_after_move, shift};
+pub use shifts::{ShiftOperation, Shifted, overflow_after_shift, shift, shifted_by};
 pub use sums::{add, sub};
 pub use width::Width;

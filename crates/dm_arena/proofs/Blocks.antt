@@ -2,7 +2,7 @@
 use Rattle.std.proofs.Common.{Bool, ◌≡◌, ℕ, false, List, [], ◌∷◌, ◌++◌, inl, inr, refl, sym, ◌∙◌, subst}
 use Rattle.dm_space.specs.Memory.{Memory}
 use Rattle.dm_blocks.specs.declared.header.Header.{Header}
-use Rattle.dm_blocks.specs.declared.header.Entry.{Entry}
+use Rattle.dm_blocks.specs.declared.header.ListedHeader.{ListedHeader}
 use Rattle.dm_blocks.specs.Chain.{Spells, HasHeader, IsNonEmpty, next, IsClear, IsArena, Becomes}
 use Rattle.dm_blocks.specs.Reading.{IsFoundAt}
 use Rattle.dm_arena.specs.inner.Walks.{IsReplaceable, IsReplaced}
@@ -21,7 +21,7 @@ has_changed P b c Q e g w = elim (has_either P (c ∷ Q) g w) [
 ]
 
 module _ (up : Bool) where
-  module _ (S : Memory) (start : ℕ) (L : List Header) (segment : ℕ) (e : Entry) (P Q : List Header) (a : IsArena S start L) (f : IsFoundAt S L segment e P Q) (other : is_link_block up segment ≡ false) where
+  module _ (S : Memory) (start : ℕ) (L : List Header) (segment : ℕ) (e : ListedHeader) (P Q : List Header) (a : IsArena S start L) (f : IsFoundAt S L segment e P Q) (other : is_link_block up segment ≡ false) where
     clear : IsClear S (P ++ freed e.header ∷ Q)
     clear = clear_within S (P ++ e.header ∷ Q) _ (has_changed P e.header (freed e.header) Q refl) (let F : List Header → Type 0 = λ X. IsClear S X in subst F f.is a.1)
 

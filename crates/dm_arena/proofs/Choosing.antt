@@ -3,7 +3,7 @@ use Rattle.std.proofs.Common.{Bool, ◌≡◌, ℕ, true, false, max, List, [], 
 use Rattle.std.specs.Prelude.{option_to_list}
 use Rattle.dm_space.specs.Memory.{Memory}
 use Rattle.dm_blocks.specs.declared.header.Header.{Header}
-use Rattle.dm_blocks.specs.declared.header.Entry.{Entry}
+use Rattle.dm_blocks.specs.declared.header.ListedHeader.{ListedHeader}
 use Rattle.dm_arena.specs.declared.fit.Strategy.{Strategy}
 use Rattle.dm_arena.specs.declared.fit.Spoken.{Spoken}
 use Rattle.dm_arena.specs.declared.fit.Choice.{Choice}
@@ -34,7 +34,7 @@ module _ (up : Bool) where
   largest-append st [] Y = zero-max (largest up st Y)
   largest-append st (x ∷ X) Y = ap (max (free_size up st x)) (largest-append st X Y) ∙ max-assoc (free_size up st x) (largest up st X) (largest up st Y)
 
-  module _ (S : Memory) (L : List Header) (st : Strategy) (n : ℕ) (spoken : Option Spoken) (h : ℕ) (choice : Choice) (K : List Header) (c : IsChoosing up S L st n spoken h choice K) (e : Entry) (N : List Header) (f : IsJoinedFront up S K e N) (more : Choice) (block : more.block ≡ pick up st n choice.block (option_to_list (left_part spoken e.header))) (most : more.largest ≡ max choice.largest (largest up st (option_to_list (left_part spoken e.header)))) where
+  module _ (S : Memory) (L : List Header) (st : Strategy) (n : ℕ) (spoken : Option Spoken) (h : ℕ) (choice : Choice) (K : List Header) (c : IsChoosing up S L st n spoken h choice K) (e : ListedHeader) (N : List Header) (f : IsJoinedFront up S K e N) (more : Choice) (block : more.block ≡ pick up st n choice.block (option_to_list (left_part spoken e.header))) (most : more.largest ≡ max choice.largest (largest up st (option_to_list (left_part spoken e.header)))) where
     pub met_block : pick up st n more.block (left_of spoken (join up N)) ≡ pick up st n None (left_of spoken (join up L))
     met_block =
         ap (λ x. pick up st n x (left_of spoken (join up N))) block

@@ -3,7 +3,7 @@ use Rattle.std.proofs.Common.{Bool, ◌≡◌, ℕ, ◌<◌, ◌≤◌, true, fa
 use Rattle.std.specs.Prelude.{option_to_list}
 use Rattle.dm_space.specs.Memory.{Memory}
 use Rattle.dm_blocks.specs.declared.header.Header.{Header}
-use Rattle.dm_blocks.specs.declared.header.Entry.{Entry}
+use Rattle.dm_blocks.specs.declared.header.ListedHeader.{ListedHeader}
 use Rattle.dm_arena.specs.declared.cut.Cut.{Cut}
 use Rattle.dm_arena.specs.declared.fit.Fit.TheVariants.{First}
 use Rattle.dm_blocks.specs.Chain.{Spells, HasHeader, IsNonEmpty, next, IsClear, IsArena, Becomes}
@@ -50,10 +50,10 @@ module _ (up : Bool) where
   free-push [] c a f = (f, tt)
   free-push (d ∷ R) c a f = (a.0, free-push R c a.1 f)
 
-  pub grown_start : (S : Memory) (e : Entry) (K : List Header) → IsGrowable S e K → (R : List Header) × (Q : List Header) × IsGrown up S e K e R Q
+  pub grown_start : (S : Memory) (e : ListedHeader) (K : List Header) → IsGrowable S e K → (R : List Header) × (Q : List Header) × IsGrown up S e K e R Q
   grown_start S e K g = ([], K, record { is = refl; free = tt; header = refl; last = g.last; rest = g.rest })
 
-  pub grown_more : (S : Memory) (e : Entry) (K : List Header) (g a : Entry) (R Q : List Header) → IsGrown up S e K g R Q → g.last ≡ false → is_free up a.header ≡ true → a.header.segment ≡ next g.header → (t : ℕ) → t ≡ next g.header → ((M : List Header) → IsSpelledFrom S t M → (N : List Header) × IsFront S M a N) → (R' : List Header) × (Q' : List Header) × IsGrown up S e K (record { header = merge g.header a.header; last = a.last }) R' Q'
+  pub grown_more : (S : Memory) (e : ListedHeader) (K : List Header) (g a : ListedHeader) (R Q : List Header) → IsGrown up S e K g R Q → g.last ≡ false → is_free up a.header ≡ true → a.header.segment ≡ next g.header → (t : ℕ) → t ≡ next g.header → ((M : List Header) → IsSpelledFrom S t M → (N : List Header) × IsFront S M a N) → (R' : List Header) × (Q' : List Header) × IsGrown up S e K (record { header = merge g.header a.header; last = a.last }) R' Q'
   grown_more S e K g a R [] x l f there t ist front = absurd (let y : false ≡ true = sym l ∙ x.last in cc)
   grown_more S e K g a R (c ∷ Q) x l f there t ist front =
       let r = front (c ∷ Q) (record { nonempty = tt; spells = spells_at S _ _ (c ∷ Q) (sym ist) x.rest }) in
@@ -69,11 +69,11 @@ module _ (up : Bool) where
         },
       )
 
-  pub grown_last : (S : Memory) (e : Entry) (K : List Header) (g : Entry) (R Q : List Header) → IsGrown up S e K g R Q → g.last ≡ true → BeginsTaken up Q
+  pub grown_last : (S : Memory) (e : ListedHeader) (K : List Header) (g : ListedHeader) (R Q : List Header) → IsGrown up S e K g R Q → g.last ≡ true → BeginsTaken up Q
   grown_last S e K g R [] x l = tt
   grown_last S e K g R (c ∷ Q) x l = absurd (let y : true ≡ false = sym l ∙ x.last in cc)
 
-  pub grown_before_taken : (S : Memory) (e : Entry) (K : List Header) (g a : Entry) (R Q : List Header) → IsGrown up S e K g R Q → is_free up a.header ≡ false → (t : ℕ) → t ≡ next g.header → ((M : List Header) → IsSpelledFrom S t M → (N : List Header) × IsFront S M a N) → BeginsTaken up Q
+  pub grown_before_taken : (S : Memory) (e : ListedHeader) (K : List Header) (g a : ListedHeader) (R Q : List Header) → IsGrown up S e K g R Q → is_free up a.header ≡ false → (t : ℕ) → t ≡ next g.header → ((M : List Header) → IsSpelledFrom S t M → (N : List Header) × IsFront S M a N) → BeginsTaken up Q
   grown_before_taken S e K g a R [] x f t ist front = tt
   grown_before_taken S e K g a R (c ∷ Q) x f t ist front =
       let r = front (c ∷ Q) (record { nonempty = tt; spells = spells_at S _ _ (c ∷ Q) (sym ist) x.rest }) in
@@ -81,12 +81,12 @@ module _ (up : Bool) where
       let z : c ≡ a.header = (let w = y.is in cc) in
       rw z f
 
-  pub grown_next : (S : Memory) (e : Entry) (K : List Header) (g : Entry) (R Q : List Header) → IsGrown up S e K g R Q → g.last ≡ false → (t : ℕ) → t ≡ next g.header → (M : List Header) × IsSpelledFrom S t M
+  pub grown_next : (S : Memory) (e : ListedHeader) (K : List Header) (g : ListedHeader) (R Q : List Header) → IsGrown up S e K g R Q → g.last ≡ false → (t : ℕ) → t ≡ next g.header → (M : List Header) × IsSpelledFrom S t M
   grown_next S e K g R [] x l t ist = absurd (let y : false ≡ true = sym l ∙ x.last in cc)
   grown_next S e K g R (c ∷ Q) x l t ist = (c ∷ Q, record { nonempty = tt; spells = spells_at S _ _ (c ∷ Q) (sym ist) x.rest })
 
   -- the arena L, the block of e in it, and g, which is the block with its run
-  module _ (S : Memory) (start : ℕ) (L : List Header) (segment n : ℕ) (e g : Entry) (P K R Q : List Header) (a : IsArena S start L) (f : IsFoundAt S L segment e P K) (x : IsGrown up S e K g R Q) (stops : BeginsTaken up Q) (other : is_link_block up segment ≡ false) where
+  module _ (S : Memory) (start : ℕ) (L : List Header) (segment n : ℕ) (e g : ListedHeader) (P K R Q : List Header) (a : IsArena S start L) (f : IsFoundAt S L segment e P K) (x : IsGrown up S e K g R Q) (stops : BeginsTaken up Q) (other : is_link_block up segment ≡ false) where
     pub is : L ≡ P ++ e.header ∷ (R ++ Q)
     is = f.is ∙ ap (λ X. P ++ e.header ∷ X) x.is
 

@@ -3,7 +3,7 @@ use Rattle.std.proofs.Common.{◌≡◌, ℕ, Bool, true, false, List, [], ◌�
 use Rattle.dm_space.specs.Memory.{Memory}
 use Rattle.dm_space.proofs.Places.{place-shaped, shaped-then}
 use Rattle.dm_blocks.specs.declared.header.Header.{Header}
-use Rattle.dm_blocks.specs.declared.header.Entry.{Entry}
+use Rattle.dm_blocks.specs.declared.header.ListedHeader.{ListedHeader}
 use Rattle.dm_blocks.specs.Chain.{IsHeader, signature, Spells, HasHeader, IsNonEmpty, next, IsClear, IsArena, signature_byte}
 use Rattle.dm_blocks.specs.Reading.{is_nil}
 use Rattle.dm_arena.specs.inner.Walks.{IsHeaderWritten, IsJoiningAll, IsJoinedFront, IsJoined}
@@ -20,7 +20,7 @@ nonempty_of last [] l e = absurd (let x : false ≡ true = sym l ∙ e in cc)
 nonempty_of last (c ∷ N) l e = tt
 
 module _ (up : Bool) where
-  pub joining_all_step : (S : Memory) (start : ℕ) (L : List Header) (T : Memory) (h : ℕ) (done K : List Header) (U : Memory) (e : Entry) → IsArena S start L → IsNonEmpty K → IsJoiningAll up S start L T h done K → e.header.segment ≡ h → IsHeaderWritten T e.header (signature_byte e.last) U → (N : List Header) → IsJoinedFront up T K e N → IsJoiningAll up S start L U (next e.header) (done ++ e.header ∷ []) N
+  pub joining_all_step : (S : Memory) (start : ℕ) (L : List Header) (T : Memory) (h : ℕ) (done K : List Header) (U : Memory) (e : ListedHeader) → IsArena S start L → IsNonEmpty K → IsJoiningAll up S start L T h done K → e.header.segment ≡ h → IsHeaderWritten T e.header (signature_byte e.last) U → (N : List Header) → IsJoinedFront up T K e N → IsJoiningAll up S start L U (next e.header) (done ++ e.header ∷ []) N
   joining_all_step S start L T h done [] U e a n j there x N f = absurd n
   joining_all_step S start L T h done (c ∷ K) U e a n j there x N f =
       let b = e.header in

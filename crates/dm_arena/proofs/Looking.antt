@@ -3,7 +3,7 @@ use Rattle.std.proofs.Common.{◌≡◌, ◌≢◌, ℕ, ◌*◌, ◌≤◌, Boo
 use Rattle.dm_space.specs.declared.place.Place.{Place}
 use Rattle.dm_space.specs.Memory.{Memory, place}
 use Rattle.dm_blocks.specs.declared.header.Header.{Header}
-use Rattle.dm_blocks.specs.declared.header.Entry.{Entry}
+use Rattle.dm_blocks.specs.declared.header.ListedHeader.{ListedHeader}
 use Rattle.dm_blocks.specs.Chain.{IsNonEmpty, Spells, next}
 use Rattle.dm_arena.specs.Blocks.{join}
 use Rattle.dm_blocks.specs.inner.Standing.{Occupies}
@@ -19,7 +19,7 @@ nonempty_by : (X : List Header) → is_nil X ≡ false → IsNonEmpty X
 nonempty_by [] e = absurd (let y : true ≡ false = e in cc)
 nonempty_by (x ∷ X) e = tt
 
-spelled_at : (S : Memory) (e : Entry) (N : List Header) → e.last ≡ is_nil N → Spells S (next e.header) N → e.last ≡ false → (t : ℕ) → t ≡ next e.header → IsSpelledFrom S t N
+spelled_at : (S : Memory) (e : ListedHeader) (N : List Header) → e.last ≡ is_nil N → Spells S (next e.header) N → e.last ≡ false → (t : ℕ) → t ≡ next e.header → IsSpelledFrom S t N
 spelled_at S e N last rest l t ist = record {
   nonempty = nonempty_by N (sym last ∙ l);
   spells = (let F : ℕ → Type 0 = λ x. Spells S x N in subst F (sym ist) rest);
@@ -29,7 +29,7 @@ spelled_at S e N last rest l t ist = record {
 pub outside-start : (S : Memory) (h : ℕ) (L : List Header) (low high : ℕ) (p : Place) → IsSpelledFrom S h L → IsLookingOutside S L low high p h L
 outside-start S h L low high p s = record { spelled = s; forth = λ o. o; back = λ o. o }
 
-module _ (S : Memory) (L : List Header) (low high : ℕ) (p : Place) (h : ℕ) (K : List Header) (l : IsLookingOutside S L low high p h K) (e : Entry) (there : e.header.segment ≡ h) (N : List Header) (f : IsFront S K e N) where
+module _ (S : Memory) (L : List Header) (low high : ℕ) (p : Place) (h : ℕ) (K : List Header) (l : IsLookingOutside S L low high p h K) (e : ListedHeader) (there : e.header.segment ≡ h) (N : List Header) (f : IsFront S K e N) where
   outside-here : ((h ≤ low) ⊎ (high ≤ h)) × (place S (16 * h) ≡ p) → OccupiesOutside S L low high p
   outside-here is =
       let F : List Header → Type 0 = λ X. OccupiesOutside S X low high p in
@@ -79,7 +79,7 @@ module _ (up : Bool) where
   pub looking-start : (S : Memory) (h : ℕ) (L : List Header) (p : Place) → IsSpelledFrom S h L → IsLooking up S L p h L
   looking-start S h L p s = record { spelled = s; forth = λ o. o; back = λ o. o }
 
-  module _ (S : Memory) (L : List Header) (p : Place) (h : ℕ) (K : List Header) (l : IsLooking up S L p h K) (e : Entry) (there : e.header.segment ≡ h) (N : List Header) (f : IsJoinedFront up S K e N) where
+  module _ (S : Memory) (L : List Header) (p : Place) (h : ℕ) (K : List Header) (l : IsLooking up S L p h K) (e : ListedHeader) (there : e.header.segment ≡ h) (N : List Header) (f : IsJoinedFront up S K e N) where
     pub looked-here : place S (16 * h) ≡ p → Occupies S (join up L) p
     looked-here is =
         let F : List Header → Type 0 = λ X. Occupies S X p in

@@ -5,7 +5,7 @@ use Rattle.std.specs.Bool.{beq}
 use Rattle.dm_space.specs.Memory.{Memory, place, peek, byte_at}
 use Rattle.dm_space.proofs.Places.{paragraph-apart, place-shaped, peek-place, shaped-then}
 use Rattle.dm_blocks.specs.declared.header.Header.{Header}
-use Rattle.dm_blocks.specs.declared.header.Entry.{Entry}
+use Rattle.dm_blocks.specs.declared.header.ListedHeader.{ListedHeader}
 use Rattle.dm_blocks.specs.Chain.{AreApart, Becomes, DiffersInHeaders, HasHeader, IsArena, IsArenaBehind, IsChain, IsClear, IsHeader, IsNonEmpty, NoArenaBehind, Spells, first_header, is_linked, link_header, signature_byte, next, signature, is_parted}
 use Rattle.dm_blocks.specs.Reading.{IsEndingAt, NoEndAt, is_nil}
 use Rattle.dm_blocks.proofs.Chains.{Agrees, clear_map, clear_within, has_either, has_left, has_right, spells_above, spells_below, spells_end, spells_kept, spells_replace}
@@ -114,7 +114,7 @@ signature-more [] n = absurd n
 signature-more (c ∷ U) n = refl
 
 -- the list, and its block that ends at the link block's header
-module _ (S : Memory) (L : List Header) (e : Entry) (P Q : List Header) (a : IsArena S first_header L) (f : IsEndingAt S L 0x9FFF e P Q) where
+module _ (S : Memory) (L : List Header) (e : ListedHeader) (P Q : List Header) (a : IsArena S first_header L) (f : IsEndingAt S L 0x9FFF e P Q) where
   spelled : Spells S first_header (P ++ e.header ∷ Q)
   spelled = let F : List Header → Type 0 = λ X. Spells S first_header X in subst F f.is a.0.1
 
@@ -232,7 +232,7 @@ pub link_alone : (S : Memory) (on : Bool) (L : List Header) → on ≡ true → 
 link_alone S true L is a ne none = inr (L, a, other-true (is_linked L) ne, λ e. none)
 link_alone S false L is a ne none = absurd (let x : false ≡ true = is in cc)
 
-pub links : (S : Memory) (on : Bool) (L : List Header) (a : IsArena S first_header L) (e : Entry) (P Q : List Header) (f : IsEndingAt S L 0x9FFF e P Q) (T : Memory) → IsHeaderWritten S e.header (signature_byte (not on)) T → (is_linked L ≡ on → ⊥) → (on ≡ true → (M U : List Header) × IsArena S first_header M × IsArenaBehind S M link_header U) → Links S on (Ok tt) T
+pub links : (S : Memory) (on : Bool) (L : List Header) (a : IsArena S first_header L) (e : ListedHeader) (P Q : List Header) (f : IsEndingAt S L 0x9FFF e P Q) (T : Memory) → IsHeaderWritten S e.header (signature_byte (not on)) T → (is_linked L ≡ on → ⊥) → (on ≡ true → (M U : List Header) × IsArena S first_header M × IsArenaBehind S M link_header U) → Links S on (Ok tt) T
 links S true L a e P Q f T x ne second =
     let b = second refl in
     let F : List Header → Type 0 = λ X. IsArenaBehind S X link_header b.1 in

@@ -3,7 +3,7 @@ use Rattle.std.proofs.Common.{◌≡◌, ℕ, Bool, true, false, List, [], ◌�
 use Rattle.dm_space.specs.Memory.{Memory}
 use Rattle.dm_space.proofs.Places.{place-shaped, shaped-then}
 use Rattle.dm_blocks.specs.declared.header.Header.{Header}
-use Rattle.dm_blocks.specs.declared.header.Entry.{Entry}
+use Rattle.dm_blocks.specs.declared.header.ListedHeader.{ListedHeader}
 use Rattle.dm_blocks.specs.Chain.{Spells, HasHeader, IsNonEmpty, next, IsArena, Becomes, DiffersInHeaders}
 use Rattle.dm_blocks.specs.Reading.{is_nil, IsFront}
 use Rattle.dm_arena.specs.inner.Walks.{IsReplaceable, IsReplaced, IsReleasing}
@@ -22,7 +22,7 @@ append_nil : (P : List Header) → P ++ [] ≡ P
 append_nil [] = refl
 append_nil (p ∷ P) = ap (λ q. p ∷ q) (append_nil P)
 
-module _ (S : Memory) (start : ℕ) (o : ℕ) (L : List Header) (T : Memory) (h : ℕ) (P K : List Header) (e : Entry) (c : Header) (a : IsArena S start L) (r : IsReleasing S start o L T h P K) (N : List Header) (f : IsFront T K e N) (is : c ≡ released_block o e.header) where
+module _ (S : Memory) (start : ℕ) (o : ℕ) (L : List Header) (T : Memory) (h : ℕ) (P K : List Header) (e : ListedHeader) (c : Header) (a : IsArena S start L) (r : IsReleasing S start o L T h P K) (N : List Header) (f : IsFront T K e N) (is : c ≡ released_block o e.header) where
   whole : L ≡ P ++ e.header ∷ N
   whole = r.is ∙ ap (λ X. P ++ X) f.is
 

@@ -5,7 +5,7 @@ use Rattle.std.specs.Bool.{OnFalse}
 use Rattle.dm_space.specs.Memory.{Memory}
 use Rattle.dm_space.proofs.Places.{shaped-same}
 use Rattle.dm_blocks.specs.declared.header.Header.{Header}
-use Rattle.dm_blocks.specs.declared.header.Entry.{Entry}
+use Rattle.dm_blocks.specs.declared.header.ListedHeader.{ListedHeader}
 use Rattle.dm_blocks.specs.Chain.{first_header, HasHeader, IsArena, Spells, is_free, next}
 use Rattle.dm_blocks.specs.Reading.{IsFront, IsSpelledFrom}
 use Rattle.dm_blocks.specs.Listing.{Leads, LeadsOn, StandsAfter}
@@ -39,33 +39,33 @@ or_none true = refl
 or_none false = refl
 
 module _ (up : Bool) where
-  pub open_start : (S : Memory) (L : List Header) (e : Entry) → (K : List Header) × IsFront S L e K → (K : List Header) × IsRunOpen up S L e false K
+  pub open_start : (S : Memory) (L : List Header) (e : ListedHeader) → (K : List Header) × IsFront S L e K → (K : List Header) × IsRunOpen up S L e false K
   unfolding joining_start
   open_start S L e (K, f) = (K, record { joining = (joining_start up S L e (K, f)).1; single = f.is })
 
-  pub open_more : (S : Memory) (L : List Header) (e a : Entry) (several : Bool) (K : List Header) → IsRunOpen up S L e several K → e.last ≡ false → is_free up e.header ≡ true → is_free up a.header ≡ true → a.header.segment ≡ next e.header → (t : ℕ) → t ≡ next e.header → ((M : List Header) → IsSpelledFrom S t M → (N : List Header) × IsFront S M a N) → (N : List Header) × IsRunOpen up S L (record { header = merge e.header a.header; last = a.last }) true N
+  pub open_more : (S : Memory) (L : List Header) (e a : ListedHeader) (several : Bool) (K : List Header) → IsRunOpen up S L e several K → e.last ≡ false → is_free up e.header ≡ true → is_free up a.header ≡ true → a.header.segment ≡ next e.header → (t : ℕ) → t ≡ next e.header → ((M : List Header) → IsSpelledFrom S t M → (N : List Header) × IsFront S M a N) → (N : List Header) × IsRunOpen up S L (record { header = merge e.header a.header; last = a.last }) true N
   open_more S L e a several K o l fe fa there t ist front =
       let m = joining_more up S L e a K o.joining l fe fa there t ist front in
       (m.0, record { joining = m.1; single = tt })
 
-  pub close_last : (S : Memory) (L : List Header) (e : Entry) (several : Bool) → e.last ≡ true → (K : List Header) × IsRunOpen up S L e several K → (K : List Header) × IsRunFront up S L (record { entry = e; several = several }) K
+  pub close_last : (S : Memory) (L : List Header) (e : ListedHeader) (several : Bool) → e.last ≡ true → (K : List Header) × IsRunOpen up S L e several K → (K : List Header) × IsRunFront up S L (record { entry = e; several = several }) K
   unfolding exit_last
   close_last S L e several l ([], o) = ([], record { front = (exit_last up S L e l ([], o.joining)).1; single = o.single })
   close_last S L e several l (c ∷ K, o) = absurd (let x : true ≡ false = sym l ∙ o.joining.last in cc)
 
-  pub close_taken : (S : Memory) (L : List Header) (e : Entry) (several : Bool) → is_free up e.header ≡ false → (K : List Header) × IsRunOpen up S L e several K → (K : List Header) × IsRunFront up S L (record { entry = e; several = several }) K
+  pub close_taken : (S : Memory) (L : List Header) (e : ListedHeader) (several : Bool) → is_free up e.header ≡ false → (K : List Header) × IsRunOpen up S L e several K → (K : List Header) × IsRunFront up S L (record { entry = e; several = several }) K
   unfolding exit_taken
   close_taken S L e several f ([], o) = ([], record { front = (exit_taken up S L e f ([], o.joining)).1; single = o.single })
   close_taken S L e several f (c ∷ K, o) = (c ∷ K, record { front = (exit_taken up S L e f (c ∷ K, o.joining)).1; single = o.single })
 
-  pub close_before_taken : (S : Memory) (L : List Header) (e a : Entry) (several : Bool) → e.last ≡ false → is_free up e.header ≡ true → is_free up a.header ≡ false → (t : ℕ) → t ≡ next e.header → ((M : List Header) → IsSpelledFrom S t M → (N : List Header) × IsFront S M a N) → (K : List Header) × IsRunOpen up S L e several K → (K : List Header) × IsRunFront up S L (record { entry = e; several = several }) K
+  pub close_before_taken : (S : Memory) (L : List Header) (e a : ListedHeader) (several : Bool) → e.last ≡ false → is_free up e.header ≡ true → is_free up a.header ≡ false → (t : ℕ) → t ≡ next e.header → ((M : List Header) → IsSpelledFrom S t M → (N : List Header) × IsFront S M a N) → (K : List Header) × IsRunOpen up S L e several K → (K : List Header) × IsRunFront up S L (record { entry = e; several = several }) K
   unfolding exit_before_taken
   close_before_taken S L e a several l fe fa t ist front ([], o) = absurd (let x : false ≡ true = sym l ∙ o.joining.last in cc)
   close_before_taken S L e a several l fe fa t ist front (c ∷ K, o) =
       (c ∷ K, record { front = (exit_before_taken up S L e a l fe fa t ist front (c ∷ K, o.joining)).1; single = o.single })
 
   -- a block that is taken is no run
-  pub taken_front : (S : Memory) (L : List Header) (e : Entry) → is_free up e.header ≡ false → (K : List Header) × IsFront S L e K → (K : List Header) × IsRunFront up S L (record { entry = e; several = false }) K
+  pub taken_front : (S : Memory) (L : List Header) (e : ListedHeader) → is_free up e.header ≡ false → (K : List Header) × IsFront S L e K → (K : List Header) × IsRunFront up S L (record { entry = e; several = false }) K
   taken_front S L e f x = close_taken S L e false f (open_start S L e x)
 
   -- what is left to write where the headers before are those of the joined list
@@ -84,7 +84,7 @@ module _ (up : Bool) where
     };
   }
 
-  may_step : (several run : Bool) (S : Memory) (L : List Header) (from h : ℕ) (K : List Header) (e : Entry) (N : List Header) (t : ℕ) → MayJoin up several S L from h K → IsSpelledFrom S h K → IsSpelledFrom S first_header L → join up K ≡ e.header ∷ join up N → OnFalse run (K ≡ e.header ∷ N) →
+  may_step : (several run : Bool) (S : Memory) (L : List Header) (from h : ℕ) (K : List Header) (e : ListedHeader) (N : List Header) (t : ℕ) → MayJoin up several S L from h K → IsSpelledFrom S h K → IsSpelledFrom S first_header L → join up K ≡ e.header ∷ join up N → OnFalse run (K ≡ e.header ∷ N) →
       MayJoin up (several || run) S L (if several || run then from else t) t N
   may_step true run S L from h K e N t m k l j s = m
   may_step false true S L from h K e N t m k l j s = joined_by false S L from h K m k l

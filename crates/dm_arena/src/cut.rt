@@ -9,7 +9,7 @@ ghost use Rattle.dm_arena.specs.inner.Walks.{IsReplaceable, IsReplaced};
 
 use crate::fit::Fit;
 use crate::writing::write_header;
-use dm_blocks::{Entry, Header};
+use dm_blocks::{Header, ListedHeader};
 use dm_space::Space;
 
 /// The one or two headers that replace the header of a block: the lower one first.
@@ -80,7 +80,7 @@ pub(crate) fn write_cut(space: &mut Space, cut: Cut, last: bool)
     match cut.second {
         None => write_header(
             space,
-            Entry {
+            ListedHeader {
                 header: cut.first,
                 last,
             },
@@ -88,14 +88,14 @@ pub(crate) fn write_cut(space: &mut Space, cut: Cut, last: bool)
         Some(second) => {
             write_header(
                 space,
-                Entry {
+                ListedHeader {
                     header: second,
                     last,
                 },
             );
             write_header(
                 space,
-                Entry {
+                ListedHeader {
                     header: cut.first,
                     last: false,
                 },

@@ -8,13 +8,13 @@ ghost use Rattle.dm_arena.specs.inner.Walks.{IsJoinedFront, IsJoined};
 ghost use Rattle.dm_arena.specs.inner.Survey.{IsJoinedTo, IsRunFront};
 
 use crate::writing::put_header;
-use dm_blocks::{Entry, FIRST, spelled_entry};
+use dm_blocks::{FIRST, ListedHeader, spelled_entry};
 use dm_space::Space;
 
 /// Reads the header at a segment from which a list is spelled. If its block is free, it takes in the free blocks
 /// right after it. With `upper`, upper memory belongs to the arena, and the link block counts as taken.
 #[inline(always)]
-pub(crate) fn joined_at(space: &Space, segment: u16, upper: bool) -> Entry
+pub(crate) fn joined_at(space: &Space, segment: u16, upper: bool) -> ListedHeader
     requires { (L : List Header) × IsSpelledFrom space.now.memory segment L }
     ensures there { result.header.segment ≡ segment }
     ensures fits { next result.header ≤ 0xFFFF }
@@ -37,7 +37,7 @@ pub(crate) fn joined_at(space: &Space, segment: u16, upper: bool) -> Entry
 /// A block of the joined list, and whether it is a run of several free blocks.
 #[derive(Clone, Copy)]
 pub(crate) struct Run {
-    pub(crate) entry: Entry,
+    pub(crate) entry: ListedHeader,
     pub(crate) several: bool,
 }
 

@@ -4,7 +4,7 @@ ghost use Rattle.dm_arena.specs.Linking.{Links, TellsLinked};
 
 use crate::refusal::ArenaRefusal;
 use crate::writing::write_header;
-use dm_blocks::{Entry, before_link, has_second, is_arena, is_linked};
+use dm_blocks::{ListedHeader, before_link, has_second, is_arena, is_linked};
 use dm_space::Space;
 
 /// Whether the list is linked with that of upper memory: it has the link block's header (MS-DOS
@@ -48,6 +48,6 @@ pub fn link(space: &mut Space, on: bool) -> Result<(), ArenaRefusal>
     if on && !has_second(space) {
         return Err(ArenaRefusal::Destroyed);
     }
-    write_header(space, Entry { last: !on, ..entry });
+    write_header(space, ListedHeader { last: !on, ..entry });
     Ok(())
 }

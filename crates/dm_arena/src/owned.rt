@@ -13,13 +13,14 @@ use crate::fit::Fit;
 use crate::refusal::ArenaRefusal;
 use crate::standing::may_split_outside;
 use dm_blocks::{
-    Entry, FIRST, Header, LINK, find, find_low, has_second, is_arena, is_linked, spelled_entry,
+    FIRST, Header, LINK, ListedHeader, find, find_low, has_second, is_arena, is_linked,
+    spelled_entry,
 };
 use dm_space::Space;
 
 /// The header of the first list whose block begins at a segment; None if no block begins there, or if the link block
 /// does (functions 49h and 4Ah refuse that).
-fn find_block(space: &Space, segment: u16, upper: bool) -> Option<Entry>
+fn find_block(space: &Space, segment: u16, upper: bool) -> Option<ListedHeader>
     requires { (L : List Header) × IsSpelledFrom space.now.memory first_header L }
     ensures found { FindsOther upper space.now.memory first_header segment result }
     ensures fits { MatchOption result (Unit {0}) (λ e. next e.header ≤ 0xFFFF) }
@@ -33,7 +34,7 @@ fn find_block(space: &Space, segment: u16, upper: bool) -> Option<Entry>
 /// The header of the first list whose block begins at a segment, as functions 49h and 4Ah look for it. `Destroyed`
 /// where memory spells no clear list, else `NoBlock` where no block of the list begins at the segment, or the link
 /// block does.
-fn find_owned(space: &Space, segment: u16, upper: bool) -> Result<Entry, ArenaRefusal>
+fn find_owned(space: &Space, segment: u16, upper: bool) -> Result<ListedHeader, ArenaRefusal>
     ensures { MatchResult result (λ e. IsOwnedAt upper space.now.memory segment e) (λ e. IsNowhere upper space.now.memory segment e) }
 {
     if !upper {
@@ -79,7 +80,7 @@ pub fn free(space: &mut Space, segment: u16, upper: bool) -> Result<(), ArenaRef
 }
 
 /// The header with the run of free blocks after its block taken in, as function 4Ah does before it cuts the block.
-fn grow(space: &Space, entry: Entry, upper: bool) -> Entry
+fn grow(space: &Space, entry: ListedHeader, upper: bool) -> ListedHeader
     requires fits { next entry.header ≤ 0xFFFF }
     requires growable { (K : List Header) × IsGrowable space.now.memory entry K }
     ensures fits { next result.header ≤ 0xFFFF }

@@ -10,7 +10,7 @@ ghost use Rattle.dm_arena.specs.inner.Survey.{IsRunFront, IsSurvey};
 
 use crate::fit::{Choice, Strategy, in_effect, meet};
 use crate::joined::{Run, run_at};
-use dm_blocks::{Entry, FIRST, is_arena, low_entry, spelled_entry};
+use dm_blocks::{FIRST, ListedHeader, is_arena, low_entry, spelled_entry};
 use dm_space::Space;
 
 /// What a walk over the joined list has found.
@@ -24,7 +24,7 @@ pub(crate) struct Survey {
 
 /// A free block with the free blocks after it taken in, in a list of which nothing is known. None where a header that
 /// is read can't be one, or stands at segment C000h or above.
-fn low_run_after(space: &Space, first: Entry, upper: bool) -> Option<Run>
+fn low_run_after(space: &Space, first: ListedHeader, upper: bool) -> Option<Run>
     requires fits { next first.header ≤ 0xFFFF }
     requires front { (L : List Header) → IsSpelledFrom space.now.memory first.header.segment L → (K : List Header) × IsFront space.now.memory L first K }
     requires proceeds { LeadsOn space.now.memory first.header.segment first.last (next first.header) }

@@ -6,7 +6,7 @@ ghost use Rattle.dm_space.specs.inner.Places.{IsPoked};
 ghost use Rattle.dm_blocks.specs.Chain.{IsHeader, signature_byte, next};
 ghost use Rattle.dm_arena.specs.inner.Walks.{IsHeaderWritten};
 
-use dm_blocks::{Entry, header_at};
+use dm_blocks::{ListedHeader, header_at};
 use dm_space::Space;
 
 /// The segment up to which headers stand in RAM that needs no look at the map.
@@ -60,7 +60,7 @@ fn set_low_word(space: &mut Space, segment: u16, offset: u16, value: u16)
 
 /// Does what `write_header` does, for a header below segment C000h.
 #[inline(always)]
-fn write_low_header(space: &mut Space, entry: Entry)
+fn write_low_header(space: &mut Space, entry: ListedHeader)
     requires fits { next entry.header ≤ 0xFFFF }
     requires low { entry.header.segment < 0xC000 }
     ensures memory { IsHeaderWritten space.old.memory entry.header (signature_byte entry.last) space.new.memory }
@@ -75,7 +75,7 @@ fn write_low_header(space: &mut Space, entry: Entry)
 /// Does what `write_header` does, byte by byte, wherever the header stands.
 #[cold]
 #[inline(never)]
-fn write_high_header(space: &mut Space, entry: Entry)
+fn write_high_header(space: &mut Space, entry: ListedHeader)
     requires { next entry.header ≤ 0xFFFF }
     ensures memory { IsHeaderWritten space.old.memory entry.header (signature_byte entry.last) space.new.memory }
     ensures scratch { space.new.scratch ≡ space.old.scratch }
@@ -91,7 +91,7 @@ fn write_high_header(space: &mut Space, entry: Entry)
 }
 
 /// Writes a header's five bytes: signature (`Z` if it is marked last, else `M`), owner and size. Nothing else changes.
-pub(crate) fn write_header(space: &mut Space, entry: Entry)
+pub(crate) fn write_header(space: &mut Space, entry: ListedHeader)
     requires { next entry.header ≤ 0xFFFF }
     ensures memory { IsHeaderWritten space.old.memory entry.header (signature_byte entry.last) space.new.memory }
     ensures scratch { space.new.scratch ≡ space.old.scratch }
@@ -105,7 +105,7 @@ pub(crate) fn write_header(space: &mut Space, entry: Entry)
 
 /// Whether memory has a header, with its signature, at its segment.
 #[inline(always)]
-fn has_header(space: &Space, entry: Entry) -> bool
+fn has_header(space: &Space, entry: ListedHeader) -> bool
     ensures { OnTrue result (IsHeader space.now.memory entry.header (signature_byte entry.last)) }
 {
     let Some(there) = header_at(space, entry.header.segment) else {
@@ -116,7 +116,7 @@ fn has_header(space: &Space, entry: Entry) -> bool
 
 /// Does what [`write_header`] does, and writes nothing where memory has the header already.
 #[inline(always)]
-pub(crate) fn put_header(space: &mut Space, entry: Entry)
+pub(crate) fn put_header(space: &mut Space, entry: ListedHeader)
     requires { next entry.header ≤ 0xFFFF }
     ensures memory { IsHeaderWritten space.old.memory entry.header (signature_byte entry.last) space.new.memory }
     ensures scratch { space.new.scratch ≡ space.old.scratch }

@@ -3,20 +3,20 @@ use Rattle.std.proofs.Common.{◌≡◌, ◌≢◌, ℕ, ◌<◌, ◌≤◌, Boo
 use Rattle.std.specs.Prelude.{if◌then◌else◌}
 use Rattle.dm_space.specs.Memory.{Memory}
 use Rattle.dm_blocks.specs.declared.header.Header.{Header}
-use Rattle.dm_blocks.specs.declared.header.Entry.{Entry}
+use Rattle.dm_blocks.specs.declared.header.ListedHeader.{ListedHeader}
 use Rattle.dm_blocks.specs.Chain.{HasHeader, Spells, next}
 use Rattle.dm_blocks.specs.Reading.{IsFront, IsSpelledFrom, is_nil}
 use Rattle.dm_blocks.specs.inner.Reading.{AreLeft, HasCaughtUp, IsCursor}
 use Rattle.dm_blocks.proofs.Chains.{has_either, has_right, spells_above}
 
-left_by : (S : Memory) (e : Entry) (N : List Header) (r q : Bool) → e.last ≡ r → r ≡ is_nil N → Spells S (next e.header) N → (n : ℕ) → n ≡ next e.header → AreLeft S (if r then None else Some n) N
+left_by : (S : Memory) (e : ListedHeader) (N : List Header) (r q : Bool) → e.last ≡ r → r ≡ is_nil N → Spells S (next e.header) N → (n : ℕ) → n ≡ next e.header → AreLeft S (if r then None else Some n) N
 left_by S e [] true q l is s n at = refl
 left_by S e (c ∷ N) true q l is s n at = absurd (let x : true ≡ false = is in cc)
 left_by S e [] false q l is s n at = absurd (let x : false ≡ true = is in cc)
 left_by S e (c ∷ N) false q l is s n at = record { nonempty = tt; spells = (let F : ℕ → Type 0 = λ x. Spells S x (c ∷ N) in subst F (sym at) s) }
 
 -- one header further
-module _ (S : Memory) (here : ℕ) (e : Entry) (there : e.header.segment ≡ here) (front : (L : List Header) → IsSpelledFrom S here L → (K : List Header) × IsFront S L e K) (o : Option ℕ) (n : ℕ) (at : n ≡ next e.header) (is : o ≡ (if e.last then None else Some n)) where
+module _ (S : Memory) (here : ℕ) (e : ListedHeader) (there : e.header.segment ≡ here) (front : (L : List Header) → IsSpelledFrom S here L → (K : List Header) × IsFront S L e K) (o : Option ℕ) (n : ℕ) (at : n ≡ next e.header) (is : o ≡ (if e.last then None else Some n)) where
   more : (K : List Header) → IsSpelledFrom S here K → (N : List Header) × (K ≡ e.header ∷ N) × AreLeft S o N
   more K s =
       let f = front K s in
@@ -82,8 +82,8 @@ cursor-start S h t F s = record { passed = []; rest = F; is = refl; below = λ g
 pub cursor-none : (S : Memory) (t : ℕ) → IsCursor S [] None t
 cursor-none S t = record { passed = []; rest = []; is = refl; below = λ g w. absurd w; left = refl }
 
-pub none-is : (e : Entry) (n : ℕ) → e.last ≡ true → None ≡ (if e.last then None else Some n)
+pub none-is : (e : ListedHeader) (n : ℕ) → e.last ≡ true → None ≡ (if e.last then None else Some n)
 none-is e n l = rw l refl
 
-pub some-is : (e : Entry) (n : ℕ) → e.last ≡ false → Some n ≡ (if e.last then None else Some n)
+pub some-is : (e : ListedHeader) (n : ℕ) → e.last ≡ false → Some n ≡ (if e.last then None else Some n)
 some-is e n l = rw l refl

@@ -4,13 +4,13 @@ use Rattle.std.specs.Prelude.{is_some}
 use Rattle.std.proofs.lemmas.Bool.Decides.{nat_tests}
 use Rattle.dm_space.specs.Memory.{Memory}
 use Rattle.dm_blocks.specs.declared.header.Header.{Header}
-use Rattle.dm_blocks.specs.declared.header.Entry.{Entry}
+use Rattle.dm_blocks.specs.declared.header.ListedHeader.{ListedHeader}
 use Rattle.dm_blocks.specs.Chain.{Spells, NoBlockAt, is_linked, next}
 use Rattle.dm_blocks.specs.Reading.{is_nil, IsFront, FindsBlock, IsFoundAt, IsEndingAt, IsSpelledFrom, NoEndAt}
 use Rattle.dm_blocks.specs.inner.Reading.{IsFinding, IsSeeking}
 use Rattle.dm_blocks.proofs.Chains.{has_either}
 
-module _ (S : Memory) (L : List Header) (segment h : ℕ) (e : Entry) (there : e.header.segment ≡ h) (P K : List Header) (f : IsFinding S L segment h P K) (N : List Header) (g : IsFront S K e N) where
+module _ (S : Memory) (L : List Header) (segment h : ℕ) (e : ListedHeader) (there : e.header.segment ≡ h) (P K : List Header) (f : IsFinding S L segment h P K) (N : List Header) (g : IsFront S K e N) where
   all : L ≡ P ++ e.header ∷ N
   all = f.is ∙ ap (λ X. P ++ X) g.is
 
@@ -33,7 +33,7 @@ module _ (S : Memory) (L : List Header) (segment h : ℕ) (e : Entry) (there : e
       nil_of [] z = refl
       nil_of (x ∷ X) z = absurd (let y : false ≡ true = z in cc)
 
-pub finding_more : (S : Memory) (L : List Header) (segment h : ℕ) (e : Entry) → e.header.segment ≡ h → (P K : List Header) → IsFinding S L segment h P K → (N : List Header) → IsFront S K e N → (h + 1 ≡ segment → ⊥) → e.last ≡ false → (t : ℕ) → t ≡ next e.header → (P' : List Header) × (K' : List Header) × IsFinding S L segment t P' K'
+pub finding_more : (S : Memory) (L : List Header) (segment h : ℕ) (e : ListedHeader) → e.header.segment ≡ h → (P K : List Header) → IsFinding S L segment h P K → (N : List Header) → IsFront S K e N → (h + 1 ≡ segment → ⊥) → e.last ≡ false → (t : ℕ) → t ≡ next e.header → (P' : List Header) × (K' : List Header) × IsFinding S L segment t P' K'
 finding_more S L segment h e there P K f [] g ne l t ist = absurd (let x : false ≡ true = sym l ∙ g.last in cc)
 finding_more S L segment h e there P K f (c ∷ N) g ne l t ist = (
   P ++ e.header ∷ [],
@@ -54,7 +54,7 @@ nil_of : (X : List Header) → is_nil X ≡ true → X ≡ []
 nil_of [] z = refl
 nil_of (x ∷ X) z = absurd (let y : false ≡ true = z in cc)
 
-module _ (S : Memory) (L : List Header) (segment h : ℕ) (e : Entry) (P K : List Header) (f : IsSeeking S L segment h P K) (N : List Header) (g : IsFront S K e N) where
+module _ (S : Memory) (L : List Header) (segment h : ℕ) (e : ListedHeader) (P K : List Header) (f : IsSeeking S L segment h P K) (N : List Header) (g : IsFront S K e N) where
   whole : L ≡ P ++ e.header ∷ N
   whole = f.is ∙ ap (λ X. P ++ X) g.is
 
@@ -66,7 +66,7 @@ module _ (S : Memory) (L : List Header) (segment h : ℕ) (e : Entry) (P K : Lis
       let F : List Header → Type 0 = λ X. NoEndAt X segment in
       subst F (sym (whole ∙ ap (λ X. P ++ e.header ∷ X) (nil_of N (sym g.last ∙ l)))) (no-end-more P e.header segment f.none ne)
 
-pub seeking_more : (S : Memory) (L : List Header) (segment h : ℕ) (e : Entry) (P K : List Header) → IsSeeking S L segment h P K → (N : List Header) → IsFront S K e N → next e.header ≢ segment → e.last ≡ false → (t : ℕ) → t ≡ next e.header → (P' : List Header) × (K' : List Header) × IsSeeking S L segment t P' K'
+pub seeking_more : (S : Memory) (L : List Header) (segment h : ℕ) (e : ListedHeader) (P K : List Header) → IsSeeking S L segment h P K → (N : List Header) → IsFront S K e N → next e.header ≢ segment → e.last ≡ false → (t : ℕ) → t ≡ next e.header → (P' : List Header) × (K' : List Header) × IsSeeking S L segment t P' K'
 seeking_more S L segment h e P K f [] g ne l t ist = absurd (let x : false ≡ true = sym l ∙ g.last in cc)
 seeking_more S L segment h e P K f (c ∷ N) g ne l t ist = (
   P ++ e.header ∷ [],
@@ -95,7 +95,7 @@ linked-none (b ∷ L) n =
     let r = linked-none L (λ h w. n h (inr w)) in
     rw t r
 
-pub linked-found : (S : Memory) (L : List Header) (o : Option Entry) → FindsBlock S 0x100 0xA000 o → IsSpelledFrom S 0x100 L → is_some o ≡ is_linked L
+pub linked-found : (S : Memory) (L : List Header) (o : Option ListedHeader) → FindsBlock S 0x100 0xA000 o → IsSpelledFrom S 0x100 L → is_some o ≡ is_linked L
 linked-found S L None f s = sym (linked-none L (f L s))
 linked-found S L (Some e) f s =
     let r = f L s in

@@ -5,7 +5,7 @@ use Rattle.dm_space.specs.Memory.{Memory, place}
 use Rattle.dm_space.specs.declared.place.Place.TheVariants.{Low}
 use Rattle.dm_space.proofs.Places.{place-low}
 use Rattle.dm_blocks.specs.declared.header.Header.{Header}
-use Rattle.dm_blocks.specs.declared.header.Entry.{Entry}
+use Rattle.dm_blocks.specs.declared.header.ListedHeader.{ListedHeader}
 use Rattle.dm_blocks.specs.Chain.{HasHeader, IsArena, IsHeader, NoArena, first_header, next, signature, signature_byte}
 use Rattle.dm_blocks.specs.Listing.{Follows, Leads, LeadsOn, StandsAfter}
 use Rattle.dm_blocks.specs.Reading.{IsEntryAt}
@@ -30,7 +30,7 @@ module _ (S : Memory) (P : List Header) (t : ℕ) (u : IsUpTo S P t) where
   pub none-behind : ((b : Header) (L : List Header) → b.segment ≡ t → IsHeader S b (signature L) → ⊥) → NoArena S first_header
   none-behind bad L a = no_arena S [] 0x100 P t u.leads (λ e. bad-header S [] P t e bad) L (a.0, a.1, λ g x y. x)
 
-  module _ (low : t < 0xC000) (e : Entry) (at : e.header.segment ≡ t) (x : IsHeader S e.header (signature_byte e.last)) where
+  module _ (low : t < 0xC000) (e : ListedHeader) (at : e.header.segment ≡ t) (x : IsHeader S e.header (signature_byte e.last)) where
     ram : place S (16 * t) ≡ Low (16 * t)
     ram = place-low S (16 * t) (omega arith)
 
@@ -61,7 +61,7 @@ pub leads-first : (S : Memory) → Leads S [] first_header [] first_header
 leads-first S = (at-first S).leads
 
 -- a header that is read below C000h leads a walk on
-module _ (S : Memory) (P : List Header) (t : ℕ) (u : Leads S [] first_header P t) (low : t < 0xC000) (e : Entry) (at : e.header.segment ≡ t) (x : IsHeader S e.header (signature_byte e.last)) where
+module _ (S : Memory) (P : List Header) (t : ℕ) (u : Leads S [] first_header P t) (low : t < 0xC000) (e : ListedHeader) (at : e.header.segment ≡ t) (x : IsHeader S e.header (signature_byte e.last)) where
   fresh : HasHeader P t → ⊥
   fresh w = let l = path-below S 0x100 P t u.path t w in omega arith
 
@@ -82,7 +82,7 @@ module _ (S : Memory) (P : List Header) (t : ℕ) (u : Leads S [] first_header P
   pub stands : StandsAfter S e.last (next e.header)
   stands = stands-by e.last refl
 
-pub proceeds : (S : Memory) (h : ℕ) (o : Option Entry) → h < 0xC000 → IsEntryAt S h o → IfSome o (λ e. LeadsOn S h e.last (next e.header))
+pub proceeds : (S : Memory) (h : ℕ) (o : Option ListedHeader) → h < 0xC000 → IsEntryAt S h o → IfSome o (λ e. LeadsOn S h e.last (next e.header))
 proceeds S h None low x = tt
 proceeds S h (Some e) low x = λ P u. stands S P h u low e x.0 x.1
 

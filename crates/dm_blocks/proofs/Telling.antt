@@ -3,28 +3,28 @@ use Rattle.std.proofs.Common.{◌≡◌, ℕ, ◌<◌, ◌≤◌, false, true, L
 use Rattle.std.specs.Prelude.{is_some}
 use Rattle.dm_space.specs.Memory.{Memory}
 use Rattle.dm_blocks.specs.declared.header.Header.{Header}
-use Rattle.dm_blocks.specs.declared.header.Entry.{Entry}
-use Rattle.dm_blocks.specs.declared.listing.Step.{Step}
-use Rattle.dm_blocks.specs.declared.listing.Step.TheVariants.{Told, End, Destroyed}
+use Rattle.dm_blocks.specs.declared.header.ListedHeader.{ListedHeader}
+use Rattle.dm_blocks.specs.declared.listing.Met.{Met}
+use Rattle.dm_blocks.specs.declared.listing.Met.TheVariants.{Told, End, Destroyed}
 use Rattle.dm_blocks.specs.Chain.{IsArena, IsArenaBehind, NoArena, NoArenaBehind, first_header, link_header, next}
-use Rattle.dm_blocks.specs.Listing.{AreTold, IsBehind, IsStep, IsStepFrom, Steps, Walking, start_of}
+use Rattle.dm_blocks.specs.Listing.{AreTold, IsBehind, IsMet, IsMetFrom, MeetsNext, Walking, start_of}
 use Rattle.dm_blocks.specs.inner.Reading.{steps_left}
 use Rattle.dm_blocks.specs.inner.Telling.{HasToldAll, IsBroken, IsToldAll}
 
 -- v is a later state of the walk w, which has told nothing that breaks the list
-module _ (w v : Walking) (memory : v.memory ≡ w.memory) (second : v.second ≡ w.second) (stands : (t : ℕ) × (v.at ≡ Some t) × (t ≤ 0xFFFF)) (s : Step) (o : Option ℕ) (x : Steps v s o) where
+module _ (w v : Walking) (memory : v.memory ≡ w.memory) (second : v.second ≡ w.second) (stands : (t : ℕ) × (v.at ≡ Some t) × (t ≤ 0xFFFF)) (s : Met) (o : Option ℕ) (x : MeetsNext v s o) where
   behind : IsBehind w.memory w.second x.front
   behind =
       let G : Memory → Type 0 = λ y. IsBehind y v.second x.front in
       let H : Bool → Type 0 = λ y. IsBehind w.memory y x.front in
       subst H second (subst G memory x.behind)
 
-  from : IsStepFrom w.memory x.front (start_of w.second) stands.0 s o
+  from : IsMetFrom w.memory x.front (start_of w.second) stands.0 s o
   from =
-      let F : Option ℕ → Type 0 = λ y. IsStep v.memory x.front (start_of v.second) y s o in
-      let G : Memory → Type 0 = λ y. IsStepFrom y x.front (start_of v.second) stands.0 s o in
-      let H : Bool → Type 0 = λ y. IsStepFrom w.memory x.front (start_of y) stands.0 s o in
-      subst H second (subst G memory (subst F stands.1 x.steps))
+      let F : Option ℕ → Type 0 = λ y. IsMet v.memory x.front (start_of v.second) y s o in
+      let G : Memory → Type 0 = λ y. IsMetFrom y x.front (start_of v.second) stands.0 s o in
+      let H : Bool → Type 0 = λ y. IsMetFrom w.memory x.front (start_of y) stands.0 s o in
+      subst H second (subst G memory (subst F stands.1 x.meets))
 
   leads : AreTold w.memory x.front (start_of w.second) (Some stands.0)
   leads =
@@ -33,8 +33,8 @@ module _ (w v : Walking) (memory : v.memory ≡ w.memory) (second : v.second ≡
       let H : Bool → Type 0 = λ y. AreTold w.memory x.front (start_of y) (Some stands.0) in
       subst H second (subst G memory (subst F stands.1 x.told))
 
-  at-step : (q : Step) → s ≡ q → IsStepFrom w.memory x.front (start_of w.second) stands.0 q o
-  at-step q e = (let F : Step → Type 0 = λ y. IsStepFrom w.memory x.front (start_of w.second) stands.0 y o in subst F e from)
+  at-step : (q : Met) → s ≡ q → IsMetFrom w.memory x.front (start_of w.second) stands.0 q o
+  at-step q e = (let F : Met → Type 0 = λ y. IsMetFrom w.memory x.front (start_of w.second) stands.0 y o in subst F e from)
 
   pub not_ended : s ≡ End → ⊥
   not_ended e = at-step End e
@@ -42,7 +42,7 @@ module _ (w v : Walking) (memory : v.memory ≡ w.memory) (second : v.second ≡
   pub broken : (h : ℕ) → s ≡ Destroyed h → IsBroken w
   broken h e = record { front = x.front; behind = behind; none = (at-step (Destroyed h) e).2 }
 
-  module _ (e : Entry) (is : s ≡ Told e) where
+  module _ (e : ListedHeader) (is : s ≡ Told e) where
     pub told_last : e.last ≡ true → IsToldAll w
     told_last last =
         let l = leads in

@@ -4,13 +4,13 @@ use Rattle.std.specs.Prelude.{if◌then◌else◌}
 use Rattle.dm_space.specs.Memory.{Memory, place}
 use Rattle.dm_space.specs.Places.{IsWritable}
 use Rattle.dm_blocks.specs.declared.header.Header.{Header}
-use Rattle.dm_blocks.specs.declared.header.Entry.{Entry}
+use Rattle.dm_blocks.specs.declared.header.ListedHeader.{ListedHeader}
 use Rattle.dm_blocks.specs.Chain.{IsHeader, signature, Spells, HasHeader, IsNonEmpty, next, IsClear, IsArena, IsArenaBehind, NoArenaBehind, AreApart, first_header, signature_byte}
 use Rattle.dm_blocks.specs.Reading.{is_nil}
 use Rattle.dm_blocks.specs.inner.Reading.{HasCaughtUp, IsCursor}
-use Rattle.dm_blocks.specs.declared.listing.Step.{Step}
-use Rattle.dm_blocks.specs.declared.listing.Step.TheVariants.{Told, End, Destroyed}
-use Rattle.dm_blocks.specs.Listing.{Walking, Path, Leads, Follows, Closes, IsBehind, IsStep, IsStepFrom, Steps, start_of}
+use Rattle.dm_blocks.specs.declared.listing.Met.{Met}
+use Rattle.dm_blocks.specs.declared.listing.Met.TheVariants.{Told, End, Destroyed}
+use Rattle.dm_blocks.specs.Listing.{Walking, Path, Leads, Follows, Closes, IsBehind, IsMet, IsMetFrom, MeetsNext, start_of}
 use Rattle.dm_blocks.proofs.Chains.{has_left, has_right, has_either, clear_within}
 use Rattle.dm_blocks.specs.inner.Marks.{AreMarked, IsMarked, IsMarkedWalk}
 use Rattle.dm_blocks.specs.inner.Standing.{MayStand}
@@ -77,7 +77,7 @@ behind_either F P b g w = elim (has_either F (P ++ b ∷ []) g w) [
   ]
 ]
 
-pub told : (S : Memory) (F : List Header) (f : ℕ) (P : List Header) (t : ℕ) (e : Entry) → Leads S F f P t → MayStand S (F ++ P) t → (HasHeader F t → ⊥) → e.header.segment ≡ t → IsHeader S e.header (signature_byte e.last) → Follows S F P t e
+pub told : (S : Memory) (F : List Header) (f : ℕ) (P : List Header) (t : ℕ) (e : ListedHeader) → Leads S F f P t → MayStand S (F ++ P) t → (HasHeader F t → ⊥) → e.header.segment ≡ t → IsHeader S e.header (signature_byte e.last) → Follows S F P t e
 told S F f P t e l may new at x = record {
   at = at;
   header = x;
@@ -92,7 +92,7 @@ told S F f P t e l may new at x = record {
 }
 
 -- a header that follows may stand there
-stood : (S : Memory) (F : List Header) (f : ℕ) (P : List Header) (t : ℕ) (e : Entry) → Leads S F f P t → Follows S F P t e → MayStand S (F ++ P) t
+stood : (S : Memory) (F : List Header) (f : ℕ) (P : List Header) (t : ℕ) (e : ListedHeader) → Leads S F f P t → Follows S F P t e → MayStand S (F ++ P) t
 stood S F f P t e l x =
     let last : HasHeader (P ++ e.header ∷ []) e.header.segment = has_right P (e.header ∷ []) e.header.segment (inl refl) in
     let here : HasHeader (F ++ (P ++ e.header ∷ [])) e.header.segment = has_right F (P ++ e.header ∷ []) e.header.segment last in
@@ -110,21 +110,21 @@ stood S F f P t e l x =
           ]);
     }
 
-pub closes : (S : Memory) (F : List Header) (f : ℕ) (P : List Header) (t : ℕ) (e : Entry) → Leads S F f P t → Follows S F P t e → Closes S F f P e
+pub closes : (S : Memory) (F : List Header) (f : ℕ) (P : List Header) (t : ℕ) (e : ListedHeader) → Leads S F f P t → Follows S F P t e → Closes S F f P e
 closes S F f P t e l x last = ((nonempty P e.header [], path-spells S f P t e.header l.path x.at (header-mark S e.header _ _ (ap signature_byte last) x.header)), x.clear, x.apart)
 
-bad-by : (S : Memory) (F P : List Header) (t : ℕ) (e : Entry) (r : Bool) → e.last ≡ r → ((b : Header) (L : List Header) → b.segment ≡ t → IsHeader S b (signature L) → ⊥) → Follows S F P t e → ⊥
+bad-by : (S : Memory) (F P : List Header) (t : ℕ) (e : ListedHeader) (r : Bool) → e.last ≡ r → ((b : Header) (L : List Header) → b.segment ≡ t → IsHeader S b (signature L) → ⊥) → Follows S F P t e → ⊥
 bad-by S F P t e true last bad f = bad e.header [] f.at (header-mark S e.header _ _ (ap signature_byte last) f.header)
 bad-by S F P t e false last bad f = bad e.header (e.header ∷ []) f.at (header-mark S e.header _ _ (ap signature_byte last) f.header)
 
-pub bad-header : (S : Memory) (F P : List Header) (t : ℕ) (e : Entry) → ((b : Header) (L : List Header) → b.segment ≡ t → IsHeader S b (signature L) → ⊥) → Follows S F P t e → ⊥
+pub bad-header : (S : Memory) (F P : List Header) (t : ℕ) (e : ListedHeader) → ((b : Header) (L : List Header) → b.segment ≡ t → IsHeader S b (signature L) → ⊥) → Follows S F P t e → ⊥
 bad-header S F P t e bad f = bad-by S F P t e _ refl bad f
 
 mark-nil : (K : List Header) → signature_byte (is_nil K) ≡ signature K
 mark-nil [] = refl
 mark-nil (c ∷ K) = refl
 
-follows-of : (S : Memory) (F P : List Header) (t : ℕ) (L K : List Header) → IsClear S (F ++ L) → AreApart F L → L ≡ P ++ K → IsNonEmpty K → Spells S t K → (e : Entry) × Follows S F P t e
+follows-of : (S : Memory) (F P : List Header) (t : ℕ) (L K : List Header) → IsClear S (F ++ L) → AreApart F L → L ≡ P ++ K → IsNonEmpty K → Spells S t K → (e : ListedHeader) × Follows S F P t e
 follows-of S F P t L [] c d is n s = absurd n
 follows-of S F P t L (k ∷ K) c d is n s =
     let within : (g : ℕ) → HasHeader (P ++ k ∷ []) g → HasHeader L g = λ g w. (let G : List Header → Type 0 = λ X. HasHeader X g in subst G (sym is) (elim (has_either P (k ∷ []) g w) [
@@ -141,7 +141,7 @@ follows-of S F P t L (k ∷ K) c d is n s =
     )
 
 -- where no header can follow, there is no arena
-pub no_arena : (S : Memory) (F : List Header) (f : ℕ) (P : List Header) (t : ℕ) → Leads S F f P t → ((e : Entry) → Follows S F P t e → ⊥) → NoArenaBehind S F f
+pub no_arena : (S : Memory) (F : List Header) (f : ℕ) (P : List Header) (t : ℕ) → Leads S F f P t → ((e : ListedHeader) → Follows S F P t e → ⊥) → NoArenaBehind S F f
 no_arena S F f P t l bad L a =
     let r = path-splits S f P t L l.path a.0.1 a.0.0 in
     let x = follows-of S F P t L r.0 a.1 a.2 r.1 r.2 r.3 in
@@ -151,7 +151,7 @@ marked_on : (m : Memory) (F P : List Header) (b : Header) (marks : List Bool) �
 marked_on m F P b marks a = (let G : List Header → Type 0 = λ X. AreMarked m X marks in subst G (append_assoc F P (b ∷ [])) a)
 
 -- a walk that has told a header
-under_way : (m : Memory) (second : Bool) (F : List Header) → IsBehind m second F → (P : List Header) (t : ℕ) (e : Entry) (cursor : Option ℕ) (new : List Bool) (r : Bool) → e.last ≡ r → Leads m F (start_of second) P t → Follows m F P t e → AreMarked m (F ++ (P ++ e.header ∷ [])) new → IsCursor m F cursor t → IsMarked m second F (if r then None else Some (next e.header)) cursor new
+under_way : (m : Memory) (second : Bool) (F : List Header) → IsBehind m second F → (P : List Header) (t : ℕ) (e : ListedHeader) (cursor : Option ℕ) (new : List Bool) (r : Bool) → e.last ≡ r → Leads m F (start_of second) P t → Follows m F P t e → AreMarked m (F ++ (P ++ e.header ∷ [])) new → IsCursor m F cursor t → IsMarked m second F (if r then None else Some (next e.header)) cursor new
 under_way m false F b P t e cursor new true last l x a k =
     let c = closes m F 0x100 P t e l x last in
     let G : List Header → Type 0 = λ X. IsClear m (X ++ (P ++ e.header ∷ [])) in
@@ -169,18 +169,18 @@ under_way m second F b P t e cursor new false last l x a k = (
   cursor-later m F cursor t (next e.header) (let at = x.at in omega arith) k,
 )
 
-pub at_last : (o : Option ℕ) (e : Entry) → e.last ≡ true → o ≡ None → o ≡ (if e.last then None else Some (next e.header))
+pub at_last : (o : Option ℕ) (e : ListedHeader) → e.last ≡ true → o ≡ None → o ≡ (if e.last then None else Some (next e.header))
 at_last o e last is = rw last is
 
-pub at_more : (o : Option ℕ) (e : Entry) (n : ℕ) → e.last ≡ false → o ≡ Some n → n ≡ next e.header → o ≡ (if e.last then None else Some (next e.header))
+pub at_more : (o : Option ℕ) (e : ListedHeader) (n : ℕ) → e.last ≡ false → o ≡ Some n → n ≡ next e.header → o ≡ (if e.last then None else Some (next e.header))
 at_more o e n last is n-is = rw last (is ∙ ap (λ x. Some x) n-is)
 
 -- the walk that has told all
-pub step_end : (m : Memory) (second : Bool) (o : Option ℕ) (cursor : Option ℕ) (marks : List Bool) → IsMarkedWalk (record { memory = m; second = second; at = o }) cursor marks → o ≡ None → (w : Walking) → record { memory = m; second = second; at = o } ≡ w → Steps w End w.at
+pub step_end : (m : Memory) (second : Bool) (o : Option ℕ) (cursor : Option ℕ) (marks : List Bool) → IsMarkedWalk (record { memory = m; second = second; at = o }) cursor marks → o ≡ None → (w : Walking) → record { memory = m; second = second; at = o } ≡ w → MeetsNext w End w.at
 step_end m second o cursor marks u none w is =
-    let G : Walking → Type 0 = λ y. Steps y End y.at in
-    let H : Option ℕ → Type 0 = λ y. Steps (record { memory = m; second = second; at = y }) End y in
-    subst G is (subst H (sym none) (record { front = u.0; behind = u.1; told = tt; steps = refl }))
+    let G : Walking → Type 0 = λ y. MeetsNext y End y.at in
+    let H : Option ℕ → Type 0 = λ y. MeetsNext (record { memory = m; second = second; at = y }) End y in
+    subst G is (subst H (sym none) (record { front = u.0; behind = u.1; told = tt; meets = refl }))
 
 -- the walk that stands at the segment t
 module _ (m : Memory) (second : Bool) (o : Option ℕ) (cursor : Option ℕ) (marks : List Bool) (u : IsMarkedWalk (record { memory = m; second = second; at = o }) cursor marks) (t : ℕ) (there : o ≡ Some t) where
@@ -197,17 +197,17 @@ module _ (m : Memory) (second : Bool) (o : Option ℕ) (cursor : Option ℕ) (ma
   below w = (let x = path-below m (start_of second) stands.0 t stands.1.path t w in omega arith)
 
   module _ (w : Walking) (is : record { memory = m; second = second; at = o } ≡ w) where
-    pub steps_by : (s : Step) (o' : Option ℕ) → IsStepFrom m u.0 (start_of second) t s o' → Steps w s o'
+    pub steps_by : (s : Met) (o' : Option ℕ) → IsMetFrom m u.0 (start_of second) t s o' → MeetsNext w s o'
     steps_by s o' x =
-        let G : Walking → Type 0 = λ y. Steps y s o' in
-        let H : Option ℕ → Type 0 = λ y. Steps (record { memory = m; second = second; at = y }) s o' in
-        subst G is (subst H (sym there) (record { front = u.0; behind = u.1; told = (stands.0, stands.1); steps = x }))
+        let G : Walking → Type 0 = λ y. MeetsNext y s o' in
+        let H : Option ℕ → Type 0 = λ y. MeetsNext (record { memory = m; second = second; at = y }) s o' in
+        subst G is (subst H (sym there) (record { front = u.0; behind = u.1; told = (stands.0, stands.1); meets = x }))
 
     at_of : w.at ≡ Some t
     at_of = ap (λ x. x.at) (sym is) ∙ there
 
     -- nothing there is a header
-    pub step_bad : ((b : Header) (L : List Header) → b.segment ≡ t → IsHeader m b (signature L) → ⊥) → Steps w (Destroyed t) w.at
+    pub step_bad : ((b : Header) (L : List Header) → b.segment ≡ t → IsHeader m b (signature L) → ⊥) → MeetsNext w (Destroyed t) w.at
     step_bad bad = steps_by (Destroyed t) w.at (refl, at_of, no_arena m u.0 (start_of second) stands.0 t stands.1 (λ e. bad-header m u.0 stands.0 t e bad), λ P l e. bad-header m u.0 P t e bad)
 
   -- the cursor has caught up
@@ -221,12 +221,12 @@ module _ (m : Memory) (second : Bool) (o : Option ℕ) (cursor : Option ℕ) (ma
         (u.0, u.1, subst G (sym there) (stands.0, stands.1, stands.2, moved.0))
 
     -- the first list has a header there
-    on_first : caught ≡ Some t → (P : List Header) → Leads m u.0 (start_of second) P t → (e : Entry) → Follows m u.0 P t e → ⊥
+    on_first : caught ≡ Some t → (P : List Header) → Leads m u.0 (start_of second) P t → (e : ListedHeader) → Follows m u.0 P t e → ⊥
     on_first is P l e x =
         let G : ℕ → Type 0 = λ y. HasHeader u.0 y in
         x.apart e.header.segment (subst G (sym x.at) (met m u.0 caught t moved.0 is)) (has_right P (e.header ∷ []) e.header.segment (inl refl))
 
-    pub step_met : caught ≡ Some t → (w : Walking) → record { memory = m; second = second; at = o } ≡ w → Steps w (Destroyed t) o
+    pub step_met : caught ≡ Some t → (w : Walking) → record { memory = m; second = second; at = o } ≡ w → MeetsNext w (Destroyed t) o
     step_met met-is w is = steps_by w is (Destroyed t) o (refl, there, no_arena m u.0 (start_of second) stands.0 t stands.1 (on_first met-is stands.0 stands.1), on_first met-is)
 
     module _ (apart : caught ≢ Some t) where
@@ -238,25 +238,25 @@ module _ (m : Memory) (second : Bool) (o : Option ℕ) (cursor : Option ℕ) (ma
 
       -- no header may stand there
       module _ (new : List Bool) (refuses : (Q : List Header) → AreMarked m Q marks → (HasHeader Q t → ⊥) → (MayStand m Q t → ⊥) × (new ≡ marks)) where
-        refused : (P : List Header) → Leads m u.0 (start_of second) P t → (e : Entry) → Follows m u.0 P t e → ⊥
+        refused : (P : List Header) → Leads m u.0 (start_of second) P t → (e : ListedHeader) → Follows m u.0 P t e → ⊥
         refused P l e x =
             let G : List Header → Type 0 = λ X. MayStand m (u.0 ++ X) t in
             (refuses (u.0 ++ stands.0) stands.2 none_there).0 (subst G (sym (same P l)) (stood m u.0 (start_of second) P t e l x))
 
-        pub step_refused : (w : Walking) → record { memory = m; second = second; at = o } ≡ w → Steps w (Destroyed t) o
+        pub step_refused : (w : Walking) → record { memory = m; second = second; at = o } ≡ w → MeetsNext w (Destroyed t) o
         step_refused w is = steps_by w is (Destroyed t) o (refl, there, no_arena m u.0 (start_of second) stands.0 t stands.1 (refused stands.0 stands.1), refused)
 
         pub stays : IsMarkedWalk (record { memory = m; second = second; at = o }) caught new
         stays = let G : List Bool → Type 0 = λ x. IsMarkedWalk (record { memory = m; second = second; at = o }) caught x in subst G (sym (refuses (u.0 ++ stands.0) stands.2 none_there).1) stays_moved
 
       -- the header of e is told
-      module _ (new : List Bool) (admits : (Q : List Header) → AreMarked m Q marks → (HasHeader Q t → ⊥) → MayStand m Q t × ((b : Header) → b.segment ≡ t → AreMarked m (Q ++ b ∷ []) new)) (e : Entry) (at : e.header.segment ≡ t) (x : IsHeader m e.header (signature_byte e.last)) where
+      module _ (new : List Bool) (admits : (Q : List Header) → AreMarked m Q marks → (HasHeader Q t → ⊥) → MayStand m Q t × ((b : Header) → b.segment ≡ t → AreMarked m (Q ++ b ∷ []) new)) (e : ListedHeader) (at : e.header.segment ≡ t) (x : IsHeader m e.header (signature_byte e.last)) where
         follows : (P : List Header) → Leads m u.0 (start_of second) P t → Follows m u.0 P t e
         follows P l =
             let G : List Header → Type 0 = λ X. MayStand m (u.0 ++ X) t in
             told m u.0 (start_of second) P t e l (subst G (same P l) (admits (u.0 ++ stands.0) stands.2 none_there).0) new_there at x
 
-        pub step_told : (w : Walking) → record { memory = m; second = second; at = o } ≡ w → (o' : Option ℕ) → o' ≡ (if e.last then None else Some (next e.header)) → Steps w (Told e) o'
+        pub step_told : (w : Walking) → record { memory = m; second = second; at = o } ≡ w → (o' : Option ℕ) → o' ≡ (if e.last then None else Some (next e.header)) → MeetsNext w (Told e) o'
         step_told w is o' at-is = steps_by w is (Told e) o' (at-is, λ P l. (follows P l, closes m u.0 (start_of second) P t e l (follows P l)))
 
         pub goes_on : (o' : Option ℕ) → o' ≡ (if e.last then None else Some (next e.header)) → IsMarkedWalk (record { memory = m; second = second; at = o' }) caught new

@@ -3,9 +3,9 @@
 use Rattle.std.specs.Prelude.{◌≡◌, ℕ, List, [], ◌∷◌, ◌++◌, Bool, MatchBool, Option, Some, None, false, true, if◌then◌else◌, IfSome}
 use Rattle.dm_space.specs.Memory.{Memory}
 use Rattle.dm_blocks.specs.declared.header.Header.{Header}
-use Rattle.dm_blocks.specs.declared.header.Entry.{Entry}
-use Rattle.dm_blocks.specs.declared.listing.Step.{Step}
-use Rattle.dm_blocks.specs.declared.listing.Step.TheVariants.{Told, End, Destroyed}
+use Rattle.dm_blocks.specs.declared.header.ListedHeader.{ListedHeader}
+use Rattle.dm_blocks.specs.declared.listing.Met.{Met}
+use Rattle.dm_blocks.specs.declared.listing.Met.TheVariants.{Told, End, Destroyed}
 use Rattle.dm_blocks.specs.Chain.{first_header, link_header, next, signature_byte, AreApart, IsHeader, IsClear, IsArena, IsArenaBehind, NoArenaBehind}
 
 -- what contracts see of a walk: the memory; whether it goes over the second list, after the first one; and the
@@ -37,43 +37,43 @@ pub record Leads (S : Memory) (F : List Header) (start : ℕ) (P : List Header) 
   pub apart : AreApart F P
 
 -- e is the header at segment t after the headers P; P and e are clear together with F, and share no segment with F
-pub record Follows (S : Memory) (F P : List Header) (t : ℕ) (e : Entry) : Type 0 where
+pub record Follows (S : Memory) (F P : List Header) (t : ℕ) (e : ListedHeader) : Type 0 where
   pub at : e.header.segment ≡ t
   pub header : IsHeader S e.header (signature_byte e.last)
   pub clear : IsClear S (F ++ (P ++ e.header ∷ []))
   pub apart : AreApart F (P ++ e.header ∷ [])
 
 -- if e is the last header, P and e are a whole list that is clear together with F
-abbrev pub Closes : Memory → List Header → ℕ → List Header → Entry → Type 0
+abbrev pub Closes : Memory → List Header → ℕ → List Header → ListedHeader → Type 0
 Closes S F start P e = e.last ≡ true → IsArenaBehind S F start (P ++ e.header ∷ [])
 
--- the result of a step at segment t, and where the walk stands after it: `Told` returns the header at t and moves to
+-- what a step at segment t meets, and where the walk stands after it: `Told` returns the header at t and moves to
 -- the next one, or to None after the last; `Destroyed` returns t and stays, as no header may stand there and memory
 -- spells no such list. `End` is no result here
-abbrev pub IsStepFrom : Memory → List Header → ℕ → ℕ → Step → Option ℕ → Type 0
-IsStepFrom S F start t (Told e) at =
+abbrev pub IsMetFrom : Memory → List Header → ℕ → ℕ → Met → Option ℕ → Type 0
+IsMetFrom S F start t (Told e) at =
     (at ≡ (if e.last then None else Some (next e.header))) × ((P : List Header) → Leads S F start P t → Follows S F P t e × Closes S F start P e)
-IsStepFrom S F start t End at = ⊥
-IsStepFrom S F start t (Destroyed h) at =
-    (h ≡ t) × (at ≡ Some t) × NoArenaBehind S F start × ((P : List Header) → Leads S F start P t → (e : Entry) → Follows S F P t e → ⊥)
+IsMetFrom S F start t End at = ⊥
+IsMetFrom S F start t (Destroyed h) at =
+    (h ≡ t) × (at ≡ Some t) × NoArenaBehind S F start × ((P : List Header) → Leads S F start P t → (e : ListedHeader) → Follows S F P t e → ⊥)
 
--- the result of a step, and where the walk stands after it; a walk past the last header returns `End` and stays
-abbrev pub IsStep : Memory → List Header → ℕ → Option ℕ → Step → Option ℕ → Type 0
-IsStep S F start (Some t) step at = IsStepFrom S F start t step at
-IsStep S F start None (Told e) at = ⊥
-IsStep S F start None End at = at ≡ None
-IsStep S F start None (Destroyed h) at = ⊥
+-- what a step meets, and where the walk stands after it; a walk past the last header returns `End` and stays
+abbrev pub IsMet : Memory → List Header → ℕ → Option ℕ → Met → Option ℕ → Type 0
+IsMet S F start (Some t) met at = IsMetFrom S F start t met at
+IsMet S F start None (Told e) at = ⊥
+IsMet S F start None End at = at ≡ None
+IsMet S F start None (Destroyed h) at = ⊥
 
 -- the headers that a walk has passed lead from segment start to where it stands; past the last header nothing is said
 abbrev pub AreTold : Memory → List Header → ℕ → Option ℕ → Type 0
 AreTold S F start at = IfSome at (λ t. (P : List Header) × Leads S F start P t)
 
--- one step of the walk w (`Headers::advance`): its result, and where the next header has to be after it
-pub record Steps (w : Walking) (step : Step) (at : Option ℕ) : Type 0 where
+-- one step of the walk w (`Headers::advance`): what it meets, and where the next header has to be after it
+pub record MeetsNext (w : Walking) (met : Met) (at : Option ℕ) : Type 0 where
   pub front : List Header
   pub behind : IsBehind w.memory w.second front
   pub told : AreTold w.memory front (start_of w.second) w.at
-  pub steps : IsStep w.memory front (start_of w.second) w.at step at
+  pub meets : IsMet w.memory front (start_of w.second) w.at met at
 
 -- where a walk over the first list stands after a header: past the last one, memory spells a clear list; else its
 -- headers lead to segment t

@@ -2,12 +2,12 @@
 use Rattle.std.specs.Prelude.{Bool, List, None, Option, Some, [], false, true, ℕ, ◌++◌, ◌+◌, ◌-◌, ◌<◌, ◌∷◌, ◌≡◌, ◌≢◌, ◌≤◌}
 use Rattle.dm_space.specs.Memory.{Memory}
 use Rattle.dm_blocks.specs.declared.header.Header.{Header}
-use Rattle.dm_blocks.specs.declared.header.Entry.{Entry}
+use Rattle.dm_blocks.specs.declared.header.ListedHeader.{ListedHeader}
 use Rattle.dm_blocks.specs.Chain.{IsHeader, IsNonEmpty, NoBlockAt, Spells, signature_byte, next, signature}
 
 -- the entry that is read at segment h: its header, and whether it is signed as the last one; None if no list can have
 -- a header there, as the signature is neither `M` nor `Z`, or the segment after the block is over FFFFh
-abbrev pub IsEntryAt : Memory → ℕ → Option Entry → Type 0
+abbrev pub IsEntryAt : Memory → ℕ → Option ListedHeader → Type 0
 IsEntryAt S h None = (b : Header) (L : List Header) → b.segment ≡ h → IsHeader S b (signature L) → ⊥
 IsEntryAt S h (Some e) = (e.header.segment ≡ h) × IsHeader S e.header (signature_byte e.last)
 
@@ -22,14 +22,14 @@ is_nil [] = true
 is_nil (b ∷ L) = false
 
 -- e is the first header of L, marked last if no other follows, and memory spells the other headers K after its block
-pub record IsFront (S : Memory) (L : List Header) (e : Entry) (K : List Header) : Type 0 where
+pub record IsFront (S : Memory) (L : List Header) (e : ListedHeader) (K : List Header) : Type 0 where
   pub is : L ≡ e.header ∷ K
   pub last : e.last ≡ is_nil K
   pub rest : Spells S (next e.header) K
 
 -- e is the header of L whose block begins at the segment; P are the headers before it, Q those after it, which memory
 -- spells after its block
-pub record IsFoundAt (S : Memory) (L : List Header) (segment : ℕ) (e : Entry) (P Q : List Header) : Type 0 where
+pub record IsFoundAt (S : Memory) (L : List Header) (segment : ℕ) (e : ListedHeader) (P Q : List Header) : Type 0 where
   pub is : L ≡ P ++ e.header ∷ Q
   pub at : e.header.segment + 1 ≡ segment
   pub last : e.last ≡ is_nil Q
@@ -37,7 +37,7 @@ pub record IsFoundAt (S : Memory) (L : List Header) (segment : ℕ) (e : Entry) 
 
 -- the result of a search of the list from segment start on for the block that begins at the segment; None if it has
 -- none
-abbrev pub FindsBlock : Memory → ℕ → ℕ → Option Entry → Type 0
+abbrev pub FindsBlock : Memory → ℕ → ℕ → Option ListedHeader → Type 0
 FindsBlock S start segment None = (L : List Header) → IsSpelledFrom S start L → NoBlockAt L segment
 FindsBlock S start segment (Some e) = (L : List Header) → IsSpelledFrom S start L → (P : List Header) × (Q : List Header) × IsFoundAt S L segment e P Q
 
@@ -48,7 +48,7 @@ NoEndAt (b ∷ L) segment = (next b ≢ segment) × NoEndAt L segment
 
 -- e is the header of L whose block ends where the segment begins; P are the headers before it, Q those after it,
 -- which memory spells after its block
-pub record IsEndingAt (S : Memory) (L : List Header) (segment : ℕ) (e : Entry) (P Q : List Header) : Type 0 where
+pub record IsEndingAt (S : Memory) (L : List Header) (segment : ℕ) (e : ListedHeader) (P Q : List Header) : Type 0 where
   pub is : L ≡ P ++ e.header ∷ Q
   pub at : next e.header ≡ segment
   pub last : e.last ≡ is_nil Q
@@ -56,6 +56,6 @@ pub record IsEndingAt (S : Memory) (L : List Header) (segment : ℕ) (e : Entry)
 
 -- the result of a search of the list from segment start on for the block that ends where the segment begins; None if
 -- it has none
-abbrev pub EndsBefore : Memory → ℕ → ℕ → Option Entry → Type 0
+abbrev pub EndsBefore : Memory → ℕ → ℕ → Option ListedHeader → Type 0
 EndsBefore S start segment None = (L : List Header) → IsSpelledFrom S start L → NoEndAt L segment
 EndsBefore S start segment (Some e) = (L : List Header) → IsSpelledFrom S start L → (P : List Header) × (Q : List Header) × IsEndingAt S L segment e P Q

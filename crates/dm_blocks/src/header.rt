@@ -30,7 +30,7 @@ pub struct Header {
 
 /// A header, and whether it is the last of its list.
 #[derive(Clone, Copy, Debug, PartialEq, Eq)]
-pub struct Entry {
+pub struct ListedHeader {
     pub header: Header,
     /// Whether it is the list's last header.
     pub last: bool,
@@ -59,7 +59,7 @@ impl Header {
     }
 }
 
-impl Entry {
+impl ListedHeader {
     /// The signature byte of the header: `Z` if it is the last one, else `M`.
     #[inline(always)]
     pub fn signature(self) -> u8
@@ -145,7 +145,7 @@ fn fields_at(space: &Space, segment: u16) -> Fields
 /// Reads the header at a segment, whatever list it belongs to. None if its first byte is neither
 /// `M` nor `Z`, or if the segment after its block would be over FFFFh.
 #[inline(always)]
-pub fn header_at(space: &Space, segment: u16) -> Option<Entry>
+pub fn header_at(space: &Space, segment: u16) -> Option<ListedHeader>
     ensures { IsEntryAt space.now.memory segment result }
 {
     let fields = fields_at(space, segment);
@@ -164,5 +164,5 @@ pub fn header_at(space: &Space, segment: u16) -> Option<Entry>
         owner,
         size,
     };
-    Some(Entry { header, last })
+    Some(ListedHeader { header, last })
 }

@@ -7,8 +7,8 @@ ghost use Rattle.dm_blocks.specs.Reading.{EndsBefore, FindsBlock, IsFront, IsSpe
 ghost use Rattle.dm_blocks.specs.inner.Reading.{AreLeft, HasCaughtUp, IsCursor};
 ghost use Rattle.dm_blocks.specs.inner.Telling.{HasToldAll};
 
-use crate::header::{Entry, header_at};
-use crate::listing::{Headers, Step, walk, walk_from};
+use crate::header::{ListedHeader, header_at};
+use crate::listing::{Headers, Met, walk, walk_from};
 use crate::low::{LowPart, low_part};
 use dm_space::Space;
 
@@ -20,7 +20,7 @@ pub const LINK: u16 = 0x9FFF;
 /// Reads the header at a segment from which memory spells a list: a step of a walk over a list that is known to be
 /// whole.
 #[inline(always)]
-pub fn spelled_entry(space: &Space, segment: u16) -> Entry
+pub fn spelled_entry(space: &Space, segment: u16) -> ListedHeader
     requires { (L : List Header) × IsSpelledFrom space.now.memory segment L }
     ensures there { result.header.segment ≡ segment }
     ensures fits { next result.header ≤ 0xFFFF }
@@ -40,13 +40,13 @@ fn tell_all(headers: &mut Headers<'_>) -> bool
 {
     'walk: loop {
         match headers.advance() {
-            Step::Told(entry) => {
+            Met::Told(entry) => {
                 if entry.last {
                     return true;
                 }
             }
-            Step::End => return true,
-            Step::Destroyed(_) => return false,
+            Met::End => return true,
+            Met::Destroyed(_) => return false,
         }
     }
 }
@@ -78,7 +78,7 @@ pub fn has_second(space: &Space) -> bool
 
 /// The header whose block begins at a segment, for functions 49h, 4Ah and 31h and for `is_linked`; None if the first
 /// list has no such block. The segment is the block's own, not that of its header.
-pub fn find(space: &Space, segment: u16) -> Option<Entry>
+pub fn find(space: &Space, segment: u16) -> Option<ListedHeader>
     requires { (L : List Header) × IsSpelledFrom space.now.memory first_header L }
     ensures found { FindsBlock space.now.memory first_header segment result }
     ensures fits { MatchOption result (Unit {0}) (λ e. next e.header ≤ 0xFFFF) }
@@ -106,7 +106,7 @@ pub fn is_linked(space: &Space) -> bool
 
 /// The header of the first list whose block ends where the link block's header stands, which function 5803h changes;
 /// None if no block ends there.
-pub fn before_link(space: &Space) -> Option<Entry>
+pub fn before_link(space: &Space) -> Option<ListedHeader>
     requires { (L : List Header) × IsSpelledFrom space.now.memory first_header L }
     ensures found { EndsBefore space.now.memory first_header link_header result }
     ensures fits { MatchOption result (Unit {0}) (λ e. next e.header ≤ 0xFFFF) }

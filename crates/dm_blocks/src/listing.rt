@@ -2,10 +2,10 @@
 ghost use Rattle.std.specs.Prelude.{◌≡◌, ◌≢◌, List, MatchBool, None, Some, false, true};
 ghost use Rattle.dm_blocks.specs.declared.header.Header.{Header};
 ghost use Rattle.dm_blocks.specs.Chain.{first_header, link_header};
-ghost use Rattle.dm_blocks.specs.Listing.{Steps};
+ghost use Rattle.dm_blocks.specs.Listing.{MeetsNext};
 ghost use Rattle.dm_blocks.specs.inner.Low.{IsUpTo};
 
-use crate::header::{Entry, header_at};
+use crate::header::{ListedHeader, header_at};
 use crate::list::{FIRST, LINK, catch_up};
 use crate::seen::Seen;
 use dm_space::Space;
@@ -13,9 +13,9 @@ use std::marker::Model;
 
 /// What a walk over the arena's headers meets.
 #[derive(Clone, Copy, Debug, PartialEq, Eq)]
-pub enum Step {
+pub enum Met {
     /// The next header of the list.
-    Told(Entry),
+    Told(ListedHeader),
     /// The end: there is no other header.
     End,
     /// The list is destroyed: no header can stand at the segment, where the next one has to be. There is no signature,
@@ -94,30 +94,30 @@ fn stands_at(cursor: Option<u16>, segment: u16) -> bool
 impl<'a> Headers<'a> {
     /// Returns the next header, and moves the walk past it; or returns that the list has ended or is destroyed. Then
     /// the walk stays, and each further step returns the same. The space is only read.
-    pub fn advance(&mut self) -> Step
+    pub fn advance(&mut self) -> Met
         ensures memory { self.new.memory ≡ self.old.memory }
         ensures second { self.new.second ≡ self.old.second }
-        ensures step { Steps self.old result self.new.at }
+        ensures met { MeetsNext self.old result self.new.at }
     {
         let Some(segment) = self.at else {
-            return Step::End;
+            return Met::End;
         };
         let Some(entry) = header_at(self.space, segment) else {
-            return Step::Destroyed(segment);
+            return Met::Destroyed(segment);
         };
         self.beside = catch_up(self.space, self.beside, segment);
         if stands_at(self.beside, segment) {
-            return Step::Destroyed(segment);
+            return Met::Destroyed(segment);
         }
         if !self.seen.admit(self.space, segment) {
-            return Step::Destroyed(segment);
+            return Met::Destroyed(segment);
         }
         self.at = if entry.last {
             None
         } else {
             Some(entry.header.next())
         };
-        Step::Told(entry)
+        Met::Told(entry)
     }
 
     /// Starts the walk over the second list, once a walk over the first one has passed its last

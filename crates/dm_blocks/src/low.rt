@@ -8,7 +8,7 @@ ghost use Rattle.dm_blocks.specs.Reading.{FindsBlock, IsFront, IsSpelledFrom};
 ghost use Rattle.dm_blocks.specs.Listing.{LeadsOn, StandsAfter};
 ghost use Rattle.dm_blocks.specs.inner.Low.{IsLowPart};
 
-use crate::header::{Entry, header_at};
+use crate::header::{ListedHeader, header_at};
 use crate::list::FIRST;
 use dm_space::Space;
 
@@ -48,7 +48,7 @@ pub(crate) fn low_part(space: &Space) -> LowPart
 /// Reads the header at a segment: a step of a walk over the first list that tells at its end whether the list is whole
 /// and clear. None if no header can stand there, or if the segment is C000h or above.
 #[inline(always)]
-pub fn low_entry(space: &Space, segment: u16) -> Option<Entry>
+pub fn low_entry(space: &Space, segment: u16) -> Option<ListedHeader>
     ensures there { IfSome result (λ e. e.header.segment ≡ segment) }
     ensures fits { IfSome result (λ e. next e.header ≤ 0xFFFF) }
     ensures front { IfSome result (λ e. (L : List Header) → IsSpelledFrom space.now.memory segment L → (K : List Header) × IsFront space.now.memory L e K) }
@@ -61,7 +61,7 @@ pub fn low_entry(space: &Space, segment: u16) -> Option<Entry>
 }
 
 /// Whether the first list goes on below segment C000h to its end after an entry, and is whole and clear.
-fn is_whole_after(space: &Space, entry: Entry) -> bool
+fn is_whole_after(space: &Space, entry: ListedHeader) -> bool
     requires fits { next entry.header ≤ 0xFFFF }
     requires stands { StandsAfter space.now.memory entry.last (next entry.header) }
     ensures { OnTrue result ((L : List Header) × IsArena space.now.memory first_header L) }
@@ -80,7 +80,7 @@ fn is_whole_after(space: &Space, entry: Entry) -> bool
 
 /// What [`find`](crate::find) returns, if the first list lies below segment C000h and is whole and clear, else None: so
 /// one walk does what [`is_arena`](crate::is_arena) and `find` do.
-pub fn find_low(space: &Space, segment: u16) -> Option<Option<Entry>>
+pub fn find_low(space: &Space, segment: u16) -> Option<Option<ListedHeader>>
     ensures whole { IfSome result (λ o. (L : List Header) × IsArena space.now.memory first_header L) }
     ensures found { IfSome result (FindsBlock space.now.memory first_header segment) }
     ensures fits { IfSome result (λ o. IfSome o (λ e. next e.header ≤ 0xFFFF)) }

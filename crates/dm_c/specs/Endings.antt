@@ -4,9 +4,9 @@ use denote.RawPtr.{null_ptr}
 use Rattle.dm_host.specs.Hosts.{Hosted}
 use Rattle.dm_c.specs.declared.handle.MachineHandle.{MachineHandle}
 
--- the handle is as C's `MEZGULD_NONE`: it holds no machine, and both its pointer and its mark are 0
+-- the handle is as C's `MEZGULD_NONE`: it holds no machine, and both its pointer and its tag are 0
 abbrev pub IsNone : MachineHandle → Type 0
-IsNone h = (h.inside.value ≡ None) × (h.inside.at ≡ null_ptr) × (h.mark ≡ 0)
+IsNone h = (h.inside.value ≡ None) × (h.inside.at ≡ null_ptr) × (h.tag ≡ 0)
 
 -- a call on a handle: it holds no machine (old) and none after (new), and Absent holds; or it holds a machine before
 -- and after, and Does holds of the two

@@ -9,10 +9,10 @@ use Rattle.dm_host.specs.contracts.host.Host.{the_row}
 abbrev pub held_coded : Coded (Option Hosted)
 held_coded = coded_option (the_row).coded
 
--- the mark of a handle that holds a machine
-abbrev pub mark_held : ℕ
-mark_held = 0x6D657A67756C6431
+-- the tag of a handle that holds a machine
+abbrev pub tag_held : ℕ
+tag_held = 0x6D657A67756C6431
 
--- the mark is `mark_held` exactly if there is a machine
-abbrev pub HasItsMark : Option Hosted → ℕ → Type 0
-HasItsMark value mark = is_some value ≡ (mark == mark_held)
+-- the tag is `tag_held` exactly if there is a machine
+abbrev pub HasItsTag : Option Hosted → ℕ → Type 0
+HasItsTag value tag = is_some value ≡ (tag == tag_held)

@@ -10,10 +10,9 @@ ghost use Rattle.dm_c.specs.calls.Events.{EventsTo};
 ghost use Rattle.dm_c.specs.calls.Machines.{AddsTo, LoadsTo, RunsBy, RunsUntilTo, StepsTo, RegistersTo, SetsRegistersTo, ReadsTo, WritesTo, ReadsLinearTo, WritesLinearTo, OutputTo, OutputCountTo, SetsMoreTo, SuppliesTo, InputLeftTo, CommandsTo, ChecksTo, AnswersTo};
 
 use crate::calls::{
-    Awaited, IN_USE, NO_MACHINE, OK, OUT_OF_MEMORY, Point, Registers, Stopped, give_items,
-    status_of,
+    Awaited, IN_USE, OK, OUT_OF_MEMORY, Point, Registers, Stopped, give_items, status_of,
 };
-use crate::handle::MachineHandle;
+use crate::handle::{MachineHandle, on_machine};
 use crate::{calls, copies};
 use dm_host::Host;
 use dm_machine::Sizes;
@@ -72,12 +71,7 @@ pub extern "C" fn dm_c_copy(
 ) -> u32
     ensures { IsCall machine.old.inside.value machine.new.inside.value ((result ≡ 1) × (copy.new ≡ copy.old)) (λ h g. CopiesTo h copy.old.inside.value copy.new.inside.value result × (g ≡ h)) }
 {
-    let Some(host) = machine.take(alloc) else {
-        return NO_MACHINE;
-    };
-    let status = copies::copy(alloc, &host, copy);
-    machine.put(host);
-    status
+    on_machine!(machine, alloc, host => copies::copy(alloc, &host, copy))
 }
 
 /// Frees the machine of a handle, if it holds one. The handle is as `MEZGULD_NONE` then, and the status is 0.
@@ -100,12 +94,7 @@ pub extern "C" fn dm_c_add(
 ) -> u32
     ensures { IsCall machine.old.inside.value machine.new.inside.value (result ≡ 1) (λ h g. AddsTo h name.now program.now result g) }
 {
-    let Some(mut host) = machine.take(alloc) else {
-        return NO_MACHINE;
-    };
-    let status = calls::add_program(alloc, &mut host, name, program);
-    machine.put(host);
-    status
+    on_machine!(machine, alloc, host => calls::add_program(alloc, &mut host, name, program))
 }
 
 /// Loads the program of a name, with a command tail and the console input. With status 13 (short) or 3 (out of memory)
@@ -120,12 +109,7 @@ pub extern "C" fn dm_c_load(
 ) -> u32
     ensures { IsCall machine.old.inside.value machine.new.inside.value (result ≡ 1) (λ h g. LoadsTo h name.now tail.now input.now result g) }
 {
-    let Some(mut host) = machine.take(alloc) else {
-        return NO_MACHINE;
-    };
-    let status = calls::load(alloc, &mut host, name, tail, input);
-    machine.put(host);
-    status
+    on_machine!(machine, alloc, host => calls::load(alloc, &mut host, name, tail, input))
 }
 
 /// Makes at most `steps` steps, and sets `stopped` to why the run stopped. Nothing changes unless the status is 0.
@@ -138,12 +122,7 @@ pub extern "C" fn dm_c_run(
 ) -> u32
     ensures { IsCall machine.old.inside.value machine.new.inside.value ((result ≡ 1) × (stopped.new ≡ stopped.old)) (λ h g. RunsBy h steps stopped.old stopped.new result g) }
 {
-    let Some(mut host) = machine.take(alloc) else {
-        return NO_MACHINE;
-    };
-    let status = calls::run(&mut host, steps, stopped);
-    machine.put(host);
-    status
+    on_machine!(machine, alloc, host => calls::run(&mut host, steps, stopped))
 }
 
 /// Makes at most `steps` steps, up to the first one that leads to one of `points`, and sets `stopped` to why the run
@@ -158,16 +137,11 @@ pub extern "C" fn dm_c_run_until(
 ) -> u32
     ensures { IsCall machine.old.inside.value machine.new.inside.value ((result ≡ 1) × (stopped.new ≡ stopped.old)) (λ h g. RunsUntilTo h steps points.now stopped.old stopped.new result g) }
 {
-    let Some(mut host) = machine.take(alloc) else {
-        return NO_MACHINE;
-    };
-    let status = calls::run_until(alloc, &mut host, steps, points, stopped);
-    machine.put(host);
-    status
+    on_machine!(machine, alloc, host => calls::run_until(alloc, &mut host, steps, points, stopped))
 }
 
 /// Makes at most `steps` steps, up to the first one that leads to one of the events, sets `stopped` to why the run
-/// stopped and, if an event came, `place` to its place in the list. Nothing changes unless the status is 0; it is 23 if
+/// stopped and, if an event came, `place` to its index in the list. Nothing changes unless the status is 0; it is 23 if
 /// the kind of an event is none.
 #[unsafe(no_mangle)]
 pub extern "C" fn dm_c_run_to(
@@ -180,12 +154,7 @@ pub extern "C" fn dm_c_run_to(
 ) -> u32
     ensures { IsCall machine.old.inside.value machine.new.inside.value ((result ≡ 1) × (stopped.new ≡ stopped.old) × (place.new ≡ place.old)) (λ h g. EventsTo h steps events.now stopped.old stopped.new place.old place.new result g) }
 {
-    let Some(mut host) = machine.take(alloc) else {
-        return NO_MACHINE;
-    };
-    let status = calls::run_to(alloc, &mut host, steps, events, stopped, place);
-    machine.put(host);
-    status
+    on_machine!(machine, alloc, host => calls::run_to(alloc, &mut host, steps, events, stopped, place))
 }
 
 /// Sets `steps` to how many steps the machine has made so far; at 2^64 - 1 the count stays. `steps` stays unless the
@@ -194,12 +163,7 @@ pub extern "C" fn dm_c_run_to(
 pub extern "C" fn dm_c_steps(alloc: Global, machine: &mut MachineHandle, steps: &mut u64) -> u32
     ensures { IsCall machine.old.inside.value machine.new.inside.value ((result ≡ 1) × (steps.new ≡ steps.old)) (λ h g. StepsTo h steps.old steps.new result g) }
 {
-    let Some(host) = machine.take(alloc) else {
-        return NO_MACHINE;
-    };
-    let status = calls::steps(&host, steps);
-    machine.put(host);
-    status
+    on_machine!(machine, alloc, host => calls::steps(&host, steps))
 }
 
 /// Sets `registers` to the machine's registers. They stay unless the status is 0.
@@ -211,12 +175,7 @@ pub extern "C" fn dm_c_registers(
 ) -> u32
     ensures { IsCall machine.old.inside.value machine.new.inside.value ((result ≡ 1) × (registers.new ≡ registers.old)) (λ h g. RegistersTo h registers.old registers.new result g) }
 {
-    let Some(host) = machine.take(alloc) else {
-        return NO_MACHINE;
-    };
-    let status = calls::registers(&host, registers);
-    machine.put(host);
-    status
+    on_machine!(machine, alloc, host => calls::registers(&host, registers))
 }
 
 /// Sets the machine's registers and flags. Of the flags' word only the bits of the nine flags count. Nothing changes
@@ -229,12 +188,7 @@ pub extern "C" fn dm_c_set_registers(
 ) -> u32
     ensures { IsCall machine.old.inside.value machine.new.inside.value (result ≡ 1) (λ h g. SetsRegistersTo h registers.now result g) }
 {
-    let Some(mut host) = machine.take(alloc) else {
-        return NO_MACHINE;
-    };
-    let status = calls::set_registers(&mut host, *registers);
-    machine.put(host);
-    status
+    on_machine!(machine, alloc, host => calls::set_registers(&mut host, *registers))
 }
 
 /// Fills the buffer with the bytes of memory from segment:offset on; offsets wrap, and bytes where there is no memory
@@ -249,12 +203,7 @@ pub extern "C" fn dm_c_read(
 ) -> u32
     ensures { IsCall machine.old.inside.value machine.new.inside.value ((result ≡ 1) × (buffer.new ≡ buffer.old)) (λ h g. ReadsTo h segment offset buffer.old buffer.new result g) }
 {
-    let Some(host) = machine.take(alloc) else {
-        return NO_MACHINE;
-    };
-    let status = calls::read(&host, segment, offset, buffer);
-    machine.put(host);
-    status
+    on_machine!(machine, alloc, host => calls::read(&host, segment, offset, buffer))
 }
 
 /// Writes the bytes to memory from segment:offset on; offsets wrap, and bytes for the ROM, or where there is no memory,
@@ -269,12 +218,7 @@ pub extern "C" fn dm_c_write(
 ) -> u32
     ensures { IsCall machine.old.inside.value machine.new.inside.value (result ≡ 1) (λ h g. WritesTo h segment offset bytes.now result g) }
 {
-    let Some(mut host) = machine.take(alloc) else {
-        return NO_MACHINE;
-    };
-    let status = calls::write(&mut host, segment, offset, bytes);
-    machine.put(host);
-    status
+    on_machine!(machine, alloc, host => calls::write(&mut host, segment, offset, bytes))
 }
 
 /// Fills the buffer with the bytes of memory from a linear address up, as a program reads them: while the A20 line is
@@ -289,12 +233,7 @@ pub extern "C" fn dm_c_read_linear(
 ) -> u32
     ensures { IsCall machine.old.inside.value machine.new.inside.value ((result ≡ 1) × (buffer.new ≡ buffer.old)) (λ h g. ReadsLinearTo h address buffer.old buffer.new result g) }
 {
-    let Some(host) = machine.take(alloc) else {
-        return NO_MACHINE;
-    };
-    let status = calls::read_linear(&host, address, buffer);
-    machine.put(host);
-    status
+    on_machine!(machine, alloc, host => calls::read_linear(&host, address, buffer))
 }
 
 /// Writes the bytes to memory from a linear address up, as a program does: while the A20 line is off, bit 20 of an
@@ -309,12 +248,7 @@ pub extern "C" fn dm_c_write_linear(
 ) -> u32
     ensures { IsCall machine.old.inside.value machine.new.inside.value (result ≡ 1) (λ h g. WritesLinearTo h address bytes.now result g) }
 {
-    let Some(mut host) = machine.take(alloc) else {
-        return NO_MACHINE;
-    };
-    let status = calls::write_linear(&mut host, address, bytes);
-    machine.put(host);
-    status
+    on_machine!(machine, alloc, host => calls::write_linear(&mut host, address, bytes))
 }
 
 /// Copies the bytes that were written to the console, from the offset `from` on, to the front of the buffer, and sets
@@ -330,12 +264,7 @@ pub extern "C" fn dm_c_output(
 ) -> u32
     ensures { IsCall machine.old.inside.value machine.new.inside.value ((result ≡ 1) × (buffer.new ≡ buffer.old) × (wanted.new ≡ wanted.old)) (λ h g. OutputTo h from buffer.old buffer.new wanted.old wanted.new result g) }
 {
-    let Some(host) = machine.take(alloc) else {
-        return NO_MACHINE;
-    };
-    let status = calls::output(&host, from, buffer, wanted);
-    machine.put(host);
-    status
+    on_machine!(machine, alloc, host => calls::output(&host, from, buffer, wanted))
 }
 
 /// Sets `count` to how many bytes were written to the console. It stays unless the status is 0.
@@ -347,12 +276,7 @@ pub extern "C" fn dm_c_output_count(
 ) -> u32
     ensures { IsCall machine.old.inside.value machine.new.inside.value ((result ≡ 1) × (count.new ≡ count.old)) (λ h g. OutputCountTo h count.old count.new result g) }
 {
-    let Some(host) = machine.take(alloc) else {
-        return NO_MACHINE;
-    };
-    let status = calls::output_count(&host, count);
-    machine.put(host);
-    status
+    on_machine!(machine, alloc, host => calls::output_count(&host, count))
 }
 
 /// Says that more console input may come after what is left: from then on each call that wants a byte that is not there
@@ -361,12 +285,7 @@ pub extern "C" fn dm_c_output_count(
 pub extern "C" fn dm_c_open_input(alloc: Global, machine: &mut MachineHandle) -> u32
     ensures { IsCall machine.old.inside.value machine.new.inside.value (result ≡ 1) (λ h g. SetsMoreTo h true result g) }
 {
-    let Some(mut host) = machine.take(alloc) else {
-        return NO_MACHINE;
-    };
-    let status = calls::open_input(&mut host);
-    machine.put(host);
-    status
+    on_machine!(machine, alloc, host => calls::open_input(&mut host))
 }
 
 /// Says that no more console input comes after what is left. Nothing changes unless the status is 0.
@@ -374,12 +293,7 @@ pub extern "C" fn dm_c_open_input(alloc: Global, machine: &mut MachineHandle) ->
 pub extern "C" fn dm_c_close_input(alloc: Global, machine: &mut MachineHandle) -> u32
     ensures { IsCall machine.old.inside.value machine.new.inside.value (result ≡ 1) (λ h g. SetsMoreTo h false result g) }
 {
-    let Some(mut host) = machine.take(alloc) else {
-        return NO_MACHINE;
-    };
-    let status = calls::close_input(&mut host);
-    machine.put(host);
-    status
+    on_machine!(machine, alloc, host => calls::close_input(&mut host))
 }
 
 /// Adds bytes to the end of the console input, which must be open; the status is 22 if it is not. Nothing changes
@@ -388,12 +302,7 @@ pub extern "C" fn dm_c_close_input(alloc: Global, machine: &mut MachineHandle) -
 pub extern "C" fn dm_c_supply(alloc: Global, machine: &mut MachineHandle, bytes: &[u8]) -> u32
     ensures { IsCall machine.old.inside.value machine.new.inside.value (result ≡ 1) (λ h g. SuppliesTo h bytes.now result g) }
 {
-    let Some(mut host) = machine.take(alloc) else {
-        return NO_MACHINE;
-    };
-    let status = calls::supply(&mut host, bytes);
-    machine.put(host);
-    status
+    on_machine!(machine, alloc, host => calls::supply(&mut host, bytes))
 }
 
 /// Sets `left` to how many bytes of console input are left. It stays unless the status is 0.
@@ -405,12 +314,7 @@ pub extern "C" fn dm_c_input_left(
 ) -> u32
     ensures { IsCall machine.old.inside.value machine.new.inside.value ((result ≡ 1) × (left.new ≡ left.old)) (λ h g. InputLeftTo h left.old left.new result g) }
 {
-    let Some(host) = machine.take(alloc) else {
-        return NO_MACHINE;
-    };
-    let status = calls::input_left(&host, left);
-    machine.put(host);
-    status
+    on_machine!(machine, alloc, host => calls::input_left(&host, left))
 }
 
 /// Executes the debugger command of a line, keeps what it prints as the answer, and sets `wanted` to how many bytes
@@ -425,12 +329,7 @@ pub extern "C" fn dm_c_command(
 ) -> u32
     ensures { IsCall machine.old.inside.value machine.new.inside.value ((result ≡ 1) × (wanted.new ≡ wanted.old)) (λ h g. CommandsTo h line.now wanted.old wanted.new result g) }
 {
-    let Some(mut host) = machine.take(alloc) else {
-        return NO_MACHINE;
-    };
-    let status = calls::command(alloc, &mut host, line, wanted);
-    machine.put(host);
-    status
+    on_machine!(machine, alloc, host => calls::command(alloc, &mut host, line, wanted))
 }
 
 /// Makes at most `steps` steps under the memory checker, keeps its report as the answer, and sets `stopped` to why the
@@ -446,12 +345,7 @@ pub extern "C" fn dm_c_check(
 ) -> u32
     ensures { IsCall machine.old.inside.value machine.new.inside.value ((result ≡ 1) × (stopped.new ≡ stopped.old) × (wanted.new ≡ wanted.old)) (λ h g. ChecksTo h steps stopped.old stopped.new wanted.old wanted.new result g) }
 {
-    let Some(mut host) = machine.take(alloc) else {
-        return NO_MACHINE;
-    };
-    let status = calls::check(alloc, &mut host, steps, stopped, wanted);
-    machine.put(host);
-    status
+    on_machine!(machine, alloc, host => calls::check(alloc, &mut host, steps, stopped, wanted))
 }
 
 /// Copies the answer of the last command or checked run that had one (no bytes before the first) to the front of the
@@ -466,10 +360,5 @@ pub extern "C" fn dm_c_answer(
 ) -> u32
     ensures { IsCall machine.old.inside.value machine.new.inside.value ((result ≡ 1) × (buffer.new ≡ buffer.old) × (wanted.new ≡ wanted.old)) (λ h g. AnswersTo h buffer.old buffer.new wanted.new result g) }
 {
-    let Some(host) = machine.take(alloc) else {
-        return NO_MACHINE;
-    };
-    let status = give_items(host.answer(), buffer, wanted);
-    machine.put(host);
-    status
+    on_machine!(machine, alloc, host => give_items(host.answer(), buffer, wanted))
 }

@@ -1,33 +1,48 @@
 //! The handle by which C holds a machine.
 ghost use Rattle.std.specs.Prelude.{◌≡◌, Some, None, is_some, option_map};
 ghost use denote.RawPtr.{null_ptr};
-ghost use Rattle.dm_c.specs.Held.{HasItsMark};
+ghost use Rattle.dm_c.specs.Held.{HasItsTag};
 
 use crate::inside::Inside;
 use crate::loose::Loose;
 use dm_host::Host;
 use std::alloc::Global;
 
-/// The mark of a handle that holds a machine; a handle with any other mark holds none.
+/// The tag of a handle that holds a machine; a handle with any other tag holds none.
 const HELD: u64 = 0x6D65_7A67_756C_6431;
 
-/// A machine, or none, as C holds it. The mark says which.
+/// The status of a call on the machine of a handle, which holds the machine again afterwards; the function returns
+/// `NO_MACHINE` if the handle holds none.
+macro_rules! on_machine {
+    ($handle:ident, $alloc:ident, $host:ident => $call:expr) => {{
+        let Some(mut $host) = $handle.take($alloc) else {
+            return $crate::calls::NO_MACHINE;
+        };
+        let status = $call;
+        $handle.put($host);
+        status
+    }};
+}
+
+pub(crate) use on_machine;
+
+/// A machine, or none, as C holds it. The tag says which.
 #[repr(C)]
 #[derive(Drop)]
 pub struct MachineHandle {
     pub(crate) inside: Inside,
-    mark: u64,
-    ghost marked: { HasItsMark inside.value mark },
+    tag: u64,
+    ghost tagged: { HasItsTag inside.value tag },
 }
 
 impl MachineHandle {
-    /// A handle that holds no machine, with a null pointer and no mark, as `MEZGULD_NONE` of C.
+    /// A handle that holds no machine, with a null pointer and a tag of 0, as `MEZGULD_NONE` of C.
     pub(crate) fn none() -> MachineHandle
-        ensures { (result.inside.value ≡ None) × (result.inside.at ≡ null_ptr) × (result.mark ≡ 0) }
+        ensures { (result.inside.value ≡ None) × (result.inside.at ≡ null_ptr) × (result.tag ≡ 0) }
     {
         MachineHandle {
             inside: Inside::none(),
-            mark: 0,
+            tag: 0,
         }
     }
 
@@ -37,7 +52,7 @@ impl MachineHandle {
     {
         MachineHandle {
             inside: Inside::of(Loose::of(host)),
-            mark: HELD,
+            tag: HELD,
         }
     }
 
@@ -45,7 +60,7 @@ impl MachineHandle {
     pub(crate) fn is_held(&self) -> bool
         ensures { result ≡ is_some self.now.inside.value }
     {
-        self.mark == HELD
+        self.tag == HELD
     }
 
     /// Takes the machine out of the handle, which holds none then. None if there was none.
@@ -56,7 +71,7 @@ impl MachineHandle {
         if !self.is_held() {
             return None;
         }
-        let MachineHandle { inside, mark: _ } = std::mem::replace(self, MachineHandle::none());
+        let MachineHandle { inside, tag: _ } = std::mem::replace(self, MachineHandle::none());
         Some(inside.into_loose(alloc).into_box())
     }
 

@@ -6,8 +6,8 @@ ghost use Rattle.dm_c.specs.Endings.{IsCall};
 ghost use Rattle.dm_c.specs.calls.Lists.{BlocksTo, PageHandlesTo, WindowsTo, ExtendedBlocksTo, UpperBlocksTo, HighMemoryTo, ReadsPageTo, ReadsBlockTo, FindingsTo, FindingCountsTo, FindingLineTo};
 
 use crate::calls;
-use crate::calls::{ListEnd, NO_MACHINE};
-use crate::handle::MachineHandle;
+use crate::calls::ListEnd;
+use crate::handle::{MachineHandle, on_machine};
 use dm_views::inventory::{ArenaBlock, ExtendedBlock, FoundRecord, PageHandle, UpperBlock, Window};
 use std::alloc::Global;
 
@@ -24,12 +24,7 @@ pub extern "C" fn dm_c_blocks(
 ) -> u32
     ensures { IsCall machine.old.inside.value machine.new.inside.value ((result ≡ 1) × (buffer.new ≡ buffer.old) × (wanted.new ≡ wanted.old) × (end.new ≡ end.old)) (λ h g. BlocksTo h buffer.old buffer.new wanted.old wanted.new end.old end.new result g) }
 {
-    let Some(host) = machine.take(alloc) else {
-        return NO_MACHINE;
-    };
-    let status = calls::blocks(alloc, &host, buffer, wanted, end);
-    machine.put(host);
-    status
+    on_machine!(machine, alloc, host => calls::blocks(alloc, &host, buffer, wanted, end))
 }
 
 /// Copies the handles of expanded memory in use, by rising number, to the front of the buffer, and sets `wanted` to how
@@ -43,12 +38,7 @@ pub extern "C" fn dm_c_page_handles(
 ) -> u32
     ensures { IsCall machine.old.inside.value machine.new.inside.value ((result ≡ 1) × (buffer.new ≡ buffer.old) × (wanted.new ≡ wanted.old)) (λ h g. PageHandlesTo h buffer.old buffer.new wanted.old wanted.new result g) }
 {
-    let Some(host) = machine.take(alloc) else {
-        return NO_MACHINE;
-    };
-    let status = calls::page_handles(alloc, &host, buffer, wanted);
-    machine.put(host);
-    status
+    on_machine!(machine, alloc, host => calls::page_handles(alloc, &host, buffer, wanted))
 }
 
 /// Copies what the four windows of the page frame show to the front of the buffer, and sets `wanted` to 4. If they do
@@ -62,12 +52,7 @@ pub extern "C" fn dm_c_windows(
 ) -> u32
     ensures { IsCall machine.old.inside.value machine.new.inside.value ((result ≡ 1) × (buffer.new ≡ buffer.old) × (wanted.new ≡ wanted.old)) (λ h g. WindowsTo h buffer.old buffer.new wanted.old wanted.new result g) }
 {
-    let Some(host) = machine.take(alloc) else {
-        return NO_MACHINE;
-    };
-    let status = calls::windows(&host, buffer, wanted);
-    machine.put(host);
-    status
+    on_machine!(machine, alloc, host => calls::windows(&host, buffer, wanted))
 }
 
 /// Copies the blocks of the handles of extended memory in use, by rising handle, to the front of the buffer, and sets
@@ -82,12 +67,7 @@ pub extern "C" fn dm_c_extended_blocks(
 ) -> u32
     ensures { IsCall machine.old.inside.value machine.new.inside.value ((result ≡ 1) × (buffer.new ≡ buffer.old) × (wanted.new ≡ wanted.old)) (λ h g. ExtendedBlocksTo h buffer.old buffer.new wanted.old wanted.new result g) }
 {
-    let Some(host) = machine.take(alloc) else {
-        return NO_MACHINE;
-    };
-    let status = calls::extended_blocks(alloc, &host, buffer, wanted);
-    machine.put(host);
-    status
+    on_machine!(machine, alloc, host => calls::extended_blocks(alloc, &host, buffer, wanted))
 }
 
 /// Copies the upper memory blocks of the extended memory driver, by rising segment, to the front of the buffer, and
@@ -102,12 +82,7 @@ pub extern "C" fn dm_c_upper_blocks(
 ) -> u32
     ensures { IsCall machine.old.inside.value machine.new.inside.value ((result ≡ 1) × (buffer.new ≡ buffer.old) × (wanted.new ≡ wanted.old)) (λ h g. UpperBlocksTo h buffer.old buffer.new wanted.old wanted.new result g) }
 {
-    let Some(host) = machine.take(alloc) else {
-        return NO_MACHINE;
-    };
-    let status = calls::upper_blocks(alloc, &host, buffer, wanted);
-    machine.put(host);
-    status
+    on_machine!(machine, alloc, host => calls::upper_blocks(alloc, &host, buffer, wanted))
 }
 
 /// Sets `a20` to whether address line A20 is on, and `used` to whether the high memory area is taken (1 or 0). They
@@ -121,12 +96,7 @@ pub extern "C" fn dm_c_high_memory(
 ) -> u32
     ensures { IsCall machine.old.inside.value machine.new.inside.value ((result ≡ 1) × (a20.new ≡ a20.old) × (used.new ≡ used.old)) (λ h g. HighMemoryTo h a20.old a20.new used.old used.new result g) }
 {
-    let Some(host) = machine.take(alloc) else {
-        return NO_MACHINE;
-    };
-    let status = calls::high_memory(&host, a20, used);
-    machine.put(host);
-    status
+    on_machine!(machine, alloc, host => calls::high_memory(&host, a20, used))
 }
 
 /// Fills the buffer with bytes of a logical page of a handle of expanded memory, from an offset in the page on, whether
@@ -143,12 +113,7 @@ pub extern "C" fn dm_c_read_page(
 ) -> u32
     ensures { IsCall machine.old.inside.value machine.new.inside.value ((result ≡ 1) × (buffer.new ≡ buffer.old)) (λ h g. ReadsPageTo h handle page offset buffer.old buffer.new result g) }
 {
-    let Some(host) = machine.take(alloc) else {
-        return NO_MACHINE;
-    };
-    let status = calls::read_page(&host, handle, page, offset, buffer);
-    machine.put(host);
-    status
+    on_machine!(machine, alloc, host => calls::read_page(&host, handle, page, offset, buffer))
 }
 
 /// Fills the buffer with bytes of the block of a handle of extended memory, from an offset in the block on. The status
@@ -164,12 +129,7 @@ pub extern "C" fn dm_c_read_block(
 ) -> u32
     ensures { IsCall machine.old.inside.value machine.new.inside.value ((result ≡ 1) × (buffer.new ≡ buffer.old)) (λ h g. ReadsBlockTo h handle offset buffer.old buffer.new result g) }
 {
-    let Some(host) = machine.take(alloc) else {
-        return NO_MACHINE;
-    };
-    let status = calls::read_block(&host, handle, offset, buffer);
-    machine.put(host);
-    status
+    on_machine!(machine, alloc, host => calls::read_block(&host, handle, offset, buffer))
 }
 
 /// Copies the findings that the report of the last checked run lists (none before the first run) to the front of the
@@ -184,15 +144,10 @@ pub extern "C" fn dm_c_findings(
 ) -> u32
     ensures { IsCall machine.old.inside.value machine.new.inside.value ((result ≡ 1) × (buffer.new ≡ buffer.old) × (wanted.new ≡ wanted.old)) (λ h g. FindingsTo h buffer.old buffer.new wanted.old wanted.new result g) }
 {
-    let Some(host) = machine.take(alloc) else {
-        return NO_MACHINE;
-    };
-    let status = calls::findings(alloc, &host, buffer, wanted);
-    machine.put(host);
-    status
+    on_machine!(machine, alloc, host => calls::findings(alloc, &host, buffer, wanted))
 }
 
-/// Sets `errors` and `notes` to how many of each the last checked run had, and `unlisted` to how many findings its
+/// Sets `errors` and `notes` to how many of each the last checked run had, and `not_listed` to how many findings its
 /// report neither lists nor counts as repetitions. No program need be loaded.
 #[unsafe(no_mangle)]
 pub extern "C" fn dm_c_finding_counts(
@@ -200,16 +155,11 @@ pub extern "C" fn dm_c_finding_counts(
     machine: &mut MachineHandle,
     errors: &mut u64,
     notes: &mut u64,
-    unlisted: &mut u64,
+    not_listed: &mut u64,
 ) -> u32
-    ensures { IsCall machine.old.inside.value machine.new.inside.value ((result ≡ 1) × (errors.new ≡ errors.old) × (notes.new ≡ notes.old) × (unlisted.new ≡ unlisted.old)) (λ h g. FindingCountsTo h errors.new notes.new unlisted.new result g) }
+    ensures { IsCall machine.old.inside.value machine.new.inside.value ((result ≡ 1) × (errors.new ≡ errors.old) × (notes.new ≡ notes.old) × (not_listed.new ≡ not_listed.old)) (λ h g. FindingCountsTo h errors.new notes.new not_listed.new result g) }
 {
-    let Some(host) = machine.take(alloc) else {
-        return NO_MACHINE;
-    };
-    let status = calls::finding_counts(&host, errors, notes, unlisted);
-    machine.put(host);
-    status
+    on_machine!(machine, alloc, host => calls::finding_counts(&host, errors, notes, not_listed))
 }
 
 /// Copies the line of finding `k`, from 0, of that report to the front of the buffer, and sets `wanted` to how many
@@ -225,10 +175,5 @@ pub extern "C" fn dm_c_finding_line(
 ) -> u32
     ensures { IsCall machine.old.inside.value machine.new.inside.value ((result ≡ 1) × (buffer.new ≡ buffer.old) × (wanted.new ≡ wanted.old)) (λ h g. FindingLineTo h k buffer.old buffer.new wanted.old wanted.new result g) }
 {
-    let Some(host) = machine.take(alloc) else {
-        return NO_MACHINE;
-    };
-    let status = calls::finding_line(alloc, &host, k, buffer, wanted);
-    machine.put(host);
-    status
+    on_machine!(machine, alloc, host => calls::finding_line(alloc, &host, k, buffer, wanted))
 }

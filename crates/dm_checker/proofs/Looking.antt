@@ -15,7 +15,7 @@ use Rattle.dm_checker.specs.declared.watch.Watched.{Watched}
 use Rattle.dm_checker.specs.declared.watch.Watch.{Watch}
 use Rattle.dm_services.specs.declared.functions.Function.{Function}
 use Rattle.dm_services.specs.Functions.{function_of}
-use Rattle.dm_origins.specs.outcomes.Calls.{allocates, frees, resizes, arranges_lists, is_arena_function, ends_for_good, keeps, is_ending, is_starting, arranges, call_findings}
+use Rattle.dm_origins.specs.outcomes.Calls.{allocates, frees, resizes, arranges_lists, is_arena_function, ends_for_good, stays_resident, is_ending, is_starting, arranges, call_findings}
 use Rattle.dm_checker.specs.Freed.{freed_twice}
 use Rattle.dm_checker.specs.Headers.{overwritten, mapped_away}
 use Rattle.dm_checker.specs.Shown.{Shown}
@@ -110,19 +110,19 @@ freed_none c d (Some (ExtendedMemory number)) hs e = refl
 freed_none c d (Some (Interrupt number)) hs e = refl
 
 -- functions that do not free, resize or keep
-not_arranging : (c : Cpu) (f : Function) → (is_arena_function f || is_ending f || is_starting c f) ≡ false → (frees f ≡ false) × (resizes f ≡ false) × (keeps f ≡ false)
+not_arranging : (c : Cpu) (f : Function) → (is_arena_function f || is_ending f || is_starting c f) ≡ false → (frees f ≡ false) × (resizes f ≡ false) × (stays_resident f ≡ false)
 not_arranging c f e =
     let both = or_left (is_arena_function f || is_ending f) (is_starting c f) e in
     let arena : is_arena_function f ≡ false = or_left (is_arena_function f) (is_ending f) both in
     let ending : is_ending f ≡ false = or_right (is_arena_function f) (is_ending f) both in
     let lists : (allocates f || frees f || resizes f) ≡ false = or_left _ (arranges_lists f) arena in
-    (not_freeing c f e, or_right (allocates f || frees f) (resizes f) lists, or_right (ends_for_good f) (keeps f) ending)
+    (not_freeing c f e, or_right (allocates f || frees f) (resizes f) lists, or_right (ends_for_good f) (stays_resident f) ending)
 
 if_whole_none : (o : Option ℕ) (fs : List Finding) → fs ≡ [] → if_whole o fs ≡ []
 if_whole_none None fs e = e
 if_whole_none (Some at) fs e = refl
 
-arranged_dos : (a20 : Bool) (present : ℕ) (c d : Cpu) (number : ℕ) (old : List Header) (new : Shown) → frees (function_of number) ≡ false → resizes (function_of number) ≡ false → keeps (function_of number) ≡ false → arranged_by a20 present c d (Some (Dos number)) old new ≡ []
+arranged_dos : (a20 : Bool) (present : ℕ) (c d : Cpu) (number : ℕ) (old : List Header) (new : Shown) → frees (function_of number) ≡ false → resizes (function_of number) ≡ false → stays_resident (function_of number) ≡ false → arranged_by a20 present c d (Some (Dos number)) old new ≡ []
 arranged_dos a20 present c d number old new e f g =
     let first : other_freed present c d number old ≡ [] = rw e refl in
     let stack : stack_freed a20 c d number new.headers ≡ [] = rw (e, f) refl in

@@ -9,7 +9,7 @@ use Rattle.std.proofs.lemmas.Option.{same_Some}
 use Rattle.dm_space.specs.Memory.{Memory, IsPage, place, peek, byte_at}
 use Rattle.dm_space.proofs.Places.{peek-place, place-windows}
 use Rattle.dm_blocks.specs.declared.header.Header.{Header}
-use Rattle.dm_blocks.specs.declared.header.Entry.{Entry}
+use Rattle.dm_blocks.specs.declared.header.ListedHeader.{ListedHeader}
 use Rattle.dm_blocks.specs.Chain.{first_header, link_header, next, IsChain, IsArena, IsArenaBehind, HasHeader}
 use Rattle.dm_blocks.specs.Listing.{Path, Follows}
 use Rattle.dm_blocks.proofs.Chains.{Agrees, header_kept, spells_kept, has_left, has_right, clear_map}
@@ -56,7 +56,7 @@ path_kept : (S T : Memory) (h : ℕ) (P : List Header) (t : ℕ) → Agrees S T 
 path_kept S T h [] t a p = p
 path_kept S T h (b ∷ P) t a p = (p.0, header_kept S T b _ (λ k. a.same b.segment k (inl refl)) p.1, path_kept S T (next b) P t (agrees_right S T (b ∷ []) P a) p.2)
 
-follows_back : (S T : Memory) (F P : List Header) (at : ℕ) (e : Entry) → T.windows ≡ S.windows → AreSameAt S T at → Follows T F P at e → Follows S F P at e
+follows_back : (S T : Memory) (F P : List Header) (at : ℕ) (e : ListedHeader) → T.windows ≡ S.windows → AreSameAt S T at → Follows T F P at e → Follows S F P at e
 follows_back S T F P at e windows same f =
     let here : AreSameAt S T e.header.segment = same_at S T at e.header.segment (sym f.at) same in
     record {

@@ -20,7 +20,7 @@ use Rattle.dm_findings.specs.Report.{Reported}
 use Rattle.dm_origins.specs.Origins.{Known}
 use Rattle.dm_checker.specs.declared.acts.Before.{Before}
 use Rattle.dm_checker.specs.declared.watch.Watch.{Watch}
-use Rattle.dm_origins.specs.outcomes.Calls.{stays, call_findings}
+use Rattle.dm_origins.specs.outcomes.Calls.{call_stays_resident, call_findings}
 use Rattle.dm_checker.specs.Freed.{freed_twice}
 use Rattle.dm_origins.specs.leaks.Leaks.{leaks}
 use Rattle.dm_touches.specs.declared.elements.Elements.{Elements}
@@ -94,7 +94,7 @@ touched_calling s w b call empty first e x h is = touched_as s (shown_of w) firs
 abbrev pub Ends : Bool → State → State → Known → Reported → Reported → Type 0
 Ends free s t k old new = (more : List Found) × FindsAtEnd s t k more × ReportsMore free old new more
 
-pub ends : (free : Bool) (s t : State) (b : Before) (call : Call) (step : ℕ) (w : Watch) (k l : Known) (first fs all : List Finding) (old new : Reported) → b.call ≡ Some call → IsBefore s b → IsKnownAfter s t k l → FindsTouched s (shown_of w) first → Looks s t w first fs → all ≡ fs ++ leaks (stays call) t → step ≡ t.steps → ReportsMore free old new (map (found_by b step l (act.Call call)) all) → Ends free s t k old new
+pub ends : (free : Bool) (s t : State) (b : Before) (call : Call) (step : ℕ) (w : Watch) (k l : Known) (first fs all : List Finding) (old new : Reported) → b.call ≡ Some call → IsBefore s b → IsKnownAfter s t k l → FindsTouched s (shown_of w) first → Looks s t w first fs → all ≡ fs ++ leaks (call_stays_resident call) t → step ≡ t.steps → ReportsMore free old new (map (found_by b step l (act.Call call)) all) → Ends free s t k old new
 ends free s t b call step w k l first fs all old new e h knows touched x is steps r =
     let told = tells free s t b step l (act.Call call) all old new h (call_acts b call e s h) steps r in
     let same : all ≡ (first ++ x.more) ++ left_behind s t

@@ -9,7 +9,7 @@ use Rattle.dm_cpu.specs.Guest.{up}
 use Rattle.dm_blocks.specs.declared.header.Header.{Header}
 use Rattle.dm_services.specs.state.State.{State}
 use Rattle.dm_services.specs.Functions.{function_of}
-use Rattle.dm_origins.specs.outcomes.Calls.{frees, keeps, resizes}
+use Rattle.dm_origins.specs.outcomes.Calls.{frees, stays_resident, resizes}
 use Rattle.dm_findings.specs.declared.calls.Call.{Call}
 use Rattle.dm_findings.specs.declared.calls.Call.TheVariants.{Dos}
 use Rattle.dm_findings.specs.declared.finding.Finding.{Finding}
@@ -56,7 +56,7 @@ has_size segment size (b ∷ headers) = ((b.segment + 1 == segment) && (b.size =
 -- arena after the call
 abbrev pub not_resized : ℕ → Cpu → ℕ → List Header → List Finding
 not_resized present c number headers =
-    if keeps (function_of number) && not (has_size present c.dx headers) then NotResized c.dx ∷ [] else []
+    if stays_resident (function_of number) && not (has_size present c.dx headers) then NotResized c.dx ∷ [] else []
 
 -- ---- all of it
 

@@ -11,7 +11,7 @@ use Rattle.dm_findings.specs.declared.finding.Found.{Found}
 use Rattle.dm_findings.specs.Calls.{call_of}
 use Rattle.dm_findings.specs.Findings.{is_of_free_memory}
 use Rattle.dm_findings.specs.Report.{Reported, report_of}
-use Rattle.dm_origins.specs.outcomes.Calls.{stays}
+use Rattle.dm_origins.specs.outcomes.Calls.{call_stays_resident}
 use Rattle.dm_origins.specs.leaks.Leaks.{leaks}
 use Rattle.dm_origins.specs.Origins.{Known}
 use Rattle.dm_checker.specs.Findings.{Finds, IsFound}
@@ -28,7 +28,7 @@ pub record FindsAt (s t : State) (k : Known) (found : List Found) : Type 0 where
 -- if there was no call
 abbrev pub left_by : Option Call → State → List Finding
 left_by None t = []
-left_by (Some call) t = leaks (stays call) t
+left_by (Some call) t = leaks (call_stays_resident call) t
 
 -- what the first program left allocated, or holds, by the state t after the step from s that ended it
 abbrev pub left_behind : State → State → List Finding

@@ -3,7 +3,7 @@
 use Rattle.std.specs.Prelude.{◌≡◌, ◌++◌, ℕ, Bool, true, false, List, [], Option, Some, None}
 use Rattle.dm_space.specs.Memory.{Memory}
 use Rattle.dm_blocks.specs.declared.header.Header.{Header}
-use Rattle.dm_blocks.specs.declared.header.Entry.{Entry}
+use Rattle.dm_blocks.specs.declared.header.ListedHeader.{ListedHeader}
 use Rattle.dm_blocks.specs.Chain.{first_header, link_header, is_parted, IsArena, IsArenaBehind}
 use Rattle.dm_blocks.specs.Listing.{Leads, Follows}
 
@@ -17,7 +17,7 @@ pub record Shown : Type 0 where
 -- are the headers of the list before it, if any
 pub record IsCut (m : Memory) (F : List Header) (start : ℕ) (P : List Header) (at : ℕ) : Type 0 where
   pub leads : Leads m F start P at
-  pub none : (e : Entry) → Follows m F P at e → ⊥
+  pub none : (e : ListedHeader) → Follows m F P at e → ⊥
 
 -- `shown` is what memory shows of the arena: the first list, and the second one too if upper memory belongs to the
 -- arena (`upper`) and the first list is not linked with it. A list that breaks is shown up to there

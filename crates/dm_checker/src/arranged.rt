@@ -12,7 +12,7 @@ use crate::acts::Before;
 use crate::watch::{Watch, Watched};
 use dm_cpu::Cpu;
 use dm_findings::{Call, Finding};
-use dm_origins::outcomes::{frees, keeps, put, resizes};
+use dm_origins::outcomes::{frees, put, resizes, stays_resident};
 use dm_services::function_of;
 use dm_touches::{FarAddress, is_in_free};
 use std::alloc::AllocError;
@@ -135,7 +135,7 @@ fn put_not_resized(
 ) -> Result<(), AllocError>
     ensures { OnOk result (out.new.items ≡ out.old.items ++ not_resized present before.now number (map header_of headers.now)) }
 {
-    if keeps(function_of(number)) && !has_size(present, before.dx, headers) {
+    if stays_resident(function_of(number)) && !has_size(present, before.dx, headers) {
         return put(out, Finding::NotResized(before.dx));
     }
     Ok(())

@@ -9,7 +9,7 @@ mod freed;
 mod headers;
 mod laws;
 mod marking;
-mod noting;
+mod recording;
 mod steps;
 mod touched;
 mod watch;

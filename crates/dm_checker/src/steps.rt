@@ -20,14 +20,14 @@ use crate::acts::Before;
 use crate::arranged::put_arranged;
 use crate::freed::put_freed_twice;
 use crate::headers::{put_all_mapped_away, put_all_overwritten};
-use crate::noting::note;
+use crate::recording::record_step;
 use crate::touched::put_touched;
 use crate::watch::{Broken, Watch, read_arena};
 use dm_findings::{Act, Call, Finding, Found, Report};
 use dm_machine::{Machine, Stop, tables_and_memory_are_consistent};
 use dm_origins::Origins;
 use dm_origins::leaks::put_leaks;
-use dm_origins::outcomes::{arranges, put, put_of_call, stays};
+use dm_origins::outcomes::{arranges, call_stays_resident, put, put_of_call};
 use std::alloc::{AllocError, Global};
 
 /// Appends to `out` that the step destroyed the arena or made it whole again, if it did, by where the arena's list
@@ -88,12 +88,12 @@ fn look(
     ensures knows { OnOk result ((s : State) → IsBefore s before.now → IsWatch s.upper s.memory kept.old → IsKnownAfter s machine.now origins.old origins.new) }
 {
     if !arranges(&before.cpu, before.call) && kept.is_seen(machine) {
-        note(alloc, origins, before, kept, kept, machine)?;
+        record_step(alloc, origins, before, kept, kept, machine)?;
         return put_of_call(out, &before.cpu, &machine.cpu(), before.call);
     }
     let new = read_arena(alloc, machine)?;
     look_anew(out, before, kept, &new, machine)?;
-    note(alloc, origins, before, kept, &new, machine)?;
+    record_step(alloc, origins, before, kept, &new, machine)?;
     *kept = new;
     Ok(())
 }
@@ -184,7 +184,7 @@ fn check_end(
     ensures finds { OnOk result ((s : State) → IsBefore s before.now → IsWatch s.upper s.memory kept.old → FindsTouched s (shown_of kept.old) found.old.items → (more : List Found) × FindsAtEnd s machine.now origins.old more × ReportsMore free report.old report.new more) }
 {
     look(alloc, found, before, kept, origins, machine)?;
-    put_leaks(found, machine, stays(call))?;
+    put_leaks(found, machine, call_stays_resident(call))?;
     tell(
         report,
         free,

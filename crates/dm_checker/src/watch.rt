@@ -6,7 +6,7 @@ ghost use Rattle.dm_checker.specs.Watching.{IsBits, IsWatched, IsWatch, IsBroken
 ghost use Rattle.dm_checker.specs.inner.Watching.{IsSeen, Collects, CollectsSecond, CollectsAll};
 
 use crate::marking::marks_of;
-use dm_blocks::{Header, Headers, Step, is_linked, walk};
+use dm_blocks::{Header, Headers, Met, is_linked, walk};
 use dm_machine::Machine;
 use dm_pool::Block;
 use dm_space::Space;
@@ -101,9 +101,9 @@ fn collect<'a>(
     let mut walked = headers;
     'walk: loop {
         match walked.advance() {
-            Step::Told(entry) => out.push(watched_of(space, entry.header))?,
-            Step::End => return Ok(Ok(walked)),
-            Step::Destroyed(segment) => return Ok(Err(segment)),
+            Met::Told(entry) => out.push(watched_of(space, entry.header))?,
+            Met::End => return Ok(Ok(walked)),
+            Met::Destroyed(segment) => return Ok(Err(segment)),
         }
     }
 }

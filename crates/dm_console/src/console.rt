@@ -1,5 +1,6 @@
 //! The console: input that is read byte by byte, and output that is kept in memory.
 ghost use Rattle.std.specs.Prelude.{◌≡◌, ◌+◌, ◌-◌, ◌≤◌, ◌<◌, ◌++◌, [], ◌∷◌, true, false, IfOk, IsOk, OnOk, OnErr, drop, length, max, slice_get, vec_len, vec_capacity};
+ghost use Rattle.std.specs.Bool.{OnTrue, OnFalse};
 ghost use Rattle.dm_console.specs.Streams.{Streams};
 
 use std::alloc::{AllocError, Global};
@@ -76,6 +77,24 @@ impl Console {
         Ok(())
     }
 
+    /// Makes the room at least `bytes`, as [`Console::reserve`] does, if that takes no allocation; returns whether it
+    /// has. Else nothing changes.
+    #[inline(always)]
+    pub fn reserve_within_capacity(&mut self, bytes: usize) -> bool
+        ensures made { OnTrue result (self.new ≡ record self.old { room = max self.old.room bytes }) }
+        ensures stays { OnFalse result (self.new ≡ self.old) }
+        ensures has_room { bytes ≤ self.old.room → result ≡ true }
+    {
+        if self.room >= bytes {
+            return true;
+        }
+        if self.output.capacity() - self.output.len() < bytes {
+            return false;
+        }
+        self.room = bytes;
+        true
+    }
+
     /// How many more bytes can be written without an allocation.
     pub fn room(&self) -> usize
         ensures { result ≡ self.now.room }
@@ -89,8 +108,26 @@ impl Console {
         requires { 0 < self.old.room }
         ensures { self.new ≡ record self.old { output = self.old.output ++ byte ∷ []; room = self.old.room - 1 } }
     {
-        self.output.push(byte).unwrap();
+        self.output.push_reserved(byte);
         self.room -= 1;
+    }
+
+    /// Reserves a byte of room and appends a byte to the output, as [`Console::reserve`] and [`Console::put`] do, if that
+    /// takes no allocation; returns whether it has. Else nothing changes.
+    #[inline(always)]
+    pub fn put_within_capacity(&mut self, byte: u8) -> bool
+        ensures put { OnTrue result (self.new ≡ record self.old { output = self.old.output ++ byte ∷ []; room = max self.old.room 1 - 1 }) }
+        ensures stays { OnFalse result (self.new ≡ self.old) }
+        ensures has_room { 0 < self.old.room → result ≡ true }
+    {
+        if self.output.len() == self.output.capacity() {
+            return false;
+        }
+        self.output.push_reserved(byte);
+        if self.room != 0 {
+            self.room -= 1;
+        }
+        true
     }
 
     /// Takes the next byte from the input, and returns it; None at its end, where nothing changes. Output and room

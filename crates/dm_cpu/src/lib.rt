@@ -21,8 +21,8 @@ pub mod values;
 
 pub use cpu::Cpu;
 pub use dm_alu::Flags;
-pub use effective_address::EffectiveAddress;
+pub use effective_address::{EffectiveAddress, SimpleAddress};
 pub use halves::Half;
-pub use places::{AnyPlace, Source, Target, Value};
+pub use places::{AnyPlace, Destination, Source, Value};
 pub use registers::Registers;
 pub use returns::{far_return, interrupt_return};

@@ -11,9 +11,12 @@ ghost use Rattle.dm_cpu.specs.Guest.{guest};
 ghost use Rattle.dm_cpu.specs.Operands.{value_of, with_operand};
 ghost use Rattle.dm_cpu.specs.Values.{value_in};
 
-use crate::effective_address::EffectiveAddress;
+use crate::effective_address::{EffectiveAddress, SimpleAddress};
 use crate::halves::Half;
-use crate::memory::{byte_at, set_byte_at, set_word_at, word_at};
+use crate::memory::{
+    byte_at, set_byte_at, set_simple_byte_at, set_simple_word_at, set_word_at, simple_byte_at,
+    simple_word_at, word_at,
+};
 use crate::operands;
 use crate::registers::Registers;
 use dm_alu::Width;
@@ -138,7 +141,7 @@ pub trait Source<V: Value> {
 }
 
 /// What can be written too.
-pub trait Target<V: Value>: Source<V> {
+pub trait Destination<V: Value>: Source<V> {
     /// Stores a value. All else stays.
     fn write(&self, cpu: &mut Registers, space: &mut Space, value: V)
         ensures { guest cpu.new space.new.memory ≡ with_operand (guest cpu.old space.old.memory) (Self.under self.now) (Self.operand self.now) (V.number value) };
@@ -156,7 +159,7 @@ impl Source<u8> for Half {
     }
 }
 
-impl Target<u8> for Half {
+impl Destination<u8> for Half {
     #[inline(always)]
     #[tactic(auto, unfolding(crate::specs::Operands::with_operand))]
     fn write(&self, cpu: &mut Registers, _space: &mut Space, value: u8) {
@@ -176,7 +179,7 @@ impl Source<u16> for WordRegister {
     }
 }
 
-impl Target<u16> for WordRegister {
+impl Destination<u16> for WordRegister {
     #[inline(always)]
     #[tactic(auto, unfolding(crate::specs::Operands::with_operand))]
     fn write(&self, cpu: &mut Registers, _space: &mut Space, value: u16) {
@@ -196,7 +199,7 @@ impl Source<u16> for SegmentRegister {
     }
 }
 
-impl Target<u16> for SegmentRegister {
+impl Destination<u16> for SegmentRegister {
     #[inline(always)]
     #[tactic(auto, unfolding(crate::specs::Operands::with_operand))]
     fn write(&self, cpu: &mut Registers, _space: &mut Space, value: u16) {
@@ -240,7 +243,7 @@ impl Source<u8> for EffectiveAddress {
     }
 }
 
-impl Target<u8> for EffectiveAddress {
+impl Destination<u8> for EffectiveAddress {
     #[inline(always)]
     #[tactic(auto, unfolding(crate::specs::Operands::with_operand))]
     fn write(&self, cpu: &mut Registers, space: &mut Space, value: u8) {
@@ -260,11 +263,51 @@ impl Source<u16> for EffectiveAddress {
     }
 }
 
-impl Target<u16> for EffectiveAddress {
+impl Destination<u16> for EffectiveAddress {
     #[inline(always)]
     #[tactic(auto, unfolding(crate::specs::Operands::with_operand))]
     fn write(&self, cpu: &mut Registers, space: &mut Space, value: u16) {
         set_word_at(cpu, space, self, value);
+    }
+}
+
+impl Source<u8> for SimpleAddress {
+    ghost operand = { λ p. Operand.Memory OfByte p.place.address };
+
+    ghost under = { λ p. p.place.override_ };
+
+    #[inline(always)]
+    #[tactic(auto, unfolding(crate::specs::Values::value_in, crate::specs::Operands::value_of))]
+    fn read(&self, cpu: &Registers, space: &Space) -> u8 {
+        simple_byte_at(cpu, space, self)
+    }
+}
+
+impl Destination<u8> for SimpleAddress {
+    #[inline(always)]
+    #[tactic(auto, unfolding(crate::specs::Operands::with_operand))]
+    fn write(&self, cpu: &mut Registers, space: &mut Space, value: u8) {
+        set_simple_byte_at(cpu, space, self, value);
+    }
+}
+
+impl Source<u16> for SimpleAddress {
+    ghost operand = { λ p. Operand.Memory OfWord p.place.address };
+
+    ghost under = { λ p. p.place.override_ };
+
+    #[inline(always)]
+    #[tactic(auto, unfolding(crate::specs::Values::value_in, crate::specs::Operands::value_of))]
+    fn read(&self, cpu: &Registers, space: &Space) -> u16 {
+        simple_word_at(cpu, space, self)
+    }
+}
+
+impl Destination<u16> for SimpleAddress {
+    #[inline(always)]
+    #[tactic(auto, unfolding(crate::specs::Operands::with_operand))]
+    fn write(&self, cpu: &mut Registers, space: &mut Space, value: u16) {
+        set_simple_word_at(cpu, space, self, value);
     }
 }
 
@@ -289,7 +332,7 @@ impl<V: Value> Source<V> for AnyPlace {
     }
 }
 
-impl<V: Value> Target<V> for AnyPlace {
+impl<V: Value> Destination<V> for AnyPlace {
     #[inline(always)]
     fn write(&self, cpu: &mut Registers, space: &mut Space, value: V) {
         operands::set(cpu, space, &self.override_, &self.operand, value.wide());

@@ -5,3 +5,4 @@ pub mod Decoded
 pub mod Named
 pub mod Pieces
 pub mod Parted
+mod Stripped

@@ -1,8 +1,8 @@
 //! The prefixes that stand before an instruction (Intel 8086 Family User's Manual, section 2.7).
 
 ghost use Rattle.std.specs.Prelude.{◌≡◌};
-ghost use Rattle.dm_ins.specs.Spelling.{with_prefix};
-ghost use Rattle.dm_decode.specs.inner.Reading.{prefix_of, prefixed_at, seen, stripped};
+ghost use Rattle.dm_ins.specs.Spelling.{no_prefix, with_prefix};
+ghost use Rattle.dm_decode.specs.inner.Reading.{prefix_of, prefixed_at, seen, stripped, strips};
 
 use crate::reading::byte_of;
 use crate::rows::action_of;
@@ -53,16 +53,28 @@ fn strip(prefixes: Prefixes, bytes: &[u8]) -> (Prefixes, &[u8])
     }
 }
 
+/// Takes at most four prefixes from the front of the bytes, as [`strip`] does.
+#[inline(always)]
+fn strip_all(bytes: &[u8]) -> (Prefixes, &[u8])
+    ensures { (result.0, result.1.now) ≡ strips 4 no_prefix bytes.now }
+{
+    let (prefixes, rest) = strip(Prefixes::NONE, bytes);
+    // Mostly there is none; then nothing more is taken.
+    if rest.len() == bytes.len() {
+        return (prefixes, rest);
+    }
+    let (prefixes, rest) = strip(prefixes, rest);
+    let (prefixes, rest) = strip(prefixes, rest);
+    strip(prefixes, rest)
+}
+
 /// The prefixes at the front of the bytes, at most four, the action after them, and the bytes after that. None where no
 /// action follows the prefixes.
 #[tactic(auto, unfolding(crate::specs::inner::Reading::prefixed_at))]
 pub fn prefixed_of(bytes: &[u8]) -> Option<((Prefixes, Action), &[u8])>
     ensures { seen result ≡ prefixed_at bytes.now }
 {
-    let (prefixes, rest) = strip(Prefixes::NONE, bytes);
-    let (prefixes, rest) = strip(prefixes, rest);
-    let (prefixes, rest) = strip(prefixes, rest);
-    let (prefixes, rest) = strip(prefixes, rest);
+    let (prefixes, rest) = strip_all(bytes);
     let (action, rest) = action_of(rest)?;
     Some(((prefixes, action), rest))
 }

@@ -8,7 +8,7 @@ use Rattle.dm_space.specs.declared.entry_points.Driver.{Driver}
 use Rattle.dm_space.specs.declared.entry_points.Driver.TheVariants.{ExpandedMemory, Multiplex, ExtendedMemory}
 use Rattle.dm_drivers.specs.expanded.Caller as expanded
 use Rattle.dm_drivers.specs.extended.Caller as extended
-use Rattle.dm_drivers.specs.Drivers.{acted, given_back, driven}
+use Rattle.dm_drivers.specs.Drivers.{acted, returned_to_caller, driven}
 use Rattle.dm_drivers.specs.Laws.{LeavesTheRest, DriversKeep}
 
 acted_consistent : (s : State) (driver : Driver) → AreConsistent s → AreConsistent (acted s driver)
@@ -16,16 +16,16 @@ acted_consistent s ExpandedMemory l = expanded_changed s _ l (expanded_memory.ke
 acted_consistent s Multiplex l = l
 acted_consistent s ExtendedMemory l = extended_changed s _ l (extended_memory.keep.consistency s.upper (extended.caller s.cpu s.xms s.memory) l.xms) (extended_memory.keep.outside s.upper (extended.caller s.cpu s.xms s.memory))
 
-given_back_consistent : (s : State) (driver : Driver) → AreConsistent s → AreConsistent (given_back s driver)
-given_back_consistent s ExpandedMemory l = returned_consistent s l
-given_back_consistent s Multiplex l = returned_consistent s l
-given_back_consistent s ExtendedMemory l = far_returned_consistent s l
+driver_returned_consistent : (s : State) (driver : Driver) → AreConsistent s → AreConsistent (returned_to_caller s driver)
+driver_returned_consistent s ExpandedMemory l = returned_consistent s l
+driver_returned_consistent s Multiplex l = returned_consistent s l
+driver_returned_consistent s ExtendedMemory l = far_returned_consistent s l
 
 driven_consistent : (s : State) (driver : Driver) → AreConsistent s → AreConsistent (driven s driver).state
-driven_consistent s driver l = given_back_consistent (acted s driver) driver (acted_consistent s driver l)
+driven_consistent s driver l = driver_returned_consistent (acted s driver) driver (acted_consistent s driver l)
 
 -- act, return and count, one after the other
-pub drive_consistent : (s p q r : State) (driver : Driver) → p ≡ acted s driver → q ≡ given_back p driver → r ≡ (go q).state → AreConsistent s → AreConsistent r
+pub drive_consistent : (s p q r : State) (driver : Driver) → p ≡ acted s driver → q ≡ returned_to_caller p driver → r ≡ (go q).state → AreConsistent s → AreConsistent r
 drive_consistent s p q r driver e f g l = rw (g, f, e) (driven_consistent s driver l)
 
 -- the registers, memory, the tables and the count alone change

@@ -23,12 +23,12 @@ acted s ExtendedMemory =
 
 -- the state after the driver's return: IP, CS and FLAGS are popped after INT 67h and INT 2Fh, IP and CS after the far
 -- call of the extended memory driver; memory, the tables and the count of steps stay
-abbrev pub given_back : State → Driver → State
-given_back s ExpandedMemory = interrupt_returned s
-given_back s Multiplex = interrupt_returned s
-given_back s ExtendedMemory = far_returned s
+abbrev pub returned_to_caller : State → Driver → State
+returned_to_caller s ExpandedMemory = interrupt_returned s
+returned_to_caller s Multiplex = interrupt_returned s
+returned_to_caller s ExtendedMemory = far_returned s
 
 -- the step that a driver makes: it performs the call and returns to the program through the stack as it is then; the
 -- machine goes on
 abbrev pub driven : State → Driver → Answer
-driven s driver = go (given_back (acted s driver) driver)
+driven s driver = go (returned_to_caller (acted s driver) driver)

@@ -1,7 +1,7 @@
 //! What each driver does, and how it returns.
 ghost use Rattle.std.specs.Prelude.{◌≡◌};
 ghost use Rattle.dm_services.specs.state.State.{AreConsistent};
-ghost use Rattle.dm_drivers.specs.Drivers.{driven, acted, given_back};
+ghost use Rattle.dm_drivers.specs.Drivers.{driven, acted, returned_to_caller};
 
 use crate::expanded::expanded_memory_call;
 use crate::extended::extended_memory_call;
@@ -34,13 +34,13 @@ fn act(parts: &mut Parts, driver: Driver)
 
 /// Returns from the driver: from INT 67h and INT 2Fh by popping IP, CS and FLAGS, from the extended memory driver by
 /// popping IP and CS. Memory, the tables and the count of steps stay.
-fn give_back(parts: &mut Parts, driver: Driver)
-    ensures { parts.new ≡ given_back parts.old driver }
+fn return_to_caller(parts: &mut Parts, driver: Driver)
+    ensures { parts.new ≡ returned_to_caller parts.old driver }
 {
     match driver {
-        Driver::ExpandedMemory => parts.give_back(),
-        Driver::Multiplex => parts.give_back(),
-        Driver::ExtendedMemory => parts.give_back_far(),
+        Driver::ExpandedMemory => parts.return_from_interrupt(),
+        Driver::Multiplex => parts.return_from_interrupt(),
+        Driver::ExtendedMemory => parts.return_far(),
     }
 }
 
@@ -53,6 +53,6 @@ pub fn drive(parts: &mut Parts, driver: Driver)
     ensures consistent { AreConsistent parts.new }
 {
     act(parts, driver);
-    give_back(parts, driver);
+    return_to_caller(parts, driver);
     parts.count();
 }

@@ -7,3 +7,4 @@ mod Pairs
 mod Upper
 mod Elements
 mod Runs
+mod Stretched

@@ -6,7 +6,7 @@ use crate::operation::FlagOperation;
 use dm_cpu::Registers;
 
 /// Does CLC, STC, CMC, CLD, STD, CLI or STI: changes one flag. The registers stay.
-#[inline(always)]
+#[inline(never)]
 #[tactic(auto, unfolding(crate::specs::Control::flags_changed))]
 pub fn change_flag(cpu: &mut Registers, operation: FlagOperation)
     ensures { cpu.new ≡ record cpu.old { flags = flags_changed operation cpu.old.flags } }

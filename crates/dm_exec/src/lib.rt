@@ -11,6 +11,7 @@ mod moves;
 mod near;
 mod operation;
 mod repetitions;
+mod stretches;
 mod strings;
 
 pub use control::change_flag;
@@ -19,8 +20,8 @@ pub use each::is_at_hand;
 pub use effect::{Next, exec, execute};
 pub use far::{call_to_pointer, jump_to_pointer, load_far_low, transfer_low};
 pub use jumps::{
-    call_by, call_memory, call_register, jump_memory, jump_register, return_near, target_after,
-    target_by_count, target_if, transfer,
+    call_by, call_memory, call_register, is_taken, jump_memory, jump_register, return_near,
+    target_after, target_by_count, transfer,
 };
 pub use laws::{halt_changes_nothing, ignores_unseen, keeps_the_map};
 pub use moves::{exchange, extend_byte, extend_word, load_far, load_flags, store_flags, translate};

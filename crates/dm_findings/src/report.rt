@@ -34,7 +34,7 @@ pub struct Report {
     listed: Vec<Listed>,
     errors: u64,
     notes: u64,
-    unlisted: u64,
+    not_listed: u64,
 }
 
 impl Model for Report {
@@ -42,7 +42,7 @@ impl Model for Report {
 
     ghost Value = { Reported };
 
-    ghost view = { λ r. record { listed = r.listed.items; errors = r.errors; notes = r.notes; unlisted = r.unlisted } };
+    ghost view = { λ r. record { listed = r.listed.items; errors = r.errors; notes = r.notes; not_listed = r.not_listed } };
 }
 
 /// Whether the finding repeats the one of a line.
@@ -105,7 +105,7 @@ impl Report {
             listed: Vec::new(alloc),
             errors: 0,
             notes: 0,
-            unlisted: 0,
+            not_listed: 0,
         }
     }
 
@@ -122,7 +122,7 @@ impl Report {
                 last: found.step,
             })?;
         } else {
-            self.unlisted = self.unlisted.saturating_add(1);
+            self.not_listed = self.not_listed.saturating_add(1);
         }
         Ok(())
     }
@@ -179,9 +179,9 @@ impl Report {
     }
 
     /// How many findings were added that are neither listed nor repeat one that is; at 2^64 - 1 the number stays.
-    pub fn unlisted(&self) -> u64
-        ensures { result ≡ self.now.unlisted }
+    pub fn not_listed(&self) -> u64
+        ensures { result ≡ self.now.not_listed }
     {
-        self.unlisted
+        self.not_listed
     }
 }

@@ -107,5 +107,5 @@ pub is_ok_true : {E : Type 0} → (r : Result Bool E) (b : Bool) → r ≡ Ok b 
 is_ok_true r b e f = e ∙ ap (λ (x : Bool). Ok x) f
 
 -- the session after the program was started again, where what changed is known
-pub restarted_as : (a s t : Served) (h : Past) → a ≡ s → h ≡ new_past a.history.origin → t ≡ record a { history = h; shown = 0; ended = false } → t ≡ restarted s
+pub restarted_as : (a s t : Served) (h : Past) → a ≡ s → h ≡ new_past a.history.beginning → t ≡ record a { history = h; shown = 0; ended = false } → t ≡ restarted s
 restarted_as a s t h e f g = g ∙ ap (λ (x : Past). record a { history = x; shown = 0; ended = false }) f ∙ ap restarted e

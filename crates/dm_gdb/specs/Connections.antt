@@ -5,7 +5,7 @@ use Rattle.std.specs.Prelude.{◌≡◌, ℕ, Bool, true, false, not, ◌&&◌, 
 use Rattle.dm_requests.specs.declared.packets.received.Received.{Received}
 use Rattle.dm_requests.specs.declared.packets.received.Received.TheVariants as heard
 use Rattle.dm_requests.specs.packets.Frames.{frame_of}
-use Rattle.dm_requests.specs.packets.Links.{LinkState, acknowledgement}
+use Rattle.dm_requests.specs.packets.Sending.{SendingState, acknowledgement}
 use Rattle.dm_requests.specs.packets.Reading.{Reading, after_byte, between, received}
 use Rattle.dm_requests.specs.declared.request.Request.{Request}
 use Rattle.dm_requests.specs.declared.request.Request.TheVariants as request
@@ -20,7 +20,7 @@ use Rattle.dm_gdb.specs.Servers.{Served, Replies, console_text, new_server}
 -- next step, and whether the conversation is over
 pub record Connected : Type 0 where
   pub reading : Reading
-  pub link : LinkState
+  pub sending : SendingState
   pub server : Served
   pub stopping : Bool
   pub over : Bool
@@ -28,7 +28,7 @@ pub record Connected : Type 0 where
 -- the start of a conversation over a machine on which a program was loaded
 abbrev pub new_connection : State → Connected
 new_connection m =
-    record { reading = between; link = record { acknowledges = true; last = [] }; server = new_server m; stopping = false; over = false }
+    record { reading = between; sending = record { acknowledges = true; last = [] }; server = new_server m; stopping = false; over = false }
 
 -- the packet of a reply
 abbrev pub packet_of : Reply → List ℕ
@@ -44,7 +44,7 @@ all_shown s = record s { shown = max s.shown (length s.history.machine.console.o
 
 -- the conversation with this packet as the last one that was sent
 abbrev pub with_last : Connected → List ℕ → Connected
-with_last c packet = record c { link = record c.link { last = packet } }
+with_last c packet = record c { sending = record c.sending { last = packet } }
 
 -- whether the request ends the conversation without a word
 abbrev pub is_kill : Request → Bool
@@ -73,7 +73,7 @@ makes_steps _ = false
 -- the conversation after a reply, with s as the session
 abbrev pub replied : Connected → Request → Reply → Served → Connected
 replied c r told s = record c {
-  link = record { acknowledges = c.link.acknowledges && not (is_quiet r); last = packet_of told };
+  sending = record { acknowledges = c.sending.acknowledges && not (is_quiet r); last = packet_of told };
   server = all_shown s;
   over = c.over || is_detach r;
 }
@@ -91,14 +91,14 @@ pub data Obeys (most : ℕ) (c : Connected) (r : Request) : List ℕ → Connect
 -- acknowledgement: an error for a packet that is too long, and the last packet if it was asked for again
 pub data Hears (most : ℕ) (c : Connected) : Received → List ℕ → Connected → Type 0 where
   interrupted : Hears most c heard.Interrupt [] (record c { stopping = true })
-  asked_again : Hears most c heard.Again c.link.last c
+  asked_again : Hears most c heard.Again c.sending.last c
   damaged : Hears most c heard.Damaged [] c
   too_long : Hears most c heard.TooLong (packet_of (reply.Refused 0x01)) (with_last c (packet_of (reply.Refused 0x01)))
   obeyed : (payload sent : List ℕ) (d : Connected) → Obeys most c (request_of payload) sent d → Hears most c (heard.Packet payload) sent d
 
 -- the acknowledgement of what was received
 abbrev pub receipt : Connected → Received → List ℕ
-receipt c r = acknowledgement c.link.acknowledges r
+receipt c r = acknowledgement c.sending.acknowledges r
 
 -- the conversation with the stream at r
 abbrev pub reading_at : Connected → Reading → Connected

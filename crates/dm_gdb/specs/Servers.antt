@@ -129,7 +129,7 @@ with_past s q = record s { history = q; ended = false }
 
 -- the session after the program was started again: its output is sent anew
 abbrev pub restarted : Served → Served
-restarted s = record s { history = new_past s.history.origin; shown = 0; ended = false }
+restarted s = record s { history = new_past s.history.beginning; shown = 0; ended = false }
 
 -- the reply where going back ended in this state
 abbrev pub undone_reply : List ℕ → Undone → State → Reply
@@ -199,7 +199,7 @@ pub data Replies (s : Served) (most : ℕ) : Request → Reply → Served → Ty
   goes_to : (line : List ℕ) (n : ℕ) (why : Stop) (t : State) → step_asked line ≡ Some n → s.history.machine.steps ≤ n → IsRun s.history.machine (n - s.history.machine.steps) why t
       → Replies s most (request.Command line) (stepped_reply why) (at_state s t)
   goes_back : (line : List ℕ) (n : ℕ) (q : Past) → step_asked line ≡ Some n → n < s.history.machine.steps → GoesBack s.history n q → Replies s most (request.Command line) reply.Done (with_past s q)
-  has_passed : (line : List ℕ) (n : ℕ) → step_asked line ≡ Some n → n < s.history.origin.steps → Replies s most (request.Command line) reply.Passed s
+  has_passed : (line : List ℕ) (n : ℕ) → step_asked line ≡ Some n → n < s.history.beginning.steps → Replies s most (request.Command line) reply.Passed s
   checks : (line : List ℕ) (told : Reply) (t : State) → is_check line ≡ true → ChecksFrom s.history.machine told t → Replies s most (request.Command line) told (at_state s t)
   steps_back : (what : Undone) (q : Past) → Undoes s.points.watches s.history what q → Replies s most request.StepBack (undone_reply s.points.breaks what q.machine) (with_past s q)
   continues_back : (what : Undone) (q : Past) → Returns s.points.breaks s.points.watches s.history what q → Replies s most request.ContinueBack (undone_reply s.points.breaks what q.machine) (with_past s q)

@@ -63,7 +63,7 @@ impl Server {
         ensures err { OnErr result (self.new ≡ self.old) }
     {
         let _line = line;
-        if (number as u64) < self.history.steps_of_origin() {
+        if (number as u64) < self.history.steps_of_beginning() {
             return Ok(Reply::Passed);
         }
         if self.history.go_back_to(number as u64)? {

@@ -7,7 +7,7 @@ ghost use Rattle.dm_gdb.specs.Connections.{Hears, Obeys, Takes, all_shown, conso
 use crate::replies::{BAD, Reply, put_reply};
 use crate::server::Server;
 use dm_machine::Machine;
-use dm_requests::packets::{Link, Received, Receiver};
+use dm_requests::packets::{Received, Receiver, SendingSide};
 use dm_requests::{Request, read_request};
 use std::alloc::{AllocError, Global};
 use std::marker::Model;
@@ -23,7 +23,7 @@ const INTERRUPTED: u8 = 0x02;
 pub struct Connection {
     alloc: Global,
     receiver: Receiver,
-    link: Link,
+    sending: SendingSide,
     server: Server,
     is_stopping: bool,
     is_over: bool,
@@ -34,7 +34,7 @@ impl Model for Connection {
 
     ghost Value = { Connected };
 
-    ghost view = { λ c. record { reading = c.receiver; link = c.link; server = c.server; stopping = c.is_stopping; over = c.is_over } };
+    ghost view = { λ c. record { reading = c.receiver; sending = c.sending; server = c.server; stopping = c.is_stopping; over = c.is_over } };
 }
 
 /// Whether the request ends the conversation without a word.
@@ -95,7 +95,7 @@ impl Connection {
         Ok(Connection {
             alloc,
             receiver: Receiver::new(alloc),
-            link: Link::new(alloc),
+            sending: SendingSide::new(alloc),
             server: Server::new(alloc, machine, copies)?,
             is_stopping: false,
             is_over: false,
@@ -116,22 +116,22 @@ impl Connection {
     {
         let mut text = Vec::new(self.alloc);
         put_reply(self.alloc, &mut text, reply)?;
-        self.link.pack(text.as_slice())?;
-        out.extend_from_slice(self.link.last())
+        self.sending.pack(text.as_slice())?;
+        out.extend_from_slice(self.sending.last())
     }
 
     /// Appends the last packet to `out` once more. An `Err` is a failed allocation.
     fn send_again(&self, out: &mut Vec<u8>) -> Result<(), AllocError>
-        ensures { OnOk result (out.new.items ≡ out.old.items ++ self.now.link.last) }
+        ensures { OnOk result (out.new.items ≡ out.old.items ++ self.now.sending.last) }
     {
-        out.extend_from_slice(self.link.last())
+        out.extend_from_slice(self.sending.last())
     }
 
     /// Appends the acknowledgement of what was received to `out`. An `Err` is a failed allocation.
     fn acknowledge(&self, received: &Received, out: &mut Vec<u8>) -> Result<(), AllocError>
         ensures { OnOk result (out.new.items ≡ out.old.items ++ receipt self.now received.now) }
     {
-        out.extend_from_slice(self.link.acknowledgement(received))
+        out.extend_from_slice(self.sending.acknowledgement(received))
     }
 
     /// Appends the packet of the console output that was not sent yet to `out`, if there is some. An `Err` is a failed
@@ -139,13 +139,13 @@ impl Connection {
     fn send_console(&mut self, out: &mut Vec<u8>) -> Result<(), AllocError>
         ensures sent { OnOk result (out.new.items ≡ out.old.items ++ console_packet self.old.server) }
         ensures shown { OnOk result (self.new.server ≡ all_shown self.old.server) }
-        ensures kept { OnOk result ((self.new.reading ≡ self.old.reading) × (self.new.link.acknowledges ≡ self.old.link.acknowledges)
+        ensures kept { OnOk result ((self.new.reading ≡ self.old.reading) × (self.new.sending.acknowledges ≡ self.old.sending.acknowledges)
             × (self.new.stopping ≡ self.old.stopping) × (self.new.over ≡ self.old.over)) }
     {
         let mut text = Vec::new(self.alloc);
         if self.server.put_console(&mut text)? {
-            self.link.pack(text.as_slice())?;
-            out.extend_from_slice(self.link.last())?;
+            self.sending.pack(text.as_slice())?;
+            out.extend_from_slice(self.sending.last())?;
         }
         Ok(())
     }
@@ -164,7 +164,7 @@ impl Connection {
         self.send_console(out)?;
         self.send(reply, out)?;
         if is_quiet(request) {
-            self.link.stop_acknowledging();
+            self.sending.stop_acknowledging();
         }
         if is_detach(request) {
             self.is_over = true;

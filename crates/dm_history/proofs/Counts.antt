@@ -37,7 +37,7 @@ use Rattle.dm_services.specs.System.{tell_version, tell_process}
 use Rattle.dm_services.specs.Allocation.{allocated, settled}
 use Rattle.dm_services.specs.Strategies as strategies
 use Rattle.dm_services.specs.Strategies.{TellsLink, link_told, SetsLink, StrategyCalls, strategy_of, set_to, wanted}
-use Rattle.dm_services.specs.Processes.{executed, overlaid, LoadingAs, concluded, Terminating, Keeping, tell_code}
+use Rattle.dm_services.specs.Processes.{executed, overlaid, LoadingAs, concluded, Terminating, StayingResident, tell_code}
 use Rattle.dm_services.specs.Functions.{function_of, no_function, Calls}
 use Rattle.dm_services.specs.Services.{Serves}
 use Rattle.dm_machine.specs.Step.{MakesStep, ActsUnlessEnded, Acts, Instructs, listed, unlisted, after}
@@ -206,7 +206,7 @@ loading-counts s false x a = by s x _ a.answer (executed-counts s a.result a.pro
 terminating-counts : (s : State) (code : ℕ) (x : Answer) → Terminating s code x → Counts s x
 terminating-counts s code x a = by s x _ a.answer (concluded-counts s code a.result a.processes a.cpu a.memory)
 
-keeping-counts : (s : State) (x : Answer) → Keeping s x → Counts s x
+keeping-counts : (s : State) (x : Answer) → StayingResident s x → Counts s x
 keeping-counts s x a = by s x _ a.answer (concluded-counts s (byte_of s.cpu Al) a.result a.processes a.cpu a.memory)
 
 tells-count : (s : State) (upper : Bool) (x : Answer) → TellsLink upper s x → Counts s x

@@ -7,7 +7,7 @@ use Rattle.std.proofs.lemmas.List.Folds.{length-prefix_len}
 use Rattle.std.proofs.lemmas.List.Sums.{prefix_len_passes, prefix_len-le-length}
 use Rattle.std.proofs.lemmas.List.Elements.{All-get_or, All-same, All-drop}
 use Rattle.dm_services.specs.state.State.{State}
-use Rattle.dm_history.specs.declared.change.Edit.{Edit}
+use Rattle.dm_history.specs.declared.change.TimedChange.{TimedChange}
 use Rattle.dm_history.specs.declared.copies.Kept.{Kept}
 use Rattle.dm_history.specs.Edits.{edits_to}
 use Rattle.dm_history.specs.Becomes.{BecomesBy, start}
@@ -21,12 +21,12 @@ use Rattle.dm_history.proofs.Lists.{cut, behind, before}
 
 -- ---- where to begin
 
-origin-base : (p : Past) (cs : List Kept) (step : ℕ) → IsHistory p cs → p.origin.steps ≤ step → IsBase p step p.origin 0
-origin-base p cs step h l = record { some = omega arith; before = l; leads = start; on = h.becomes; loaded = h.origin }
+beginning-base : (p : Past) (cs : List Kept) (step : ℕ) → IsHistory p cs → p.beginning.steps ≤ step → IsBase p step p.beginning 0
+beginning-base p cs step h l = record { some = omega arith; before = l; leads = start; on = h.becomes; loaded = h.beginning }
 
-pub base-origin : (p q : Past) (cs : List Kept) (step : ℕ) → p ≡ q → IsHistory p cs → q.origin.steps ≤ step → IsBase q step p.origin 0
-base-origin p q cs step e h l =
-    subst (λ (r : Past). IsBase r step p.origin 0) e (origin-base p cs step h (subst (λ (r : Past). r.origin.steps ≤ step) (sym e) l))
+pub base-beginning : (p q : Past) (cs : List Kept) (step : ℕ) → p ≡ q → IsHistory p cs → q.beginning.steps ≤ step → IsBase q step p.beginning 0
+base-beginning p q cs step e h l =
+    subst (λ (r : Past). IsBase r step p.beginning 0) e (beginning-base p cs step h (subst (λ (r : Past). r.beginning.steps ≤ step) (sym e) l))
 
 -- a copy that is no later
 pub record NoLater (step count : ℕ) (c : Kept) : Type 0 where
@@ -43,13 +43,13 @@ no-later step count c e =
     let x = both (nat_le c.machine.steps step) (nat_le c.edits count) e in
     record { before = leb-true c.machine.steps step x.0; some = leb-true c.edits count x.1 }
 
-base-copy : (p : Past) (step : ℕ) (c : Kept) → step < 2 ^ 64 - 1 → BecomesBy p.origin p.edits p.machine → IsOnTheWay p c → NoLater step (length (edits_to step p.edits)) c → IsBase p step c.machine c.edits
+base-copy : (p : Past) (step : ℕ) (c : Kept) → step < 2 ^ 64 - 1 → BecomesBy p.beginning p.edits p.machine → IsOnTheWay p c → NoLater step (length (edits_to step p.edits)) c → IsBase p step c.machine c.edits
 base-copy p step c l b w n =
     let now = n.before in
-    let start_at = rises p.origin c.machine (take c.edits p.edits) w.becomes (omega (arith, now, l)) in
-    let done = edits-before p.origin c.machine (take c.edits p.edits) w.becomes (omega (arith, now, l)) in
-    let x = split p.origin p.machine p.edits c.edits c.machine.steps b w.made (omega (arith, now, l)) start_at w.before done w.next in
-    let same : x.at ≡ c.machine = one_state p.origin x.at c.machine (take c.edits p.edits) x.before w.becomes x.steps (omega (arith, now, l)) in
+    let start_at = rises p.beginning c.machine (take c.edits p.edits) w.becomes (omega (arith, now, l)) in
+    let done = edits-before p.beginning c.machine (take c.edits p.edits) w.becomes (omega (arith, now, l)) in
+    let x = split p.beginning p.machine p.edits c.edits c.machine.steps b w.made (omega (arith, now, l)) start_at w.before done w.next in
+    let same : x.at ≡ c.machine = one_state p.beginning x.at c.machine (take c.edits p.edits) x.before w.becomes x.steps (omega (arith, now, l)) in
     record {
       some = n.some;
       before = n.before;
@@ -73,7 +73,7 @@ kept-base p cs step k c l h few is =
     let way : IsOnTheWay p c = subst (IsOnTheWay p) (sym is) (All-get_or (IsOnTheWay p) cs k c (omega (arith, few, front-few (is_no_later step count) cs)) h.ways) in
     base-copy p step c l h.becomes way (no-later step count c passes)
 
-pub base-kept : (p q : Past) (cs ds : List Kept) (es : List Edit) (step k count kept : ℕ) (c : Kept) → p ≡ q → step < 2 ^ 64 - 1 → IsHistory p cs → es ≡ p.edits → ds ≡ cs →
+pub base-kept : (p q : Past) (cs ds : List Kept) (es : List TimedChange) (step k count kept : ℕ) (c : Kept) → p ≡ q → step < 2 ^ 64 - 1 → IsHistory p cs → es ≡ p.edits → ds ≡ cs →
     count ≡ length (edits_to step es) → kept ≡ length (take_while (is_no_later step count) ds) → k < kept → c ≡ get_or cs k c → IsBase q step c.machine c.edits
 base-kept p q cs ds es step k count kept c e l h f g n m few is =
     let n2 : count ≡ length (edits_to step p.edits) = n ∙ ap (λ xs. length (edits_to step xs)) f in
@@ -96,7 +96,7 @@ base-known p step s made l b =
       others = drop count p.edits;
       after = c.after;
       present = p.machine;
-      becomes = subst (λ (xs : List Edit). BecomesBy s xs p.machine) (sym (behind made count p.edits b.some)) b.on;
+      becomes = subst (λ (xs : List TimedChange). BecomesBy s xs p.machine) (sym (behind made count p.edits b.some)) b.on;
       later = l;
     }
 
@@ -107,12 +107,12 @@ base-was p step s t made b r =
     let c = cut step p.edits in
     let parts : take made p.edits ++ take (count - made) (drop made p.edits) ≡ edits_to step p.edits = before made count p.edits b.some ∙ c.front in
     record {
-      becomes = subst (λ (xs : List Edit). BecomesBy p.origin xs t) parts (becomes-join p.origin s t (take made p.edits) (take (count - made) (drop made p.edits)) b.leads r.becomes);
+      becomes = subst (λ (xs : List TimedChange). BecomesBy p.beginning xs t) parts (becomes-join p.beginning s t (take made p.edits) (take (count - made) (drop made p.edits)) b.leads r.becomes);
       steps = r.steps;
     }
 
 -- the same, where the parts have names of their own
-pub known-of : (p q : Past) (step : ℕ) (s m : State) (made count : ℕ) (es ds : List Edit) → q ≡ p → es ≡ q.edits → ds ≡ q.edits → count ≡ length (edits_to step es) → m ≡ s → step < p.machine.steps → IsBase p step s made →
+pub known-of : (p q : Past) (step : ℕ) (s m : State) (made count : ℕ) (es ds : List TimedChange) → q ≡ p → es ≡ q.edits → ds ≡ q.edits → count ≡ length (edits_to step es) → m ≡ s → step < p.machine.steps → IsBase p step s made →
     LeadsBeyond m (take (count - made) (drop made ds)) step
 known-of p q step s m made count es ds e f g n same l b =
     let edits : ds ≡ p.edits = g ∙ ap (λ (r : Past). r.edits) e in
@@ -121,7 +121,7 @@ known-of p q step s m made count es ds e f g n same l b =
     (subst (λ xs. LeadsBeyond s (take (count - made) (drop made xs)) step) (sym edits)
     (subst (λ k. LeadsBeyond s (take (k - made) (drop made p.edits)) step) (sym all) (base-known p step s made l b)))
 
-pub was-of : (p q : Past) (step : ℕ) (s m t : State) (made count : ℕ) (es ds : List Edit) → q ≡ p → es ≡ q.edits → ds ≡ q.edits → count ≡ length (edits_to step es) → m ≡ s → IsBase p step s made →
+pub was-of : (p q : Past) (step : ℕ) (s m t : State) (made count : ℕ) (es ds : List TimedChange) → q ≡ p → es ≡ q.edits → ds ≡ q.edits → count ≡ length (edits_to step es) → m ≡ s → IsBase p step s made →
     IsReplayed m (take (count - made) (drop made ds)) step t → Was p step t
 was-of p q step s m t made count es ds e f g n same b r =
     let edits : ds ≡ p.edits = g ∙ ap (λ (r : Past). r.edits) e in

@@ -1,4 +1,4 @@
--- What a history keeps: its machine comes from the origin, and each copy is on the way.
+-- What a history keeps: its machine comes from the beginning, and each copy is on the way.
 use Rattle.std.proofs.Common.{◌≡◌, ℕ, ◌+◌, ◌-◌, ◌^◌, ◌≤◌, ◌<◌, Bool, true, false, cond, List, [], ◌∷◌, ◌++◌, length, take, drop, get_or, sym, ◌∙◌, ap, subst, arith}
 use Rattle.std.specs.List.{All, take_while}
 use Rattle.std.proofs.lemmas.List.{length-append, take-append-le, drop-append-le, take_all, drop_all, take-take, drop-take, length-take, length-take-le, get_or-take}
@@ -7,7 +7,7 @@ use Rattle.dm_services.specs.declared.state.stop.Stop.{Stop}
 use Rattle.dm_services.specs.state.State.{State, HasProgram}
 use Rattle.dm_machine.specs.Run.{IsRun}
 use Rattle.dm_history.specs.declared.change.Change.{Change}
-use Rattle.dm_history.specs.declared.change.Edit.{Edit}
+use Rattle.dm_history.specs.declared.change.TimedChange.{TimedChange}
 use Rattle.dm_history.specs.declared.copies.Kept.{Kept}
 use Rattle.dm_history.specs.Edits.{changed, edits_to}
 use Rattle.dm_history.specs.Becomes.{BecomesBy, start, edited}
@@ -22,7 +22,7 @@ use Rattle.dm_history.proofs.Order.{later-edits}
 use Rattle.dm_history.proofs.Going.{NoLater, no-later, front-pass, front-few}
 
 pub history-new : (s : State) → HasProgram s → IsHistory (new_past s) []
-history-new s h = record { becomes = start; origin = h; loaded = h; ways = All-nil (IsOnTheWay (new_past s)) }
+history-new s h = record { becomes = start; beginning = h; loaded = h; ways = All-nil (IsOnTheWay (new_past s)) }
 
 -- ---- steps
 
@@ -33,8 +33,8 @@ way-on p t c l w =
 
 pub history-run : (p : Past) (cs : List Kept) (t : State) (n : ℕ) (stop : Stop) → p.machine.steps ≤ 2 ^ 64 - 1 → IsHistory p cs → IsRun p.machine n stop t → HasProgram t → IsHistory (at_state p t) cs
 history-run p cs t n stop l h r loaded = record {
-  becomes = run-becomes p.origin p.machine t p.edits n stop h.becomes r;
-  origin = h.origin;
+  becomes = run-becomes p.beginning p.machine t p.edits n stop h.becomes r;
+  beginning = h.beginning;
   loaded = loaded;
   ways = All-weaker (IsOnTheWay p) (IsOnTheWay (at_state p t)) (λ c w. way-on p t c (run-rises p.machine t n stop l r) w) cs h.ways;
 }
@@ -49,7 +49,7 @@ way-edited p e c w =
     let before = w.before in
     record {
       made = omega (arith, made, length-append p.edits add);
-      becomes = subst (λ (xs : List Edit). BecomesBy p.origin xs c.machine) (sym (take-append-le c.edits p.edits add w.made)) w.becomes;
+      becomes = subst (λ (xs : List TimedChange). BecomesBy p.beginning xs c.machine) (sym (take-append-le c.edits p.edits add w.made)) w.becomes;
       next = All-same (λ z. c.machine.steps ≤ z.step) (drop c.edits (p.edits ++ add)) (drop c.edits p.edits ++ add) (drop-append-le c.edits p.edits add w.made)
           (All-push (λ z. c.machine.steps ≤ z.step) (drop c.edits p.edits) (edit_of p.machine e) w.next w.before);
       before = omega (arith, count, before);
@@ -59,7 +59,7 @@ way-edited p e c w =
 pub history-edited : (p : Past) (cs : List Kept) (e : Change) → IsHistory p cs → HasProgram (changed e p.machine) → IsHistory (with_change p e) cs
 history-edited p cs e h loaded = record {
   becomes = edited p.edits p.machine e h.becomes;
-  origin = h.origin;
+  beginning = h.beginning;
   loaded = loaded;
   ways = All-weaker (IsOnTheWay p) (IsOnTheWay (with_change p e)) (way-edited p e) cs h.ways;
 }
@@ -67,12 +67,12 @@ history-edited p cs e h loaded = record {
 -- ---- copies
 
 pub with-copies : (p : Past) (cs ds : List Kept) → IsHistory p cs → All (IsOnTheWay p) ds → IsHistory p ds
-with-copies p cs ds h a = record { becomes = h.becomes; origin = h.origin; loaded = h.loaded; ways = a }
+with-copies p cs ds h a = record { becomes = h.becomes; beginning = h.beginning; loaded = h.loaded; ways = a }
 
 way-now : (p : Past) (cs : List Kept) → IsHistory p cs → IsOnTheWay p (record { machine = p.machine; edits = length p.edits })
 way-now p cs h = record {
   made = omega arith;
-  becomes = subst (λ (xs : List Edit). BecomesBy p.origin xs p.machine) (sym (take_all (length p.edits) p.edits (omega arith))) h.becomes;
+  becomes = subst (λ (xs : List TimedChange). BecomesBy p.beginning xs p.machine) (sym (take_all (length p.edits) p.edits (omega arith))) h.becomes;
   next = All-same (λ z. p.machine.steps ≤ z.step) (drop (length p.edits) p.edits) [] (drop_all (length p.edits) p.edits (omega arith)) (All-nil (λ z. p.machine.steps ≤ z.step));
   before = omega arith;
   loaded = h.loaded;
@@ -96,12 +96,12 @@ history-more p cs ds m k h e f (more g) =
     = ap (λ s. cs ++ record { machine = s; edits = k } ∷ []) e ∙ ap (λ j. cs ++ record { machine = p.machine; edits = j } ∷ []) f in
     subst (IsHistory p) (sym (g ∙ same)) (history-kept p cs h)
 
-pub edited-history : (p : Past) (cs : List Kept) (e f : Change) (step : ℕ) (es : List Edit) (m : State) → IsHistory p cs → step ≡ p.machine.steps → f ≡ e → es ≡ p.edits ++ record { step = step; change = f } ∷ [] → m ≡ changed e p.machine →
-    IsHistory (record { origin = p.origin; edits = es; machine = m }) cs
+pub edited-history : (p : Past) (cs : List Kept) (e f : Change) (step : ℕ) (es : List TimedChange) (m : State) → IsHistory p cs → step ≡ p.machine.steps → f ≡ e → es ≡ p.edits ++ record { step = step; change = f } ∷ [] → m ≡ changed e p.machine →
+    IsHistory (record { beginning = p.beginning; edits = es; machine = m }) cs
 edited-history p cs e f step es m h n same made moved =
     let whole : es ≡ p.edits ++ edit_of p.machine e ∷ [] = made ∙ ap (λ j. p.edits ++ record { step = j; change = f } ∷ []) n ∙ ap (λ (z : Change). p.edits ++ edit_of p.machine z ∷ []) same in
-    subst (λ xs. IsHistory (record { origin = p.origin; edits = xs; machine = m }) cs) (sym whole)
-    (subst (λ (s : State). IsHistory (record { origin = p.origin; edits = p.edits ++ edit_of p.machine e ∷ []; machine = s }) cs) (sym moved)
+    subst (λ xs. IsHistory (record { beginning = p.beginning; edits = xs; machine = m }) cs) (sym whole)
+    (subst (λ (s : State). IsHistory (record { beginning = p.beginning; edits = p.edits ++ edit_of p.machine e ∷ []; machine = s }) cs) (sym moved)
     (history-edited p cs e h (changed-loaded e p.machine h.loaded)))
 
 pub same-on : (p q r x : Past) → q ≡ at_state p q.machine → r ≡ q → x ≡ at_state r x.machine → x ≡ at_state p x.machine
@@ -110,7 +110,7 @@ same-on p q r x a b c = c ∙ ap (λ (z : Past). at_state z x.machine) (b ∙ a)
 -- ---- going back
 
 way-taken : (p : Past) (step count : ℕ) (t : State) (c : Kept) → t.steps ≡ step → count ≤ length p.edits → IsOnTheWay p c → NoLater step count c →
-    IsOnTheWay (record { origin = p.origin; edits = take count p.edits; machine = t }) c
+    IsOnTheWay (record { beginning = p.beginning; edits = take count p.edits; machine = t }) c
 way-taken p step count t c e some w n =
     let few = n.some in
     let now = n.before in
@@ -119,7 +119,7 @@ way-taken p step count t c e some w n =
     = ap (λ j. drop c.edits (take j p.edits)) (let whole : count ≡ c.edits + (count - c.edits) = omega (arith, few) in whole) ∙ drop-take c.edits (count - c.edits) p.edits in
     record {
       made = omega (arith, few, length_is);
-      becomes = subst (λ xs. BecomesBy p.origin xs c.machine) (sym (take-take c.edits count p.edits few)) w.becomes;
+      becomes = subst (λ xs. BecomesBy p.beginning xs c.machine) (sym (take-take c.edits count p.edits few)) w.becomes;
       next = All-same (λ z. c.machine.steps ≤ z.step) (drop c.edits (take count p.edits)) (take (count - c.edits) (drop c.edits p.edits)) rest
           (All-take (λ z. c.machine.steps ≤ z.step) (count - c.edits) (drop c.edits p.edits) w.next);
       before = omega (arith, now, e);
@@ -127,9 +127,9 @@ way-taken p step count t c e some w n =
     }
 
 ways-taken : (p : Past) (cs : List Kept) (step count kept : ℕ) (t : State) → IsHistory p cs → t.steps ≡ step → count ≤ length p.edits → kept ≡ length (take_while (is_no_later step count) cs) →
-    All (IsOnTheWay (record { origin = p.origin; edits = take count p.edits; machine = t })) (take kept cs)
+    All (IsOnTheWay (record { beginning = p.beginning; edits = take count p.edits; machine = t })) (take kept cs)
 ways-taken p cs step count kept t h e some m = λ k d l.
-    let q : Past = record { origin = p.origin; edits = take count p.edits; machine = t } in
+    let q : Past = record { beginning = p.beginning; edits = take count p.edits; machine = t } in
     let few = front-few (is_no_later step count) cs in
     let long = length-take kept cs in
     let under : k < kept = omega (arith, l, long) in
@@ -138,53 +138,53 @@ ways-taken p cs step count kept t h e some m = λ k d l.
     (way-taken p step count t (get_or cs k d) e some (h.ways k d (omega (arith, m, under, few))) passes)
 
 pub history-taken : (p : Past) (cs : List Kept) (step count kept : ℕ) (t : State) → IsHistory p cs → Was p step t → HasProgram t → count ≡ length (edits_to step p.edits) →
-    kept ≡ length (take_while (is_no_later step count) cs) → IsHistory (record { origin = p.origin; edits = take count p.edits; machine = t }) (take kept cs)
+    kept ≡ length (take_while (is_no_later step count) cs) → IsHistory (record { beginning = p.beginning; edits = take count p.edits; machine = t }) (take kept cs)
 history-taken p cs step count kept t h w loaded n m =
     let c = cut step p.edits in
     let some = c.some in
     record {
-      becomes = subst (λ xs. BecomesBy p.origin xs t) (sym (ap (λ j. take j p.edits) n ∙ c.front)) w.becomes;
-      origin = h.origin;
+      becomes = subst (λ xs. BecomesBy p.beginning xs t) (sym (ap (λ j. take j p.edits) n ∙ c.front)) w.becomes;
+      beginning = h.beginning;
       loaded = loaded;
       ways = ways-taken p cs step count kept t h w.steps (omega (arith, n, some)) m;
     }
 
 -- the history after going back, where its parts have names of their own
-pub taken-history : (p q : Past) (cs ds : List Kept) (es fs : List Edit) (step count kept : ℕ) (t : State) → p ≡ q → IsHistory p cs → Was q step t → HasProgram t → fs ≡ p.edits → count ≡ length (edits_to step fs) →
-    ds ≡ cs → kept ≡ length (take_while (is_no_later step count) ds) → es ≡ take count p.edits → (xs : List Kept) → xs ≡ take kept cs → IsHistory (record { origin = p.origin; edits = es; machine = t }) xs
+pub taken-history : (p q : Past) (cs ds : List Kept) (es fs : List TimedChange) (step count kept : ℕ) (t : State) → p ≡ q → IsHistory p cs → Was q step t → HasProgram t → fs ≡ p.edits → count ≡ length (edits_to step fs) →
+    ds ≡ cs → kept ≡ length (take_while (is_no_later step count) ds) → es ≡ take count p.edits → (xs : List Kept) → xs ≡ take kept cs → IsHistory (record { beginning = p.beginning; edits = es; machine = t }) xs
 taken-history p q cs ds es fs step count kept t e h w loaded f n g m x xs y =
     let was : Was p step t = subst (λ (r : Past). Was r step t) (sym e) w in
     let n2 : count ≡ length (edits_to step p.edits) = n ∙ ap (λ zs. length (edits_to step zs)) f in
     let m2 : kept ≡ length (take_while (is_no_later step count) cs) = m ∙ ap (λ zs. length (take_while (is_no_later step count) zs)) g in
     let whole = history-taken p cs step count kept t h was loaded n2 m2 in
-    subst (IsHistory (record { origin = p.origin; edits = es; machine = t })) (sym y)
-    (subst (λ zs. IsHistory (record { origin = p.origin; edits = zs; machine = t }) (take kept cs)) (sym x) whole)
+    subst (IsHistory (record { beginning = p.beginning; edits = es; machine = t })) (sym y)
+    (subst (λ zs. IsHistory (record { beginning = p.beginning; edits = zs; machine = t }) (take kept cs)) (sym x) whole)
 
-pub taken-back : (p q : Past) (es fs : List Edit) (step count : ℕ) (t : State) → p ≡ q → Was q step t → fs ≡ p.edits → count ≡ length (edits_to step fs) → es ≡ take count p.edits →
-    GoesBack q step (record { origin = p.origin; edits = es; machine = t })
+pub taken-back : (p q : Past) (es fs : List TimedChange) (step count : ℕ) (t : State) → p ≡ q → Was q step t → fs ≡ p.edits → count ≡ length (edits_to step fs) → es ≡ take count p.edits →
+    GoesBack q step (record { beginning = p.beginning; edits = es; machine = t })
 taken-back p q es fs step count t e w f n x =
     let c = cut step p.edits in
     let n2 : count ≡ length (edits_to step p.edits) = n ∙ ap (λ zs. length (edits_to step zs)) f in
     record {
-      origin = ap (λ (r : Past). r.origin) e;
+      beginning = ap (λ (r : Past). r.beginning) e;
       edits = x ∙ ap (λ k. take k p.edits) n2 ∙ c.front ∙ ap (λ (r : Past). edits_to step r.edits) e;
       was = w;
     }
 
--- ---- the origin
+-- ---- the beginning
 
-pub origin-history : (s o m : State) (es : List Edit) (cs : List Kept) → o ≡ s → m ≡ s → es ≡ [] → cs ≡ [] → HasProgram s → IsHistory (record { origin = o; edits = es; machine = m }) cs
-origin-history s o m es cs e f g h loaded =
-    subst (IsHistory (record { origin = o; edits = es; machine = m })) (sym h)
-    (subst (λ xs. IsHistory (record { origin = o; edits = xs; machine = m }) []) (sym g)
-    (subst (λ (u : State). IsHistory (record { origin = o; edits = []; machine = u }) []) (sym f)
-    (subst (λ (u : State). IsHistory (record { origin = u; edits = []; machine = s }) []) (sym e) (history-new s loaded))))
+pub beginning-history : (s o m : State) (es : List TimedChange) (cs : List Kept) → o ≡ s → m ≡ s → es ≡ [] → cs ≡ [] → HasProgram s → IsHistory (record { beginning = o; edits = es; machine = m }) cs
+beginning-history s o m es cs e f g h loaded =
+    subst (IsHistory (record { beginning = o; edits = es; machine = m })) (sym h)
+    (subst (λ xs. IsHistory (record { beginning = o; edits = xs; machine = m }) []) (sym g)
+    (subst (λ (u : State). IsHistory (record { beginning = o; edits = []; machine = u }) []) (sym f)
+    (subst (λ (u : State). IsHistory (record { beginning = u; edits = []; machine = s }) []) (sym e) (history-new s loaded))))
 
-pub origin-view : (p q : Past) (es : List Edit) (m : State) → p ≡ q → es ≡ [] → m ≡ p.origin → record { origin = p.origin; edits = es; machine = m } ≡ new_past q.origin
-origin-view p q es m e f g =
-    ap (λ xs. record { origin = p.origin; edits = xs; machine = m }) f
-    ∙ ap (λ (s : State). record { origin = p.origin; edits = []; machine = s }) g
-    ∙ ap (λ (r : Past). new_past r.origin) e
+pub beginning-view : (p q : Past) (es : List TimedChange) (m : State) → p ≡ q → es ≡ [] → m ≡ p.beginning → record { beginning = p.beginning; edits = es; machine = m } ≡ new_past q.beginning
+beginning-view p q es m e f g =
+    ap (λ xs. record { beginning = p.beginning; edits = xs; machine = m }) f
+    ∙ ap (λ (s : State). record { beginning = p.beginning; edits = []; machine = s }) g
+    ∙ ap (λ (r : Past). new_past r.beginning) e
 
 -- ---- what may become of copies
 
@@ -198,20 +198,20 @@ gained-history : (p : Past) (cs ds : List Kept) (copy : Kept) → IsHistory p cs
 gained-history p cs ds copy h w (none e) = subst (IsHistory p) (sym e) h
 gained-history p cs ds copy h w (more e) = subst (IsHistory p) (sym e) (with-copies p cs (cs ++ copy ∷ []) h (All-push (IsOnTheWay p) cs copy h.ways w))
 
-way-then : (p : Past) (step : ℕ) (m : State) → p.origin.steps ≤ 2 ^ 64 - 1 → step ≤ p.machine.steps → BecomesBy p.origin p.edits p.machine → Was p step m → HasProgram m →
+way-then : (p : Past) (step : ℕ) (m : State) → p.beginning.steps ≤ 2 ^ 64 - 1 → step ≤ p.machine.steps → BecomesBy p.beginning p.edits p.machine → Was p step m → HasProgram m →
     IsOnTheWay p (record { machine = m; edits = length (edits_to step p.edits) })
 way-then p step m l b h w loaded =
     let c = cut step p.edits in
     let now = w.steps in
     record {
       made = c.some;
-      becomes = subst (λ xs. BecomesBy p.origin xs m) (sym c.front) w.becomes;
-      next = All-weaker (λ z. step ≤ z.step) (λ z. m.steps ≤ z.step) (λ z k. omega (arith, k, now)) (drop (length (edits_to step p.edits)) p.edits) (later-edits p.origin p.machine step p.edits l h);
+      becomes = subst (λ xs. BecomesBy p.beginning xs m) (sym c.front) w.becomes;
+      next = All-weaker (λ z. step ≤ z.step) (λ z. m.steps ≤ z.step) (λ z k. omega (arith, k, now)) (drop (length (edits_to step p.edits)) p.edits) (later-edits p.beginning p.machine step p.edits l h);
       before = omega (arith, b, now);
       loaded = loaded;
     }
 
-pub history-inserted : (p q : Past) (cs ds es fs : List Kept) (xs : List Edit) (step count kept : ℕ) (m : State) → p ≡ q → IsHistory p cs → p.origin.steps ≤ 2 ^ 64 - 1 → step ≤ q.machine.steps → Was q step m → HasProgram m →
+pub history-inserted : (p q : Past) (cs ds es fs : List Kept) (xs : List TimedChange) (step count kept : ℕ) (m : State) → p ≡ q → IsHistory p cs → p.beginning.steps ≤ 2 ^ 64 - 1 → step ≤ q.machine.steps → Was q step m → HasProgram m →
     xs ≡ p.edits → count ≡ length (edits_to step xs) → ds ≡ take kept cs → LosesOne ds es → MayGain es (record { machine = m; edits = count }) fs → IsHistory p fs
 history-inserted p q cs ds es fs xs step count kept m e h l b w loaded f n g lost gained =
     let was : Was p step m = subst (λ (r : Past). Was r step m) (sym e) w in

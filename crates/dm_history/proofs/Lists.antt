@@ -5,32 +5,32 @@ use Rattle.std.proofs.lemmas.Bool.{leb-true, leb-false}
 use Rattle.std.proofs.lemmas.List.{drop-drop, drop-take, take-take, take-append-drop}
 use Rattle.std.proofs.lemmas.List.Elements.{All-nil, All-cons}
 use Rattle.std.proofs.lemmas.List.Sums.{take_while-cons}
-use Rattle.dm_history.specs.declared.change.Edit.{Edit}
+use Rattle.dm_history.specs.declared.change.TimedChange.{TimedChange}
 use Rattle.dm_history.specs.Edits.{edits_to}
 use Rattle.dm_history.specs.inner.Replays.{AreAfter}
 
-abbrev is_made : ℕ → Edit → Bool
+abbrev is_made : ℕ → TimedChange → Bool
 is_made step e = nat_le e.step step
 
 -- a list from the front on, with what stands behind
-pub record Cut (step : ℕ) (es : List Edit) : Type 0 where
+pub record Cut (step : ℕ) (es : List TimedChange) : Type 0 where
   pub front : take (length (edits_to step es)) es ≡ edits_to step es
   pub within : All (λ e. e.step ≤ step) (edits_to step es)
   pub after : AreAfter step (drop (length (edits_to step es)) es)
   pub some : length (edits_to step es) ≤ length es
 
 -- the same of any front
-record CutAt (step : ℕ) (es front : List Edit) : Type 0 where
+record CutAt (step : ℕ) (es front : List TimedChange) : Type 0 where
   pub is : take (length front) es ≡ front
   pub within : All (λ e. e.step ≤ step) front
   pub after : AreAfter step (drop (length front) es)
   pub some : length front ≤ length es
 
-more : (step : ℕ) (e : Edit) (es front : List Edit) (b : Bool) → is_made step e ≡ b → CutAt step es front → CutAt step (e ∷ es) (cond b (e ∷ front) [])
+more : (step : ℕ) (e : TimedChange) (es front : List TimedChange) (b : Bool) → is_made step e ≡ b → CutAt step es front → CutAt step (e ∷ es) (cond b (e ∷ front) [])
 more step e es front true made c =
     let some = c.some in
     record {
-      is = ap (λ (xs : List Edit). e ∷ xs) c.is;
+      is = ap (λ (xs : List TimedChange). e ∷ xs) c.is;
       within = All-cons (λ z. z.step ≤ step) e front (leb-true e.step step made) c.within;
       after = c.after;
       some = omega arith;
@@ -42,12 +42,12 @@ more step e es front false made c = record {
   some = omega arith;
 }
 
-cut-at : (step : ℕ) (es : List Edit) → CutAt step es (edits_to step es)
+cut-at : (step : ℕ) (es : List TimedChange) → CutAt step es (edits_to step es)
 cut-at step [] = record { is = refl; within = All-nil (λ z. z.step ≤ step); after = tt; some = omega arith }
 cut-at step (e ∷ es) =
     subst (CutAt step (e ∷ es)) (sym (take_while-cons (is_made step) e es)) (more step e es (edits_to step es) (is_made step e) refl (cut-at step es))
 
-pub cut : (step : ℕ) (es : List Edit) → Cut step es
+pub cut : (step : ℕ) (es : List TimedChange) → Cut step es
 cut step es = let c = cut-at step es in record { front = c.is; within = c.within; after = c.after; some = c.some }
 
 -- ---- a list in three parts

@@ -24,8 +24,8 @@ pub history-near : (p : Past) (cs : List Kept) (ps : List Breakpoint) (t : State
 history-near p cs ps t n l h g loaded =
     let goes = near-goes ps p.machine t n g in
     record {
-      becomes = goes-becomes p.origin p.machine t p.edits n h.becomes goes;
-      origin = h.origin;
+      becomes = goes-becomes p.beginning p.machine t p.edits n h.becomes goes;
+      beginning = h.beginning;
       loaded = loaded;
       ways = All-weaker (IsOnTheWay p) (IsOnTheWay (at_state p t)) (λ c w. way-on p t c (goes-rise p.machine t n l goes).0 w) cs h.ways;
     }

@@ -8,7 +8,7 @@ use Rattle.dm_machine.specs.Run.{IsRun, whole}
 use Rattle.dm_machine.proofs.OneStop.{run-one}
 use Rattle.dm_history.specs.declared.change.Change.{Change}
 use Rattle.dm_history.specs.declared.change.Change.TheVariants.{Registers, Written}
-use Rattle.dm_history.specs.declared.change.Edit.{Edit}
+use Rattle.dm_history.specs.declared.change.TimedChange.{TimedChange}
 use Rattle.dm_history.specs.Edits.{changed}
 use Rattle.dm_history.specs.Becomes.{BecomesBy, start, edited, stepped}
 use Rattle.dm_history.specs.inner.Replays.{RunsTo, LeadsBeyond, IsReplayed}
@@ -17,7 +17,7 @@ use Rattle.dm_history.proofs.OneState.{edit_of, rises}
 use Rattle.dm_history.proofs.Runs.{run-becomes}
 use Rattle.dm_history.proofs.Walks.{alive-before, Gone, all-goes, front, midway}
 
-pub becomes-join : (a b c : State) (es fs : List Edit) → BecomesBy a es b → BecomesBy b fs c → BecomesBy a (es ++ fs) c
+pub becomes-join : (a b c : State) (es fs : List TimedChange) → BecomesBy a es b → BecomesBy b fs c → BecomesBy a (es ++ fs) c
 becomes-join a b _ es _ x start = subst (λ xs. BecomesBy a xs b) (sym (append-nil es)) x
 becomes-join a b _ es _ x (edited fs t c y) =
     subst (λ xs. BecomesBy a xs (changed c t)) (append_assoc es fs (edit_of t c ∷ [])) (edited (es ++ fs) t c (becomes-join a b t es fs x y))
@@ -36,7 +36,7 @@ run-there s t w step g e r =
 
 -- up to an edit
 
-pub edit-comes : (s : State) (e : Edit) (es : List Edit) (step : ℕ) → LeadsBeyond s (e ∷ es) step → step < 2 ^ 64 - 1 → s.steps ≤ e.step
+pub edit-comes : (s : State) (e : TimedChange) (es : List TimedChange) (step : ℕ) → LeadsBeyond s (e ∷ es) step → step < 2 ^ 64 - 1 → s.steps ≤ e.step
 edit-comes s e es step k l =
     let f = front s k.present (e ∷ (es ++ k.others)) e (es ++ k.others) k.becomes refl in
     let within : e.step ≤ step = All-head (λ z. z.step ≤ step) e es k.within in
@@ -44,11 +44,11 @@ edit-comes s e es step k l =
     let rise = rises s f.before [] f.becomes (omega (arith, same, within, l)) in
     omega (arith, rise, same)
 
-pub record ToEdit (s : State) (e : Edit) (es : List Edit) (step : ℕ) (t : State) : Type 0 where
+pub record ToEdit (s : State) (e : TimedChange) (es : List TimedChange) (step : ℕ) (t : State) : Type 0 where
   pub steps : t.steps ≡ e.step
   pub beyond : LeadsBeyond (changed e.change t) es step
 
-pub to-edit : (s t : State) (e : Edit) (es : List Edit) (step : ℕ) → LeadsBeyond s (e ∷ es) step → step < 2 ^ 64 - 1 → RunsTo s e.step t → ToEdit s e es step t
+pub to-edit : (s t : State) (e : TimedChange) (es : List TimedChange) (step : ℕ) → LeadsBeyond s (e ∷ es) step → step < 2 ^ 64 - 1 → RunsTo s e.step t → ToEdit s e es step t
 to-edit s t e es step k l r =
     let f = front s k.present (e ∷ (es ++ k.others)) e (es ++ k.others) k.becomes refl in
     let within : e.step ≤ step = All-head (λ z. z.step ≤ step) e es k.within in
@@ -79,7 +79,7 @@ to-step s t step k l b r =
     let gone = all-goes s m.at [] m.becomes refl m.alive (omega (arith, same, l)) in
     ap (λ (u : State). u.steps) (run-there s t m.at step gone same r) ∙ same
 
-pub runs-to : (o s t : State) (es : List Edit) (step : ℕ) → BecomesBy o es s → RunsTo s step t → BecomesBy o es t
+pub runs-to : (o s t : State) (es : List TimedChange) (step : ℕ) → BecomesBy o es s → RunsTo s step t → BecomesBy o es t
 runs-to o s t es step b r = run-becomes o s t es (step - s.steps) r.stop b r.run
 
 -- ---- one edit after another
@@ -88,20 +88,20 @@ pub changed-loaded : (c : Change) (s : State) → HasProgram s → HasProgram (c
 changed-loaded (Registers cpu) s h = h
 changed-loaded (Written segment offset bytes) s h = h
 
-at-item : (es : List Edit) (i : ℕ) (e : Edit) → i < length es → e ≡ get_or es i e → drop i es ≡ e ∷ drop (i + 1) es
+at-item : (es : List TimedChange) (i : ℕ) (e : TimedChange) → i < length es → e ≡ get_or es i e → drop i es ≡ e ∷ drop (i + 1) es
 at-item es i e l is = drop_more es i e l ∙ ap (λ z. z ∷ drop (i + 1) es) (sym is)
 
-pub known-item : (s : State) (es : List Edit) (i step : ℕ) (e : Edit) → i < length es → e ≡ get_or es i e → LeadsBeyond s (drop i es) step → LeadsBeyond s (e ∷ drop (i + 1) es) step
+pub known-item : (s : State) (es : List TimedChange) (i step : ℕ) (e : TimedChange) → i < length es → e ≡ get_or es i e → LeadsBeyond s (drop i es) step → LeadsBeyond s (e ∷ drop (i + 1) es) step
 known-item s es i step e l is k = subst (λ xs. LeadsBeyond s xs step) (at-item es i e l is) k
 
 -- the state after the next edit
-pub record Next (o : State) (es : List Edit) (i step : ℕ) (t : State) : Type 0 where
+pub record Next (o : State) (es : List TimedChange) (i step : ℕ) (t : State) : Type 0 where
   pub loaded : HasProgram t
   pub before : t.steps ≤ step
   pub becomes : BecomesBy o (take (i + 1) es) t
   pub known : LeadsBeyond t (drop (i + 1) es) step
 
-next-edit : (o s t : State) (es : List Edit) (i step : ℕ) (e : Edit) → i < length es → e ≡ get_or es i e → step < 2 ^ 64 - 1 → BecomesBy o (take i es) s → LeadsBeyond s (drop i es) step → RunsTo s e.step t → HasProgram t →
+next-edit : (o s t : State) (es : List TimedChange) (i step : ℕ) (e : TimedChange) → i < length es → e ≡ get_or es i e → step < 2 ^ 64 - 1 → BecomesBy o (take i es) s → LeadsBeyond s (drop i es) step → RunsTo s e.step t → HasProgram t →
     Next o es i step (changed e.change t)
 next-edit o s t es i step e l is m b k r h =
     let known = known-item s es i step e l is k in
@@ -118,11 +118,11 @@ next-edit o s t es i step e l is m b k r h =
       known = x.beyond;
     }
 
-pub next-state : (o s t u : State) (es : List Edit) (i step : ℕ) (e : Edit) → u ≡ changed e.change t → i < length es → e ≡ get_or es i e → step < 2 ^ 64 - 1 → BecomesBy o (take i es) s → LeadsBeyond s (drop i es) step →
+pub next-state : (o s t u : State) (es : List TimedChange) (i step : ℕ) (e : TimedChange) → u ≡ changed e.change t → i < length es → e ≡ get_or es i e → step < 2 ^ 64 - 1 → BecomesBy o (take i es) s → LeadsBeyond s (drop i es) step →
     RunsTo s e.step t → HasProgram t → Next o es i step u
 next-state o s t u es i step e q l is m b k r h = subst (Next o es i step) (sym q) (next-edit o s t es i step e l is m b k r h)
 
-pub replayed : (o s t : State) (es : List Edit) (i step : ℕ) → length es ≤ i → step < 2 ^ 64 - 1 → s.steps ≤ step → BecomesBy o (take i es) s → LeadsBeyond s (drop i es) step → RunsTo s step t → IsReplayed o es step t
+pub replayed : (o s t : State) (es : List TimedChange) (i step : ℕ) → length es ≤ i → step < 2 ^ 64 - 1 → s.steps ≤ step → BecomesBy o (take i es) s → LeadsBeyond s (drop i es) step → RunsTo s step t → IsReplayed o es step t
 replayed o s t es i step l m a b k r = record {
   becomes = runs-to o s t es step (subst (λ xs. BecomesBy o xs s) (take_all i es l) b) r;
   steps = to-step s t step (subst (λ xs. LeadsBeyond s xs step) (drop_all i es l) k) m a r;

@@ -5,14 +5,14 @@ use Rattle.dm_services.specs.declared.state.stop.Stop.TheVariants.{Exited, Steps
 use Rattle.dm_services.specs.state.State.{State, Answer, stop_at}
 use Rattle.dm_machine.specs.Step.{MakesStep}
 use Rattle.dm_machine.specs.Run.{Answers, Goes, here, further, IsRun, over, whole, cut}
-use Rattle.dm_history.specs.declared.change.Edit.{Edit}
+use Rattle.dm_history.specs.declared.change.TimedChange.{TimedChange}
 use Rattle.dm_history.specs.Pasts.{Past}
 use Rattle.dm_history.specs.Becomes.{BecomesBy, stepped, HasStepTo, on, end}
 use Rattle.dm_history.proofs.Counts.{counted, IsEarly, Counts, goes, ends, stays, steps-count, ended-stays, ended-step}
 use Rattle.dm_history.proofs.Counts as counts
 use Rattle.dm_history.proofs.Leading.{none≢some, same-some, leads-steps}
 
-pub goes-becomes : (o s t : State) (es : List Edit) (n : ℕ) → BecomesBy o es s → Goes s n t → BecomesBy o es t
+pub goes-becomes : (o s t : State) (es : List TimedChange) (n : ℕ) → BecomesBy o es s → Goes s n t → BecomesBy o es t
 goes-becomes o s _ es _ b here = b
 goes-becomes o s _ es _ b (further n t u g h) = stepped es t u (goes-becomes o s t es n b g) (on h)
 
@@ -36,11 +36,11 @@ stopped : (s t : State) (stop : Stop) → Answers s (Some stop) t → Stopped s 
 stopped s t NoMemory h = same h.1
 stopped s t stop h = stopped-at s t stop s.exited refl h
 
-stopped-becomes : (o s t : State) (es : List Edit) → BecomesBy o es s → Stopped s t → BecomesBy o es t
+stopped-becomes : (o s t : State) (es : List TimedChange) → BecomesBy o es s → Stopped s t → BecomesBy o es t
 stopped-becomes o s t es b (same e) = subst (BecomesBy o es) (sym e) b
 stopped-becomes o s t es b (ended h) = stepped es s t b h
 
-pub run-becomes : (o s t : State) (es : List Edit) (n : ℕ) (stop : Stop) → BecomesBy o es s → IsRun s n stop t → BecomesBy o es t
+pub run-becomes : (o s t : State) (es : List TimedChange) (n : ℕ) (stop : Stop) → BecomesBy o es s → IsRun s n stop t → BecomesBy o es t
 run-becomes o s t es n stop b (over code e f g) = subst (BecomesBy o es) (sym g) b
 run-becomes o s t es n stop b (whole e f g) = goes-becomes o s t es n b g
 run-becomes o s t es n stop b (cut e w) =

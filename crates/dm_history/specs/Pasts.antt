@@ -2,19 +2,19 @@
 use Rattle.std.specs.Prelude.{◌≡◌, ℕ, List, [], ◌∷◌, ◌++◌}
 use Rattle.dm_services.specs.state.State.{State}
 use Rattle.dm_history.specs.declared.change.Change.{Change}
-use Rattle.dm_history.specs.declared.change.Edit.{Edit}
+use Rattle.dm_history.specs.declared.change.TimedChange.{TimedChange}
 use Rattle.dm_history.specs.Edits.{changed, edits_to}
 use Rattle.dm_history.specs.Becomes.{BecomesBy}
 
 -- a history: the state where it begins, the edits made since in their order, and the machine's state now
 pub record Past : Type 0 where
-  pub origin : State
-  pub edits : List Edit
+  pub beginning : State
+  pub edits : List TimedChange
   pub machine : State
 
 -- the history of a machine that begins in this state
 abbrev pub new_past : State → Past
-new_past s = record { origin = s; edits = []; machine = s }
+new_past s = record { beginning = s; edits = []; machine = s }
 
 -- the history with the machine in this state, as steps leave it
 abbrev pub at_state : Past → State → Past
@@ -26,11 +26,11 @@ with_change p c = record p { edits = p.edits ++ record { step = p.machine.steps;
 
 -- the history p was in this state after so many steps, with the edits made up to then
 pub record Was (p : Past) (step : ℕ) (s : State) : Type 0 where
-  pub becomes : BecomesBy p.origin (edits_to step p.edits) s
+  pub becomes : BecomesBy p.beginning (edits_to step p.edits) s
   pub steps : s.steps ≡ step
 
 -- q is the history p as it was after so many steps: later edits are dropped
 pub record GoesBack (p : Past) (step : ℕ) (q : Past) : Type 0 where
-  pub origin : q.origin ≡ p.origin
+  pub beginning : q.beginning ≡ p.beginning
   pub edits : q.edits ≡ edits_to step p.edits
   pub was : Was p step q.machine

@@ -49,7 +49,7 @@ pub enum Change {
 
 /// A change, and after how many steps it was made.
 #[derive(Drop)]
-pub struct Edit {
+pub struct TimedChange {
     /// The machine's count of steps.
     pub step: u64,
     pub change: Change,

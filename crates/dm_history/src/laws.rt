@@ -7,13 +7,13 @@ use crate::history::History;
 /// A state becomes at most one by the same edits and as many steps, below 2^64 - 1: so what going back leads to is the
 /// state that was there, and going on from it leads to the same states again. Does nothing when called.
 #[tactic(auto, using(crate::proofs::OneState::one_state))]
-pub fn an_origin_becomes_one_state()
+pub fn a_beginning_becomes_one_state()
     ensures { ThereIsOneState }
 {}
 
-/// The machine of a history has come from its origin by steps and by the edits. Does nothing when called.
-pub fn histories_come_from_their_origin(history: &History)
-    ensures { BecomesBy history.now.origin history.now.edits history.now.machine }
+/// The machine of a history has come from its beginning by steps and by the edits. Does nothing when called.
+pub fn histories_come_from_their_beginning(history: &History)
+    ensures { BecomesBy history.now.beginning history.now.edits history.now.machine }
 {
     let _due = history.due;
 }

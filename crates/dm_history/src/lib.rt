@@ -7,6 +7,6 @@ mod history;
 mod laws;
 mod replay;
 
-pub use change::{Bytes, Change, Edit};
+pub use change::{Bytes, Change, TimedChange};
 pub use history::History;
-pub use laws::{an_origin_becomes_one_state, histories_come_from_their_origin};
+pub use laws::{a_beginning_becomes_one_state, histories_come_from_their_beginning};

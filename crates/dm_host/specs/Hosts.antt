@@ -18,7 +18,7 @@ pub record Hosted : Type 0 where
 
 -- a report of no findings
 abbrev pub no_report : Reported
-no_report = record { listed = []; errors = 0; notes = 0; unlisted = 0 }
+no_report = record { listed = []; errors = 0; notes = 0; not_listed = 0 }
 
 -- the host with this setup, no program loaded, no answer and no report
 abbrev pub new_host : Prepared → Hosted
@@ -54,6 +54,6 @@ abbrev pub IsNotLoaded : Hosted → Refusal → Type 0
 IsNotLoaded h e = (e ≡ NotLoaded) × (machine_of h.stage ≡ None)
 
 -- why nothing is listed, in this order: no program is loaded; an allocation failed
-pub data IsUnlisted (h : Hosted) (why : Refusal) : Type 0 where
-  not_loaded : IsNotLoaded h why → IsUnlisted h why
-  no_memory : Shows h (λ s. Unit {0}) → why ≡ Memory → IsUnlisted h why
+pub data IsNotListed (h : Hosted) (why : Refusal) : Type 0 where
+  not_loaded : IsNotLoaded h why → IsNotListed h why
+  no_memory : Shows h (λ s. Unit {0}) → why ≡ Memory → IsNotListed h why

@@ -13,7 +13,7 @@ pub struct KeptReport {
     listed: Vec<Listed>,
     errors: u64,
     notes: u64,
-    unlisted: u64,
+    not_listed: u64,
 }
 
 impl Model for KeptReport {
@@ -21,7 +21,7 @@ impl Model for KeptReport {
 
     ghost Value = { Reported };
 
-    ghost view = { λ k. record { listed = k.listed.items; errors = k.errors; notes = k.notes; unlisted = k.unlisted } };
+    ghost view = { λ k. record { listed = k.listed.items; errors = k.errors; notes = k.notes; not_listed = k.not_listed } };
 }
 
 impl KeptReport {
@@ -33,7 +33,7 @@ impl KeptReport {
             listed: Vec::new(alloc),
             errors: 0,
             notes: 0,
-            unlisted: 0,
+            not_listed: 0,
         }
     }
 
@@ -45,7 +45,7 @@ impl KeptReport {
             listed: Vec::from_slice(alloc, report.listed())?,
             errors: report.errors(),
             notes: report.notes(),
-            unlisted: report.unlisted(),
+            not_listed: report.not_listed(),
         })
     }
 
@@ -57,7 +57,7 @@ impl KeptReport {
             listed: Vec::from_slice(alloc, self.listed.as_slice())?,
             errors: self.errors,
             notes: self.notes,
-            unlisted: self.unlisted,
+            not_listed: self.not_listed,
         })
     }
 
@@ -83,9 +83,9 @@ impl KeptReport {
     }
 
     /// How many findings are neither listed nor repeat one that is.
-    pub fn unlisted(&self) -> u64
-        ensures { result ≡ self.now.unlisted }
+    pub fn not_listed(&self) -> u64
+        ensures { result ≡ self.now.not_listed }
     {
-        self.unlisted
+        self.not_listed
     }
 }

@@ -3,7 +3,7 @@ ghost use Rattle.std.specs.Prelude.{◌≡◌, IfOk, IfErr};
 ghost use Rattle.dm_views.specs.inventory.Arena.{IsListedArena};
 ghost use Rattle.dm_views.specs.inventory.Pages.{handle_rows, window_rows};
 ghost use Rattle.dm_views.specs.inventory.Extended.{extended_rows, upper_rows};
-ghost use Rattle.dm_host.specs.Hosts.{Shows, IsNotLoaded, IsUnlisted};
+ghost use Rattle.dm_host.specs.Hosts.{Shows, IsNotLoaded, IsNotListed};
 
 use crate::host::Host;
 use crate::refusal::Refusal;
@@ -22,7 +22,7 @@ impl Host {
     /// `NotLoaded` exactly where no program is loaded; else `Memory` if an allocation failed.
     pub fn blocks(&self, alloc: Global) -> Result<(Vec<ArenaBlock>, Option<u16>), Refusal>
         ensures ok { IfOk result (λ r. Shows self.now (λ s. IsListedArena s.upper s.memory r.0.items r.1)) }
-        ensures err { IfErr result (IsUnlisted self.now) }
+        ensures err { IfErr result (IsNotListed self.now) }
     {
         let Some(machine) = self.machine() else {
             return Err(Refusal::NotLoaded);
@@ -41,7 +41,7 @@ impl Host {
     /// `NotLoaded` exactly where no program is loaded; else `Memory` if an allocation failed.
     pub fn page_handles(&self, alloc: Global) -> Result<Vec<PageHandle>, Refusal>
         ensures ok { IfOk result (λ handles. Shows self.now (λ s. handles.items ≡ handle_rows s.ems)) }
-        ensures err { IfErr result (IsUnlisted self.now) }
+        ensures err { IfErr result (IsNotListed self.now) }
     {
         let Some(machine) = self.machine() else {
             return Err(Refusal::NotLoaded);
@@ -75,7 +75,7 @@ impl Host {
     /// `NotLoaded` exactly where no program is loaded; else `Memory` if an allocation failed.
     pub fn extended_blocks(&self, alloc: Global) -> Result<Vec<ExtendedBlock>, Refusal>
         ensures ok { IfOk result (λ blocks. Shows self.now (λ s. blocks.items ≡ extended_rows s.xms s.memory)) }
-        ensures err { IfErr result (IsUnlisted self.now) }
+        ensures err { IfErr result (IsNotListed self.now) }
     {
         let Some(machine) = self.machine() else {
             return Err(Refusal::NotLoaded);
@@ -94,7 +94,7 @@ impl Host {
     /// `NotLoaded` exactly where no program is loaded; else `Memory` if an allocation failed.
     pub fn upper_blocks(&self, alloc: Global) -> Result<Vec<UpperBlock>, Refusal>
         ensures ok { IfOk result (λ blocks. Shows self.now (λ s. blocks.items ≡ upper_rows s.xms)) }
-        ensures err { IfErr result (IsUnlisted self.now) }
+        ensures err { IfErr result (IsNotListed self.now) }
     {
         let Some(machine) = self.machine() else {
             return Err(Refusal::NotLoaded);

@@ -215,14 +215,14 @@ abbrev pub left_out_object : ℕ → List ℕ
 left_out_object n = opening (codes "not_listed") ++ number_member (codes "findings") n ++ object_end
 
 -- the line about the findings that the report leaves out; none if there are none
-abbrev pub unlisted_object : ℕ → List ℕ
-unlisted_object n = if n == 0 then [] else left_out_object n
+abbrev pub not_listed_object : ℕ → List ℕ
+not_listed_object n = if n == 0 then [] else left_out_object n
 
 -- what follows the lines of the findings: a line for each finding that is repeated; a line about those that are left
 -- out, if there are any; and a line with the numbers of all errors and notes
 unfoldable pub summary_objects : Reported → List ℕ
 summary_objects r =
-    flat_map again_object r.listed ++ unlisted_object r.unlisted
+    flat_map again_object r.listed ++ not_listed_object r.not_listed
     ++ opening (codes "summary") ++ number_member (codes "errors") r.errors ++ number_member (codes "notes") r.notes ++ object_end
 
 -- ---- stops

@@ -4,3 +4,5 @@ mod ByWidth
 pub mod Unshifted
 mod Addresses
 pub mod Turns
+pub mod Digits
+mod Lowered

@@ -7,7 +7,7 @@ use Rattle.dm_alu.specs.declared.shifts.ShiftOperation.{ShiftOperation}
 use Rattle.dm_alu.specs.declared.shifts.ShiftOperation.TheVariants.{RotateLeft, RotateThroughCarryLeft, Left}
 use Rattle.dm_alu.specs.declared.width.Width.{Width}
 use Rattle.dm_alu.specs.declared.width.Width.TheVariants.{Byte, Word}
-use Rattle.dm_alu.specs.Shifts.{differ, moves, overflow_after_move, second_bit, to_left}
+use Rattle.dm_alu.specs.Shifts.{differ, moves, overflow_after_shift, second_bit, to_left}
 use Rattle.dm_alu.specs.Width.{is_negative, size}
 use Rattle.dm_operations.proofs.Signs.{small}
 
@@ -62,25 +62,25 @@ left_by w m a b h e =
     ∙ ap (λ (x : Shifted). differ x.carry (is_negative w x.value)) (sym e)
 
 rotates_left : (o : ShiftOperation) (w : Width) (m a : Shifted) → o ≡ RotateLeft → m.value < size w → a ≡ moves o w 1 m →
-    differ (is_negative w m.value) (second_bit w m.value) ≡ overflow_after_move o w m.value a
+    differ (is_negative w m.value) (second_bit w m.value) ≡ overflow_after_shift o w m.value a
 unfolding moves
 rotates_left o w m a e h f =
-    left_by w m a (is_negative w m.value) h (f ∙ ap (λ x. moves x w 1 m) e) ∙ ap (λ x. overflow_after_move x w m.value a) (sym e)
+    left_by w m a (is_negative w m.value) h (f ∙ ap (λ x. moves x w 1 m) e) ∙ ap (λ x. overflow_after_shift x w m.value a) (sym e)
 
 rotates_through_carry : (o : ShiftOperation) (w : Width) (m a : Shifted) → o ≡ RotateThroughCarryLeft → m.value < size w → a ≡ moves o w 1 m →
-    differ (is_negative w m.value) (second_bit w m.value) ≡ overflow_after_move o w m.value a
+    differ (is_negative w m.value) (second_bit w m.value) ≡ overflow_after_shift o w m.value a
 unfolding moves
 rotates_through_carry o w m a e h f =
-    left_by w m a m.carry h (f ∙ ap (λ x. moves x w 1 m) e) ∙ ap (λ x. overflow_after_move x w m.value a) (sym e)
+    left_by w m a m.carry h (f ∙ ap (λ x. moves x w 1 m) e) ∙ ap (λ x. overflow_after_shift x w m.value a) (sym e)
 
 moves_left : (o : ShiftOperation) (w : Width) (m a : Shifted) → o ≡ Left → m.value < size w → a ≡ moves o w 1 m →
-    differ (is_negative w m.value) (second_bit w m.value) ≡ overflow_after_move o w m.value a
+    differ (is_negative w m.value) (second_bit w m.value) ≡ overflow_after_shift o w m.value a
 unfolding moves
 moves_left o w m a e h f =
-    left_by w m a false h (f ∙ ap (λ x. moves x w 1 m) e) ∙ ap (λ x. overflow_after_move x w m.value a) (sym e)
+    left_by w m a false h (f ∙ ap (λ x. moves x w 1 m) e) ∙ ap (λ x. overflow_after_shift x w m.value a) (sym e)
 
 pub overflow_left : (o : ShiftOperation) (w : Width) (m a : Shifted) → (o ≡ RotateLeft) ⊎ ((o ≡ RotateThroughCarryLeft) ⊎ (o ≡ Left)) → m.value < size w → a ≡ moves o w 1 m →
-    differ (is_negative w m.value) (second_bit w m.value) ≡ overflow_after_move o w m.value a
+    differ (is_negative w m.value) (second_bit w m.value) ≡ overflow_after_shift o w m.value a
 overflow_left o w m a s h f =
     elim s [
       | inl e ↦ rotates_left o w m a e h f

@@ -13,13 +13,16 @@ pub mod stack;
 
 pub use adjustments::adjust_accumulator;
 pub use arithmetic::ArithmeticOperation;
-pub use low::{divide_by_low, on_low_pair, on_low_place};
+pub use low::{
+    change_byte, change_low_word, change_shown_word, change_word, divide_by_low, on_low_pair,
+    on_low_place, shift_low_byte, shift_low_word,
+};
 pub use numbers::Number;
 pub use pairs::{
     Addition, AdditionWithCarry, Changing, Combining, Comparison, Complement, Decrement, Dividing,
-    Increment, Input, Joining, Multiplication, Negation, OperandPair, OperandPlace, PairOperation,
-    PlaceOperation, Shifting, ShiftingOnce, Subtraction, SubtractionWithBorrow, Testing, on_pair,
-    on_place,
+    Increment, Joining, Multiplication, Negation, OperandPair, OperandPlace, PairOperation,
+    PlaceOperation, PortInput, Shifting, ShiftingOnce, Subtraction, SubtractionWithBorrow, Testing,
+    on_pair, on_place,
 };
 pub use shifts::{
     ArithmeticShift, LeftRotation, LeftRotationThroughCarry, LeftShift, RightRotation,

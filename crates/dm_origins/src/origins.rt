@@ -83,7 +83,7 @@ impl Origins {
 
     /// Looks at the handles of expanded memory after a call of its driver: the step allocated those that were not in
     /// use.
-    pub fn note_handles(&mut self, ems: &Ems, origin: Origin)
+    pub fn record_handles(&mut self, ems: &Ems, origin: Origin)
         ensures { self.new ≡ with_handles self.old ems.now (Some origin) }
     {
         look_at_handles(&mut self.handles, ems, Some(origin));
@@ -92,7 +92,7 @@ impl Origins {
     /// Looks at the handles of extended memory, the upper memory blocks, the high memory area and A20 (`on`) after a
     /// call of the extended memory driver: the step allocated those that were not in use, took the area if it was free,
     /// and turned A20 on if it was off.
-    pub fn note_blocks(&mut self, xms: &Xms, on: bool, origin: Origin)
+    pub fn record_blocks(&mut self, xms: &Xms, on: bool, origin: Origin)
         ensures { self.new ≡ with_extended_memory self.old xms.now on (Some origin) }
     {
         look_at_blocks(&mut self.blocks, xms, Some(origin));
@@ -103,22 +103,22 @@ impl Origins {
 
     /// Looks at the blocks of the arena before and after a call: the step freed the paragraphs of free blocks that were
     /// in no free block.
-    pub fn note_freed(&mut self, old: &[Header], new: &[Header], origin: Origin)
+    pub fn record_freed(&mut self, old: &[Header], new: &[Header], origin: Origin)
         ensures { self.new ≡ with_freed self.old old.now new.now origin }
     {
         free_all(&mut self.freed, old, new, origin);
     }
 
-    /// Notes that a process has started. An `Err` is a failed allocation.
-    pub fn note_start(&mut self, process: Process) -> Result<(), AllocError>
+    /// Records that a process has started. An `Err` is a failed allocation.
+    pub fn record_start(&mut self, process: Process) -> Result<(), AllocError>
         ensures { OnOk result (self.new ≡ record self.old { processes = self.old.processes ++ process ∷ [] }) }
     {
         self.processes.push(process)?;
         Ok(())
     }
 
-    /// Notes that the innermost process has ended, by this step.
-    pub fn note_end(&mut self, step: u64)
+    /// Records that the innermost process has ended, by this step.
+    pub fn record_end(&mut self, step: u64)
         ensures { self.new ≡ record self.old { processes = with_end step self.old.processes } }
     {
         end_innermost(&mut self.processes, step);

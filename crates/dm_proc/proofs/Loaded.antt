@@ -13,7 +13,7 @@ use Rattle.dm_proc.specs.declared.parent.Ending.TheVariants.{Returned, Exited}
 use Rattle.dm_proc.specs.declared.refusal.ExecRefusal.{ExecRefusal}
 use Rattle.dm_proc.specs.declared.refusal.ArenaDestroyed.{ArenaDestroyed}
 use Rattle.dm_proc.specs.Request.{Passed}
-use Rattle.dm_proc.specs.Processes.{Processes, AreLoaded, Starts, Executes, Loads, GoesOn, Terminates, Keeps}
+use Rattle.dm_proc.specs.Processes.{Processes, AreLoaded, Starts, Executes, Loads, GoesOn, Terminates, StaysResident}
 use Rattle.dm_proc.specs.Laws.{CallsKeepLoaded}
 
 abbrev HasSegment : Parent → Type 0
@@ -63,9 +63,9 @@ module _ (up : Bool) where
   terminating_loaded ps c m code (Err e) qs d n x h = at ps qs x.0 h
 
   keeping_loaded : (ps : Processes) (c : Cpu) (m : Memory) (code k : ℕ) (r : Result Ending ArenaDestroyed) (qs : Processes) (d : Cpu) (n : Memory) →
-      Keeps up ps c m code k r qs d n → AreLoaded ps → AreLoaded qs
+      StaysResident up ps c m code k r qs d n → AreLoaded ps → AreLoaded qs
   keeping_loaded ps c m code k (Ok e) qs d n x h = goes_on_loaded ps c (0x300 + code) e qs d x.4.goes_on h
   keeping_loaded ps c m code k (Err e) qs d n x h = at ps qs x.0 h
 
 pub keep_loaded : CallsKeepLoaded
-keep_loaded = record { exec = exec_loaded; load = load_loaded; terminating = terminating_loaded; keeping = keeping_loaded }
+keep_loaded = record { starting = exec_loaded; load = load_loaded; terminating = terminating_loaded; staying = keeping_loaded }

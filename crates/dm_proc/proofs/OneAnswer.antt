@@ -23,7 +23,7 @@ use Rattle.dm_proc.specs.Request.{IsNameAt, NoNameAt, Names, NamesGood, NameRefu
 use Rattle.dm_proc.specs.Environment.{IsEnvironment, AreVariables, NoVariables, environment}
 use Rattle.dm_proc.specs.Room.{paragraphs, least, most}
 use Rattle.dm_proc.specs.Start.{start_writes, start_registers, prefix}
-use Rattle.dm_proc.specs.Processes.{Processes, return_registers, IsPlanned, PlanRefused, Starts, Asks, environment_of, Execs, ExecRefused, Executes, Loads, Lays, OverlayRefused, Overlays, vectors_back, GoesOn, Ends, Terminates, Keeps}
+use Rattle.dm_proc.specs.Processes.{Processes, return_registers, IsPlanned, PlanRefused, Starts, Asks, environment_of, Execs, ExecRefused, Executes, Loads, Lays, OverlayRefused, Overlays, vectors_back, GoesOn, Ends, Terminates, StaysResident}
 
 some-same : {A : Type 0} (x y : A) → Some x ≡ Some y → x ≡ y
 some-same x y e = cc
@@ -355,7 +355,7 @@ module _ (up : Bool) where
   terminating_unique ps c m code (Err d) (Err e) p₁ p₂ c₁ c₂ m₁ m₂ x y = (refl, x.0 ∙ sym y.0, x.1 ∙ sym y.1, x.2 ∙ sym y.2)
 
   pub keeping_unique : (ps : Processes) (c : Cpu) (m : Memory) (code n : ℕ) (r q : Result Ending ArenaDestroyed) (p₁ p₂ : Processes) (c₁ c₂ : Cpu) (m₁ m₂ : Memory) →
-      Keeps up ps c m code n r p₁ c₁ m₁ → Keeps up ps c m code n q p₂ c₂ m₂ → (r ≡ q) × (p₁ ≡ p₂) × (c₁ ≡ c₂) × (m₁ ≡ m₂)
+      StaysResident up ps c m code n r p₁ c₁ m₁ → StaysResident up ps c m code n q p₂ c₂ m₂ → (r ≡ q) × (p₁ ≡ p₂) × (c₁ ≡ c₂) × (m₁ ≡ m₂)
   keeping_unique ps c m code n (Ok d) (Ok e) p₁ p₂ c₁ c₂ m₁ m₂ x y =
       let same = (resizing_unique up m ps.present n x.0 y.0 x.1 y.1 x.2 y.2).1 in
       let u = ends_unique ps c x.1 y.1 (0x300 + code) d e p₁ p₂ c₁ c₂ m₁ m₂ same x.4 y.4 in

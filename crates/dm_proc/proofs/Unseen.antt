@@ -21,7 +21,7 @@ use Rattle.dm_proc.specs.Request.{IsNameAt, Names, NameRefused, pointer_at, tail
 use Rattle.dm_proc.specs.Environment.{IsEnd, AreVariables, NoVariables}
 use Rattle.dm_proc.specs.Room.{paragraphs, least, most}
 use Rattle.dm_proc.specs.Start.{word_bytes, zeros, start_writes, prefix}
-use Rattle.dm_proc.specs.Processes.{Processes, return_registers, PlanRefused, Starts, Asks, environment_of, ExecRefused, Executes, Loads, OverlayRefused, Overlays, vectors_back, Ends, Terminates, Keeps}
+use Rattle.dm_proc.specs.Processes.{Processes, return_registers, PlanRefused, Starts, Asks, environment_of, ExecRefused, Executes, Loads, OverlayRefused, Overlays, vectors_back, Ends, Terminates, StaysResident}
 use Rattle.dm_proc.specs.Laws.{IgnoresUnseen}
 
 module _ (up : Bool) where
@@ -221,15 +221,15 @@ module _ (up : Bool) where
     terminating-unseen ps c m code (Err e) qs d n x = (x.0, x.1, ap f x.2, releasing-unseen up f u m m ps.present (Err arena.Destroyed) x.3)
 
     pub keeping-unseen : (ps : Processes) (c : Cpu) (m : Memory) (code k : ℕ) (r : Result Ending ArenaDestroyed) (qs : Processes) (d : Cpu) (n : Memory) →
-        Keeps up ps c m code k r qs d n → Keeps up ps c (f m) code k r qs d (f n)
+        StaysResident up ps c m code k r qs d n → StaysResident up ps c (f m) code k r qs d (f n)
     keeping-unseen ps c m code k (Ok e) qs d n x = (x.0, f x.1, resizing-unseen up f u m x.1 ps.present k x.0 x.2, x.3, ends-unseen ps c x.1 (0x300 + code) e qs d n x.4)
     keeping-unseen ps c m code k (Err e) qs d n x = (x.0, x.1, ap f x.2, resizing-unseen up f u m m ps.present k (Err arena.Destroyed) x.3)
 
 pub ignores_unseen : IgnoresUnseen
 ignores_unseen f u = record {
-  exec = λ upper. exec-unseen upper f u;
+  starting = λ upper. exec-unseen upper f u;
   load = λ upper. load-unseen upper f u;
   overlay = overlay-unseen false f u;
   terminating = λ upper. terminating-unseen upper f u;
-  keeping = λ upper. keeping-unseen upper f u;
+  staying = λ upper. keeping-unseen upper f u;
 }

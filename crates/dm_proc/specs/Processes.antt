@@ -180,8 +180,8 @@ Terminates upper ps c m code (Err e) qs d n = (qs ≡ ps) × (d ≡ c) × (n ≡
 -- function 31h: the block of the present process is resized to `paragraphs`, or stays if that is not possible; none of
 -- its blocks is freed, and it ends as `Ends` says, with the word for 4Dh. Where the arena is destroyed, or would be,
 -- nothing changes
-abbrev pub Keeps : Bool → Processes → Cpu → Memory → ℕ → ℕ → Result Ending ArenaDestroyed → Processes → Cpu → Memory → Type 0
-Keeps upper ps c m code paragraphs (Ok ending) qs d n =
+abbrev pub StaysResident : Bool → Processes → Cpu → Memory → ℕ → ℕ → Result Ending ArenaDestroyed → Processes → Cpu → Memory → Type 0
+StaysResident upper ps c m code paragraphs (Ok ending) qs d n =
     (answer : Result (Unit {0}) ArenaRefusal) × (kept : Memory) × Resizes upper m ps.present paragraphs answer kept × (answer ≢ Err arena.Destroyed)
     × Ends ps c kept (0x300 + code) ending qs d n
-Keeps upper ps c m code paragraphs (Err e) qs d n = (qs ≡ ps) × (d ≡ c) × (n ≡ m) × Resizes upper m ps.present paragraphs (Err arena.Destroyed) m
+StaysResident upper ps c m code paragraphs (Err e) qs d n = (qs ≡ ps) × (d ≡ c) × (n ≡ m) × Resizes upper m ps.present paragraphs (Err arena.Destroyed) m

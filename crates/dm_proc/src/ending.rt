@@ -1,6 +1,6 @@
 //! How a program ends (MS-DOS Programmer's Reference, functions 00h, 4Ch and 31h, and INT 20h).
 ghost use Rattle.std.specs.Prelude.{◌≡◌, ◌+◌, IsErrOf, MatchBool};
-ghost use Rattle.dm_proc.specs.Processes.{Ends, Keeps, Terminates};
+ghost use Rattle.dm_proc.specs.Processes.{Ends, StaysResident, Terminates};
 
 use crate::parent::Ending;
 use crate::procs::Procs;
@@ -83,7 +83,7 @@ impl Procs {
         paragraphs: u16,
         upper: bool,
     ) -> Result<Ending, ArenaDestroyed>
-        ensures { Keeps upper self.old cpu.old space.old.memory code paragraphs result self.new cpu.new space.new.memory }
+        ensures { StaysResident upper self.old cpu.old space.old.memory code paragraphs result self.new cpu.new space.new.memory }
     {
         let answer = resize(space, self.psp(), paragraphs, upper);
         if is_destroyed(answer) {

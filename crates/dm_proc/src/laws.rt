@@ -1,10 +1,10 @@
 //! Laws of processes: each is the contract of a function that does nothing.
-ghost use Rattle.dm_proc.specs.Laws.{ExecHasOneAnswer, LoadHasOneAnswer, OverlayHasOneAnswer, TerminatingHasOneAnswer, KeepingHasOneAnswer, CallsKeepLoaded, IgnoresUnseen};
+ghost use Rattle.dm_proc.specs.Laws.{StartingHasOneAnswer, LoadHasOneAnswer, OverlayHasOneAnswer, TerminatingHasOneAnswer, StayingResidentHasOneAnswer, CallsKeepLoaded, IgnoresUnseen};
 
 /// Setting, processes, registers, memory, store and strategy determine what `Procs::exec` returns
 /// and all that it leaves.
-pub fn exec_has_one_answer()
-    ensures { ExecHasOneAnswer }
+pub fn starting_has_one_answer()
+    ensures { StartingHasOneAnswer }
 {}
 
 /// Setting, memory, strategy, the program's file, variables, name and arguments determine what
@@ -26,12 +26,12 @@ pub fn terminating_has_one_answer()
 
 /// Setting, processes, registers, memory, code and size determine what `Procs::keep` returns and
 /// all that it leaves.
-pub fn keeping_has_one_answer()
-    ensures { KeepingHasOneAnswer }
+pub fn staying_resident_has_one_answer()
+    ensures { StayingResidentHasOneAnswer }
 {}
 
-/// Once a program is loaded, `exec`, `terminate` and `keep` leave one loaded, and `load` does if it succeeds: the
-/// present process, and each that waits, has a segment over 0.
+/// Once a program is loaded, `exec`, `terminate` and `keep` leave one loaded, and `load` does if it
+/// succeeds: the present process, and each that waits, has a segment over 0.
 pub fn programs_stay_loaded()
     ensures { CallsKeepLoaded }
 {}

@@ -22,8 +22,8 @@ mod writes;
 
 pub use arguments::Arguments;
 pub use laws::{
-    exec_has_one_answer, ignores_unseen, keeping_has_one_answer, load_has_one_answer,
-    overlay_has_one_answer, programs_stay_loaded, terminating_has_one_answer,
+    ignores_unseen, load_has_one_answer, overlay_has_one_answer, programs_stay_loaded,
+    starting_has_one_answer, staying_resident_has_one_answer, terminating_has_one_answer,
 };
 pub use overlays::overlay;
 pub use parent::{Ending, Parent};

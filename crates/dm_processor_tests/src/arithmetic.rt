@@ -384,7 +384,7 @@ fn folded_shifts(checksum: u32, operation: ShiftOperation, carry: bool, count: u
 }
 
 /// Definitions: dm_alu Shifts shift_value shifted moves one_move to_left to_right flags_after_shift flags_of_move
-/// Definitions: dm_alu Shifts overflow_after_move second_bit differ
+/// Definitions: dm_alu Shifts overflow_after_shift second_bit differ
 #[test]
 fn shifts_of_all_bytes_by_0_to_31(rt: HostRuntime) {
     let mut checksum = 0;

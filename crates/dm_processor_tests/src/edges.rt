@@ -48,7 +48,7 @@ fn largest_quotients(rt: HostRuntime) -> Result<(), Fail> {
     check(&rt, rt.alloc(), LARGEST_QUOTIENTS)
 }
 
-/// Definitions: dm_alu Shifts flags_after_shift flags_of_move overflow_after_move second_bit differ
+/// Definitions: dm_alu Shifts flags_after_shift flags_of_move overflow_after_shift second_bit differ
 /// Definitions: dm_operations Shifts shifted
 #[test]
 fn shifts_by_a_count_of_1_set_overflow(rt: HostRuntime) -> Result<(), Fail> {

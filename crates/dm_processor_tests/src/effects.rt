@@ -725,7 +725,7 @@ fn logic_clears_carry_and_keeps_adjust(rt: HostRuntime) -> Result<(), Fail> {
 }
 
 /// Definitions: dm_alu Shifts shift_value shifted moves one_move to_left to_right flags_after_shift flags_of_move
-/// Definitions: dm_alu Shifts overflow_after_move second_bit differ
+/// Definitions: dm_alu Shifts overflow_after_shift second_bit differ
 /// Definitions: dm_operations Shifts shifted
 #[test]
 fn shifts_and_rotates(rt: HostRuntime) -> Result<(), Fail> {

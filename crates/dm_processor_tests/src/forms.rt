@@ -20,6 +20,11 @@ MOV DH,CL               | 88 CE          |                                      
 MOV CH,SS:[DI]          | 36 8A 2D       | 3000:0400=5A                           | CX=5A44
 MOV [DI],AL             | 88 05          |                                        | 2000:0400=22
 MOV [BP+DI],AH          | 88 23          |                                        | 3000:0600=11
+# A base and an index, and their sum modulo 65,536.
+MOV AX,[BX+SI]          | 8B 00          | 2000:7A88=5678                         | AX=5678
+MOV AX,[BX+F000]        | 8B 87 00 F0    | 2000:6788=5678                         | AX=5678
+MOV [BX+DI-1],CX        | 89 49 FF       |                                        | 2000:7B87=3344
+MOV CH,[BP+SI]          | 8A 2A          | 3000:0500=5A                           | CX=5A44
 MOV BYTE [DI],5A        | C6 05 5A       |                                        | 2000:0400=5A
 MOV BYTE CS:[1000],5A   | 2E C6 06 00 10 5A |                                     | 0103:1000=5A";
 
@@ -28,10 +33,12 @@ const WORDS: &str = "\
 ADD BX,BX      | 01 DB       | BX=8000                                | BX=0000 FL=F847
 ADD CX,ES:[BX] | 26 03 0F    | 4000:7788=0001                         | CX=3345
 ADD AX,[FFFF]  | 03 06 FF FF | 2000:FFFF=01 2000:0000=10 3000:0000=77 | AX=2123
+ADD CX,[BP+DI] | 03 0B       | 3000:0600=0001                         | CX=3345
 SUB CX,[BX]    | 2B 0F       | 2000:7788=1122                         | CX=2222 FL=F006
 SUB BX,2       | 83 EB 02    |                                        | BX=7786
 SUB BX,-2      | 83 EB FE    |                                        | BX=778A FL=F013
 CMP AX,[BX]    | 3B 07       | 2000:7788=3344                         | FL=F097
+CMP AX,[BX+DI] | 3B 01       | 2000:7B88=3344                         | FL=F097
 CMP AX,SS:[BX] | 36 3B 07    | 3000:7788=3344                         | FL=F097
 CMP ES:[BX],CX | 26 39 0F    | 4000:7788=3344                         | FL=F046
 CMP WORD [BX],1234 | 81 3F 34 12 | 2000:7788=1233                     | FL=F097
@@ -49,8 +56,13 @@ INC DI         | 47          |                                        | DI=0401
 DEC SI         | 4E          |                                        | SI=02FF FL=F016
 SHL AX,1       | D1 E0       | AX=8001                                | AX=0002 FL=F803
 SHR AX,1       | D1 E8       | AX=8001                                | AX=4000 FL=F807
-# A shift by CL has no form of its own.
+# A shift by CL: the form is that of the operand's kind.
 SHL AX,CL      | D3 E0       | CX=3301                                | AX=2244 FL=F006
+SHR WORD [BX],CL | D3 2F     | CX=3304 2000:7788=1238                 | 2000:7788=0123 FL=F003
+SAR WORD [BX],CL | D3 3F     | CX=3304 2000:7788=8234                 | 2000:7788=F823 FL=F082
+SAR WORD [BX],CL | D3 3F     | CX=33FF 2000:7788=8001                 | 2000:7788=FFFF FL=F087
+RCR WORD [BX],CL | D3 1F     | CX=3304 2000:7788=1234 FL=F003         | 2000:7788=9123 FL=F002
+SHL WORD ES:[BX],CL | 26 D3 27 | CX=3304 4000:7788=1234               | 4000:7788=2340 FL=F003
 MUL CX         | F7 E1       |                                        | AX=5308 DX=036E FL=F803
 MUL CX         | F7 E1       | AX=0002 FL=FFD7                        | AX=6688 DX=0000 FL=F7D6
 MUL AX         | F7 E0       | AX=0100                                | AX=0000 DX=0001 FL=F803
@@ -58,6 +70,10 @@ MUL SP         | F7 E4       |                                        | AX=2200 
 
 /// Arithmetic on bytes.
 const BYTES: &str = "\
+ROR BYTE [BX],CL | D2 0F     | CX=3302 2000:7788=06                   | 2000:7788=81 FL=F003
+RCL BYTE [BX],CL | D2 17     | CX=3302 2000:7788=80                   | 2000:7788=01
+SAR BYTE [BX],CL | D2 3F     | CX=3302 2000:7788=86 FL=F802           | 2000:7788=E1 FL=F887
+SHL BYTE [BX],CL | D2 27     | CX=3300 2000:7788=86 FL=FFD7           |
 ADD BL,AL            | 00 C3          |                | BX=77AA FL=F086
 ADD BH,BL            | 00 DF          |                | BX=FF88 FL=F086
 ADD AL,[BX]          | 02 07          | 2000:7788=01   | AX=1123
@@ -153,6 +169,8 @@ LODSB       | AC    | 2000:0300=5A                              | AX=115A SI=030
 LODSB       | AC    | FL=F402 2000:0300=5A                      | AX=115A SI=02FF
 REP LODSB   | F3 AC | CX=0001 2000:0300=5A                      | AX=115A SI=0301 CX=0000
 REP LODSB   | F3 AC | CX=0000 2000:0300=5A                      |
+LODSW CS:   | 2E AD | 0103:0300=5678                            | AX=5678 SI=0302
+REP LODSW   | F3 AD | CX=0002 2000:0300=5678                    | AX=5678 SI=0302 CX=0001 IP=0100
 LODSW       | AD    | SI=FFFF 2000:FFFF=12 2000:0000=34         | AX=3412 SI=0001
 STOSB DS:   | 3E AA |                                           | 4000:0400=22 DI=0401
 STOSW       | AB    | FL=F402                                   | 4000:0400=1122 DI=03FE

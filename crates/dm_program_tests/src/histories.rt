@@ -86,7 +86,7 @@ fn an_edit_is_done_again_or_dropped(rt: HostRuntime) -> Result<(), Fail> {
     edits_again(&rt, &mut history)
 }
 
-/// Asks for steps to which there is no way back from the fourth of RISE, and for the origin.
+/// Asks for steps to which there is no way back from the fourth of RISE, and for the beginning.
 fn stays(rt: &impl Abort, history: &mut History) -> Result<(), Fail> {
     steps_to(rt, history, 4, 4, 8);
     goes_back(rt, history, 4, false, 8)?;

@@ -3,6 +3,6 @@ pub mod Escapes
 pub mod Frames
 pub mod Reading
 pub mod Streams
-pub mod Links
+pub mod Sending
 pub mod Laws
 pub mod inner

@@ -8,12 +8,12 @@ use Rattle.dm_proc.specs.declared.refusal.ExecRefusal.{ExecRefusal}
 use Rattle.dm_proc.specs.declared.refusal.ArenaDestroyed.{ArenaDestroyed}
 use Rattle.dm_proc.specs.declared.parent.Ending.{Ending}
 use Rattle.dm_proc.specs.declared.parent.Ending.TheVariants.{Returned, Exited}
-use Rattle.dm_proc.specs.Processes.{Processes, AreLoaded, Executes, Overlays, Terminates, Keeps}
+use Rattle.dm_proc.specs.Processes.{Processes, AreLoaded, Executes, Overlays, Terminates, StaysResident}
 use Rattle.dm_services.specs.declared.state.stop.Stop.TheVariants as stop
 use Rattle.dm_services.specs.state.State.{State, Answer, HasProgram, go, stop_at}
 use Rattle.dm_services.specs.state.inner.State.{HaveSegments}
 use Rattle.dm_services.specs.Allocation.{answered}
-use Rattle.dm_services.specs.Processes.{with_processes, not_loaded, concluded, Executing, Overlaying, Terminating, Keeping}
+use Rattle.dm_services.specs.Processes.{with_processes, not_loaded, concluded, Executing, Overlaying, Terminating, StayingResident}
 use Rattle.dm_services.proofs.Calls.{going}
 
 -- a program is loaded
@@ -65,15 +65,15 @@ terminating-of s v code (Err e) qs d n x is t h =
     subst (λ w. Terminating w code x) is (record { result = Err e; processes = qs; cpu = d; memory = n; terminates = t; answer = h ∙ ap (stop_at stop.Destroyed) same })
 
 keeping-as : (s : State) (r : Result Ending ArenaDestroyed) (qs : Processes) (d : Cpu) (n : Memory) (x : Answer) →
-    Keeps s.upper s.processes s.cpu s.memory (byte_of s.cpu Al) s.cpu.dx r qs d n → x ≡ concluded (with_processes s qs d n) (byte_of s.cpu Al) r qs d n → Keeping s x
-keeping-as s (Ok Returned) qs d n x t h = record { result = Ok Returned; processes = qs; cpu = d; memory = n; keeps = t; answer = h }
-keeping-as s (Ok Exited) qs d n x t h = record { result = Ok Exited; processes = qs; cpu = d; memory = n; keeps = t; answer = h }
+    StaysResident s.upper s.processes s.cpu s.memory (byte_of s.cpu Al) s.cpu.dx r qs d n → x ≡ concluded (with_processes s qs d n) (byte_of s.cpu Al) r qs d n → StayingResident s x
+keeping-as s (Ok Returned) qs d n x t h = record { result = Ok Returned; processes = qs; cpu = d; memory = n; stays = t; answer = h }
+keeping-as s (Ok Exited) qs d n x t h = record { result = Ok Exited; processes = qs; cpu = d; memory = n; stays = t; answer = h }
 keeping-as s (Err e) qs d n x t h =
     let same = same-state s qs d n t.0 t.1 t.2 in
-    record { result = Err e; processes = qs; cpu = d; memory = n; keeps = t; answer = h ∙ ap (stop_at stop.Destroyed) same }
+    record { result = Err e; processes = qs; cpu = d; memory = n; stays = t; answer = h ∙ ap (stop_at stop.Destroyed) same }
 
 pub keeping-of : (s v : State) (code : ℕ) (r : Result Ending ArenaDestroyed) (qs : Processes) (d : Cpu) (n : Memory) (x : Answer) → v ≡ s → code ≡ byte_of v.cpu Al →
-    Keeps v.upper v.processes v.cpu v.memory code v.cpu.dx r qs d n → x ≡ concluded (with_processes v qs d n) code r qs d n → Keeping s x
+    StaysResident v.upper v.processes v.cpu v.memory code v.cpu.dx r qs d n → x ≡ concluded (with_processes v qs d n) code r qs d n → StayingResident s x
 keeping-of s v code r qs d n x is e t h =
-    subst (λ w. Keeping w x) is
-    (keeping-as v r qs d n x (subst (λ b. Keeps v.upper v.processes v.cpu v.memory b v.cpu.dx r qs d n) e t) (subst (λ b. x ≡ concluded (with_processes v qs d n) b r qs d n) e h))
+    subst (λ w. StayingResident w x) is
+    (keeping-as v r qs d n x (subst (λ b. StaysResident v.upper v.processes v.cpu v.memory b v.cpu.dx r qs d n) e t) (subst (λ b. x ≡ concluded (with_processes v qs d n) b r qs d n) e h))

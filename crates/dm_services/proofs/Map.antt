@@ -23,7 +23,7 @@ use Rattle.dm_services.specs.Vectors.{set_vector, get_vector}
 use Rattle.dm_services.specs.System.{tell_version, tell_process}
 use Rattle.dm_services.specs.Allocation.{allocated, settled}
 use Rattle.dm_services.specs.declared.strategies.StrategyFunction.{StrategyFunction}
-use Rattle.dm_services.specs.declared.strategies.StrategyFunction.TheVariants.{TellStrategy, SetStrategy, TellLink, SetLink, Unlisted}
+use Rattle.dm_services.specs.declared.strategies.StrategyFunction.TheVariants.{TellStrategy, SetStrategy, TellLink, SetLink, Unknown as NoSubfunction}
 use Rattle.dm_services.specs.Strategies as strategies
 use Rattle.dm_services.specs.Strategies.{TellsLink, link_told, SetsLink, StrategyCalls, strategy_of, set_to, wanted}
 use Rattle.dm_proc.specs.declared.refusal.ExecRefusal.{ExecRefusal}
@@ -31,7 +31,7 @@ use Rattle.dm_proc.specs.declared.refusal.ArenaDestroyed.{ArenaDestroyed}
 use Rattle.dm_proc.specs.declared.parent.Ending.{Ending}
 use Rattle.dm_proc.specs.declared.parent.Ending.TheVariants as ending
 use Rattle.dm_proc.specs.Processes.{Processes}
-use Rattle.dm_services.specs.Processes.{executed, overlaid, LoadingAs, concluded, Terminating, Keeping, tell_code}
+use Rattle.dm_services.specs.Processes.{executed, overlaid, LoadingAs, concluded, Terminating, StayingResident, tell_code}
 use Rattle.dm_services.specs.Functions.{function_of, no_function, Calls}
 use Rattle.dm_services.specs.Services.{Serves}
 use Rattle.dm_services.specs.inner.Laws.{ServicesKeepTheMap, ServicesKeepTheTables}
@@ -202,11 +202,11 @@ terminating-kept s code x a =
     (concluded-kept s code a.result a.processes a.cpu a.memory
     (terminates-kept s.upper s.processes s.cpu s.memory code a.result a.processes a.cpu a.memory a.terminates))
 
-keeping-kept : (s : State) (x : Answer) → Keeping s x → Kept s x
+keeping-kept : (s : State) (x : Answer) → StayingResident s x → Kept s x
 keeping-kept s x a =
     by s x _ a.answer
     (concluded-kept s (byte_of s.cpu Al) a.result a.processes a.cpu a.memory
-    (keeps-kept s.upper s.processes s.cpu s.memory (byte_of s.cpu Al) s.cpu.dx a.result a.processes a.cpu a.memory a.keeps))
+    (keeps-kept s.upper s.processes s.cpu s.memory (byte_of s.cpu Al) s.cpu.dx a.result a.processes a.cpu a.memory a.stays))
 
 -- ---- all calls
 
@@ -223,7 +223,7 @@ strategy-kept s TellStrategy x e = by s x _ e (still s _)
 strategy-kept s SetStrategy x e = by s x _ e (set_to-kept s (strategy_of s.upper s.cpu.bx))
 strategy-kept s TellLink x a = tells-kept s s.upper x a
 strategy-kept s SetLink x a = sets-kept s (wanted s.upper s.cpu.bx) x a
-strategy-kept s Unlisted x e = by s x _ e (still s _)
+strategy-kept s NoSubfunction x e = by s x _ e (still s _)
 
 calls-kept : (s : State) (g : Function) (x : Answer) → Calls s g x → Kept s x
 calls-kept s EchoCharacter x e = by s x _ e (echo_character-kept s)

@@ -19,7 +19,7 @@ use Rattle.dm_proc.specs.declared.parent.Ending.{Ending}
 use Rattle.dm_proc.specs.Writes.{Write, apply, upwards, bytes_from}
 use Rattle.dm_proc.specs.Request.{Passed}
 use Rattle.dm_proc.specs.Start.{start_writes, prefix}
-use Rattle.dm_proc.specs.Processes.{Processes, Starts, Executes, Overlays, vectors_back, Ends, Terminates, Keeps}
+use Rattle.dm_proc.specs.Processes.{Processes, Starts, Executes, Overlays, vectors_back, Ends, Terminates, StaysResident}
 
 -- a memory that is the same
 pub unchanged : (S T : Memory) → T ≡ S → IsShaped S T
@@ -110,6 +110,6 @@ terminates-kept upper ps c S code (Ok ending) qs d T a = ends-kept S ps c a.0 co
 terminates-kept upper ps c S code (Err e) qs d T a = unchanged S T a.2
 
 pub keeps-kept : (upper : Bool) (ps : Processes) (c : Cpu) (S : Memory) (code paragraphs : ℕ) (r : Result Ending ArenaDestroyed) (qs : Processes) (d : Cpu) (T : Memory) →
-    Keeps upper ps c S code paragraphs r qs d T → IsShaped S T
+    StaysResident upper ps c S code paragraphs r qs d T → IsShaped S T
 keeps-kept upper ps c S code paragraphs (Ok ending) qs d T a = ends-kept S ps c a.1 _ ending qs d T (resizes-kept upper S ps.present paragraphs a.0 a.1 a.2) a.4
 keeps-kept upper ps c S code paragraphs (Err e) qs d T a = unchanged S T a.2

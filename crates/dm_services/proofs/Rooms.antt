@@ -24,7 +24,7 @@ use Rattle.dm_services.specs.Vectors.{set_vector, get_vector}
 use Rattle.dm_services.specs.System.{tell_version, tell_process}
 use Rattle.dm_services.specs.Allocation.{allocated, settled}
 use Rattle.dm_services.specs.declared.strategies.StrategyFunction.{StrategyFunction}
-use Rattle.dm_services.specs.declared.strategies.StrategyFunction.TheVariants.{TellStrategy, SetStrategy, TellLink, SetLink, Unlisted}
+use Rattle.dm_services.specs.declared.strategies.StrategyFunction.TheVariants.{TellStrategy, SetStrategy, TellLink, SetLink, Unknown as NoSubfunction}
 use Rattle.dm_services.specs.Strategies as strategies
 use Rattle.dm_services.specs.Strategies.{TellsLink, link_told, SetsLink, StrategyCalls, strategy_of, set_to, wanted}
 use Rattle.dm_proc.specs.declared.refusal.ExecRefusal.{ExecRefusal}
@@ -32,7 +32,7 @@ use Rattle.dm_proc.specs.declared.refusal.ArenaDestroyed.{ArenaDestroyed}
 use Rattle.dm_proc.specs.declared.parent.Ending.{Ending}
 use Rattle.dm_proc.specs.declared.parent.Ending.TheVariants as ending
 use Rattle.dm_proc.specs.Processes.{Processes}
-use Rattle.dm_services.specs.Processes.{executed, overlaid, LoadingAs, concluded, Terminating, Keeping, tell_code}
+use Rattle.dm_services.specs.Processes.{executed, overlaid, LoadingAs, concluded, Terminating, StayingResident, tell_code}
 use Rattle.dm_services.specs.Functions.{function_of, no_function, Calls}
 use Rattle.dm_services.specs.Services.{Serves}
 use Rattle.dm_services.specs.inner.Laws.{limit}
@@ -185,7 +185,7 @@ loading-keeps s false x a = by s x _ a.answer (executed-keeps s a.result a.proce
 terminating-keeps : (s : State) (code : ℕ) (x : Answer) → Terminating s code x → Keeps s x
 terminating-keeps s code x a = by s x _ a.answer (concluded-keeps s code a.result a.processes a.cpu a.memory)
 
-keeping-keeps : (s : State) (x : Answer) → Keeping s x → Keeps s x
+keeping-keeps : (s : State) (x : Answer) → StayingResident s x → Keeps s x
 keeping-keeps s x a = by s x _ a.answer (concluded-keeps s (byte_of s.cpu Al) a.result a.processes a.cpu a.memory)
 
 tells-keep : (s : State) (upper : Bool) (x : Answer) → TellsLink upper s x → Keeps s x
@@ -201,7 +201,7 @@ strategy-keeps s TellStrategy x e = by s x _ e (same _)
 strategy-keeps s SetStrategy x e = by s x _ e (set_to-keeps s (strategy_of s.upper s.cpu.bx))
 strategy-keeps s TellLink x a = tells-keep s s.upper x a
 strategy-keeps s SetLink x a = sets-keep s (wanted s.upper s.cpu.bx) x a
-strategy-keeps s Unlisted x e = by s x _ e (same _)
+strategy-keeps s NoSubfunction x e = by s x _ e (same _)
 
 calls-keep : (s : State) (g : Function) (x : Answer) → Calls s g x → Keeps s x
 calls-keep s EchoCharacter x e = by s x _ e (echo_character-keeps s)

@@ -17,7 +17,7 @@ use Rattle.dm_services.specs.state.State.{State, Answer}
 use Rattle.dm_services.specs.Text.{text_within, print}
 use Rattle.dm_services.specs.Allocation.{answered, allocated, settled}
 use Rattle.dm_services.specs.declared.strategies.StrategyFunction.{StrategyFunction}
-use Rattle.dm_services.specs.declared.strategies.StrategyFunction.TheVariants.{TellStrategy, SetStrategy, TellLink, SetLink, Unlisted}
+use Rattle.dm_services.specs.declared.strategies.StrategyFunction.TheVariants.{TellStrategy, SetStrategy, TellLink, SetLink, Unknown as NoSubfunction}
 use Rattle.dm_services.specs.Strategies as strategies
 use Rattle.dm_services.specs.Strategies.{TellingLink, TellsLink, link_told, Linking, SetsLink, StrategyCalls, strategy_of, set_to, wanted}
 use Rattle.dm_proc.specs.declared.refusal.ExecRefusal.{ExecRefusal}
@@ -26,7 +26,7 @@ use Rattle.dm_proc.specs.declared.parent.Ending.{Ending}
 use Rattle.dm_proc.specs.declared.parent.Ending.TheVariants.{Returned, Exited}
 use Rattle.dm_proc.specs.Processes.{Processes}
 use Rattle.dm_proc.proofs.Unseen.{ignores_unseen}
-use Rattle.dm_services.specs.Processes.{not_loaded, executed, overlaid, LoadingAs, concluded, Terminating, Keeping, tell_code}
+use Rattle.dm_services.specs.Processes.{not_loaded, executed, overlaid, LoadingAs, concluded, Terminating, StayingResident, tell_code}
 use Rattle.dm_services.specs.Functions.{function_of, no_function, Calls}
 use Rattle.dm_services.specs.Services.{Serves}
 use Rattle.dm_services.specs.Laws.{with_change}
@@ -94,7 +94,7 @@ strategy-unseen f u s TellStrategy x e = ap (answer_with f) e ∙ sym (answered-
 strategy-unseen f u s SetStrategy x e = ap (answer_with f) e ∙ sym (set_to-unseen f u s (strategy_of s.upper s.cpu.bx))
 strategy-unseen f u s TellLink x a = tells-unseen f u s s.upper x a
 strategy-unseen f u s SetLink x a = sets-unseen f u s (wanted s.upper s.cpu.bx) x a
-strategy-unseen f u s Unlisted x e = ap (answer_with f) e ∙ sym (answered-unseen f u s _ s.memory true)
+strategy-unseen f u s NoSubfunction x e = ap (answer_with f) e ∙ sym (answered-unseen f u s _ s.memory true)
 
 not_loaded-unseen : (f : Memory → Memory) (u : IsUnseen f) (s : State) (e : ExecRefusal) → not_loaded (with_change f s) e ≡ answer_with f (not_loaded s e)
 not_loaded-unseen f u s e = answered-unseen f u s _ s.memory true
@@ -120,7 +120,7 @@ loading-unseen f u s false x a = record {
   processes = a.processes;
   cpu = a.cpu;
   memory = f a.memory;
-  executes = (ignores_unseen f u).exec s.upper s.processes s.cpu s.memory s.programs s.strategy a.result a.processes a.cpu a.memory a.executes;
+  executes = (ignores_unseen f u).starting s.upper s.processes s.cpu s.memory s.programs s.strategy a.result a.processes a.cpu a.memory a.executes;
   answer = ap (answer_with f) a.answer ∙ sym (executed-unseen f u s a.result a.processes a.cpu a.memory);
 }
 
@@ -140,13 +140,13 @@ terminating-unseen f u s code x a = record {
   answer = ap (answer_with f) a.answer ∙ sym (concluded-unseen f s code a.result a.processes a.cpu a.memory);
 }
 
-keeping-unseen : (f : Memory → Memory) (u : IsUnseen f) (s : State) (x : Answer) → Keeping s x → Keeping (with_change f s) (answer_with f x)
+keeping-unseen : (f : Memory → Memory) (u : IsUnseen f) (s : State) (x : Answer) → StayingResident s x → StayingResident (with_change f s) (answer_with f x)
 keeping-unseen f u s x a = record {
   result = a.result;
   processes = a.processes;
   cpu = a.cpu;
   memory = f a.memory;
-  keeps = (ignores_unseen f u).keeping s.upper s.processes s.cpu s.memory (byte_of s.cpu Al) s.cpu.dx a.result a.processes a.cpu a.memory a.keeps;
+  stays = (ignores_unseen f u).staying s.upper s.processes s.cpu s.memory (byte_of s.cpu Al) s.cpu.dx a.result a.processes a.cpu a.memory a.stays;
   answer = ap (answer_with f) a.answer ∙ sym (concluded-unseen f s (byte_of s.cpu Al) a.result a.processes a.cpu a.memory);
 }
 

@@ -16,7 +16,7 @@ use Rattle.dm_services.specs.System.{tell_version, tell_process}
 use Rattle.dm_services.specs.Allocation.{Allocation, Freeing, Resizing}
 use Rattle.dm_services.specs.Strategies as strategies
 use Rattle.dm_services.specs.Strategies.{StrategyCalls}
-use Rattle.dm_services.specs.Processes.{LoadingProgram, Terminating, Keeping, tell_code}
+use Rattle.dm_services.specs.Processes.{LoadingProgram, Terminating, StayingResident, tell_code}
 
 -- the function of INT 21h with a number, which calls have in AH; `Unknown` for a number that is not served
 abbrev pub function_of : ℕ → Function
@@ -72,7 +72,7 @@ Calls s Free x = Freeing s x
 Calls s Resize x = Resizing s x
 Calls s LoadProgram x = LoadingProgram s x
 Calls s Exit x = Terminating s (byte_of s.cpu Al) x
-Calls s Keep x = Keeping s x
+Calls s Keep x = StayingResident s x
 Calls s Terminate x = Terminating s 0 x
 Calls s ExitCode x = x ≡ tell_code s
 Calls s Process x = x ≡ tell_process s

@@ -11,7 +11,7 @@ use Rattle.dm_proc.specs.declared.refusal.ExecRefusal.TheVariants.{Function, Not
 use Rattle.dm_proc.specs.declared.refusal.ArenaDestroyed.{ArenaDestroyed}
 use Rattle.dm_proc.specs.declared.parent.Ending.{Ending}
 use Rattle.dm_proc.specs.declared.parent.Ending.TheVariants.{Returned, Exited}
-use Rattle.dm_proc.specs.Processes.{Processes, Executes, Overlays, Terminates, Keeps}
+use Rattle.dm_proc.specs.Processes.{Processes, Executes, Overlays, Terminates, StaysResident}
 use Rattle.dm_services.specs.declared.state.stop.Stop.TheVariants as stop
 use Rattle.dm_services.specs.state.State.{State, Answer, go, stop_at, interrupt_returned}
 use Rattle.dm_services.specs.Allocation.{answered}
@@ -94,12 +94,12 @@ pub record Terminating (s : State) (code : ℕ) (x : Answer) : Type 0 where
 -- 31h: the present process ends with the code in AL, its block is resized to DX paragraphs if that is possible, and its
 -- other blocks stay allocated; vectors, parent and `Exited` are as in `Terminating`. `Destroyed` if memory holds no
 -- valid block list, or would hold none after the resize
-pub record Keeping (s : State) (x : Answer) : Type 0 where
+pub record StayingResident (s : State) (x : Answer) : Type 0 where
   pub result : Result Ending ArenaDestroyed
   pub processes : Processes
   pub cpu : Cpu
   pub memory : Memory
-  pub keeps : Keeps s.upper s.processes s.cpu s.memory (byte_of s.cpu Al) s.cpu.dx result processes cpu memory
+  pub stays : StaysResident s.upper s.processes s.cpu s.memory (byte_of s.cpu Al) s.cpu.dx result processes cpu memory
   pub answer : x ≡ concluded s (byte_of s.cpu Al) result processes cpu memory
 
 -- 4Dh: AX is the word of the last ending (AL the code, AH 0, or 3 after 31h), which is then 0 until another process

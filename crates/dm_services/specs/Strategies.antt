@@ -14,7 +14,7 @@ use Rattle.dm_arena.specs.declared.fit.Fit.TheVariants.{First, Best, Last}
 use Rattle.dm_arena.specs.Linking.{Links, TellsLinked}
 use Rattle.dm_services.specs.state.State.{State, Answer}
 use Rattle.dm_services.specs.declared.strategies.StrategyFunction.{StrategyFunction}
-use Rattle.dm_services.specs.declared.strategies.StrategyFunction.TheVariants.{TellStrategy, SetStrategy, TellLink, SetLink, Unlisted}
+use Rattle.dm_services.specs.declared.strategies.StrategyFunction.TheVariants.{TellStrategy, SetStrategy, TellLink, SetLink, Unknown}
 use Rattle.dm_services.specs.Allocation.{answered, refused, settled}
 
 -- ---- strategies by their numbers: the fit in the low bits, the area in the high ones
@@ -63,7 +63,7 @@ subfunction_of number =
     if number == 0 then TellStrategy else
     if number == 1 then SetStrategy else
     if number == 2 then TellLink else
-    if number == 3 then SetLink else Unlisted
+    if number == 3 then SetLink else Unknown
 
 -- 58h fails with error 1 in AX, CF = 1: no such subfunction, or no such value in BX. The strategy and memory stay
 abbrev pub no_such_value : State → Answer
@@ -124,4 +124,4 @@ StrategyCalls s TellStrategy x = x ≡ strategy_reported s
 StrategyCalls s SetStrategy x = x ≡ set_to s (strategy_of s.upper s.cpu.bx)
 StrategyCalls s TellLink x = TellsLink s.upper s x
 StrategyCalls s SetLink x = SetsLink (wanted s.upper s.cpu.bx) s x
-StrategyCalls s Unlisted x = x ≡ no_such_value s
+StrategyCalls s Unknown x = x ≡ no_such_value s

@@ -27,7 +27,7 @@ pub(crate) fn refuse(cpu: &mut Cpu, refusal: ArenaRefusal)
 pub(crate) fn answer(parts: &mut Parts, carry: bool)
     ensures { parts.new ≡ (answered parts.old parts.old.cpu parts.old.memory carry).state }
 {
-    parts.give_back();
+    parts.return_from_interrupt();
     parts.cpu.flags.carry = carry;
     parts.count();
 }

@@ -19,7 +19,7 @@ pub(crate) fn read_character(parts: &mut Parts) -> Option<Stop>
         return Some(Stop::InputEnded);
     };
     parts.cpu.set_byte(ByteRegister::Al, byte);
-    parts.give_back();
+    parts.return_from_interrupt();
     parts.count();
     None
 }
@@ -40,7 +40,7 @@ pub(crate) fn echo_character(parts: &mut Parts) -> Option<Stop>
     parts.console.consume(1);
     parts.console.put(byte);
     parts.cpu.set_byte(ByteRegister::Al, byte);
-    parts.give_back();
+    parts.return_from_interrupt();
     parts.count();
     None
 }
@@ -56,7 +56,7 @@ pub(crate) fn write_character(parts: &mut Parts) -> Option<Stop>
         return Some(Stop::Memory);
     }
     parts.console.put(parts.cpu.byte(ByteRegister::Dl));
-    parts.give_back();
+    parts.return_from_interrupt();
     parts.count();
     None
 }
@@ -70,7 +70,7 @@ fn poll_character(parts: &mut Parts)
 {
     let byte = parts.console.next();
     parts.cpu.set_byte(ByteRegister::Al, byte.unwrap_or(0));
-    parts.give_back();
+    parts.return_from_interrupt();
     parts.cpu.flags.zero = byte.is_none();
     parts.count();
 }
@@ -105,7 +105,7 @@ pub(crate) fn check_input(parts: &mut Parts) -> Option<Stop>
 {
     let status = status(parts);
     parts.cpu.set_byte(ByteRegister::Al, status);
-    parts.give_back();
+    parts.return_from_interrupt();
     parts.count();
     None
 }

@@ -23,7 +23,7 @@ pub(crate) fn flush_and_read(parts: &mut Parts) -> Option<Stop>
         0x0A => read_line(parts),
         _ => {
             parts.cpu.set_byte(ByteRegister::Al, 0);
-            parts.give_back();
+            parts.return_from_interrupt();
             parts.count();
             None
         }

@@ -13,7 +13,7 @@ use crate::characters::{
 use crate::flush::flush_and_read;
 use crate::handles::{read_handle, write_handle};
 use crate::lines::read_line;
-use crate::processes::{keep, load_program, tell_code, terminate};
+use crate::processes::{load_program, stay_resident, tell_code, terminate};
 use crate::state::{Parts, Stop};
 use crate::strategies::allocation_strategy;
 use crate::system::{tell_process, tell_version};
@@ -117,7 +117,7 @@ fn refuse(parts: &mut Parts)
     ensures { parts.new ≡ (no_function parts.old).state }
 {
     parts.cpu.ax = 1;
-    parts.give_back();
+    parts.return_from_interrupt();
     parts.cpu.flags.carry = true;
     parts.count();
 }
@@ -154,7 +154,7 @@ fn call(parts: &mut Parts, function: Function) -> Option<Stop>
             return terminate(parts, code);
         }
         Function::Terminate => return terminate(parts, 0),
-        Function::Keep => return keep(parts),
+        Function::Keep => return stay_resident(parts),
         Function::LoadProgram => load_program(parts),
         Function::ExitCode => tell_code(parts),
         Function::Unknown => refuse(parts),

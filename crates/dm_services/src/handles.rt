@@ -15,7 +15,7 @@ fn bad_handle(parts: &mut Parts)
     ensures program { parts.new.processes ≡ parts.old.processes }
 {
     parts.cpu.ax = 6;
-    parts.give_back();
+    parts.return_from_interrupt();
     parts.cpu.flags.carry = true;
     parts.count();
 }
@@ -46,7 +46,7 @@ pub(crate) fn read_handle(parts: &mut Parts) -> Option<Stop>
     parts.space.write_bytes(parts.cpu.ds, parts.cpu.dx, &parts.console.input()[..count]);
     parts.console.consume(count);
     parts.cpu.ax = count as u16;
-    parts.give_back();
+    parts.return_from_interrupt();
     parts.cpu.flags.carry = false;
     parts.count();
     None
@@ -75,7 +75,7 @@ pub(crate) fn write_handle(parts: &mut Parts) -> Option<Stop>
         count,
     );
     parts.cpu.ax = count;
-    parts.give_back();
+    parts.return_from_interrupt();
     parts.cpu.flags.carry = false;
     parts.count();
     None

@@ -60,7 +60,7 @@ pub(crate) fn read_line(parts: &mut Parts) -> Option<Stop>
             .write_bytes(segment, offset.wrapping_add(1), &[count]);
         parts.console.consume(length + 1);
     }
-    parts.give_back();
+    parts.return_from_interrupt();
     parts.count();
     None
 }

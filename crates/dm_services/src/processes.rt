@@ -4,7 +4,7 @@ ghost use Rattle.std.specs.Prelude.{◌≡◌, ◌<◌};
 ghost use Rattle.dm_cpu.specs.Cpu.{byte_of};
 ghost use Rattle.dm_ins.specs.declared.operand.ByteRegister.TheVariants.{Al};
 ghost use Rattle.dm_services.specs.state.State.{HasProgram};
-ghost use Rattle.dm_services.specs.Processes.{concluded, not_loaded, Executing, Overlaying, LoadingProgram, Terminating, Keeping, tell_code};
+ghost use Rattle.dm_services.specs.Processes.{concluded, not_loaded, Executing, Overlaying, LoadingProgram, Terminating, StayingResident, tell_code};
 
 use crate::allocation::answer;
 use crate::state::{Parts, Stop};
@@ -121,9 +121,9 @@ pub(crate) fn terminate(parts: &mut Parts, code: u8) -> Option<Stop>
 /// restores vectors 22h to 24h from its prefix; its other blocks stay allocated. Returns None or `Exited` as
 /// `terminate` does, or `Destroyed`, with nothing changed, if memory holds no valid block list or would hold none after
 /// the resize.
-pub(crate) fn keep(parts: &mut Parts) -> Option<Stop>
+pub(crate) fn stay_resident(parts: &mut Parts) -> Option<Stop>
     requires { HasProgram parts.old }
-    ensures keeping { Keeping parts.old (record { stop = result; state = parts.new }) }
+    ensures staying { StayingResident parts.old (record { stop = result; state = parts.new }) }
     ensures program { HasProgram parts.new }
 {
     let code = parts.cpu.byte(ByteRegister::Al);
@@ -146,6 +146,6 @@ pub(crate) fn tell_code(parts: &mut Parts)
     ensures program { parts.new.processes.present ≡ parts.old.processes.present }
 {
     parts.cpu.ax = parts.procs.take_code();
-    parts.give_back();
+    parts.return_from_interrupt();
     parts.count();
 }

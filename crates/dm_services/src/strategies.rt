@@ -24,7 +24,7 @@ pub enum StrategyFunction {
     /// AL = 3: links the arena with upper memory (BX = 1), or unlinks it (BX = 0).
     SetLink,
     /// Any other AL: error 1.
-    Unlisted,
+    Unknown,
 }
 
 /// The subfunction of 58h with a number, which calls have in AL.
@@ -36,7 +36,7 @@ fn subfunction_of(number: u8) -> StrategyFunction
         1 => StrategyFunction::SetStrategy,
         2 => StrategyFunction::TellLink,
         3 => StrategyFunction::SetLink,
-        _ => StrategyFunction::Unlisted,
+        _ => StrategyFunction::Unknown,
     }
 }
 
@@ -195,6 +195,6 @@ pub(crate) fn allocation_strategy(parts: &mut Parts)
         StrategyFunction::SetStrategy => set_strategy(parts),
         StrategyFunction::TellLink => tell_link(parts),
         StrategyFunction::SetLink => set_link(parts),
-        StrategyFunction::Unlisted => refuse_number(parts),
+        StrategyFunction::Unknown => refuse_number(parts),
     }
 }

@@ -15,7 +15,7 @@ pub(crate) fn tell_version(parts: &mut Parts) -> Option<Stop>
     parts.cpu.ax = 5;
     parts.cpu.bx = 0;
     parts.cpu.cx = 0;
-    parts.give_back();
+    parts.return_from_interrupt();
     parts.count();
     None
 }
@@ -27,7 +27,7 @@ pub(crate) fn tell_process(parts: &mut Parts) -> Option<Stop>
     ensures program { parts.new.processes ≡ parts.old.processes }
 {
     parts.cpu.bx = parts.procs.psp();
-    parts.give_back();
+    parts.return_from_interrupt();
     parts.count();
     None
 }

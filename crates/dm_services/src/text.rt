@@ -54,7 +54,7 @@ pub(crate) fn print(parts: &mut Parts) -> Option<Stop>
         return Some(Stop::Memory);
     }
     write_text(&mut parts.console, &parts.space, segment, offset, length);
-    parts.give_back();
+    parts.return_from_interrupt();
     parts.count();
     None
 }

@@ -16,7 +16,7 @@ pub(crate) fn set_vector(parts: &mut Parts) -> Option<Stop>
     let at = 4 * parts.cpu.byte(ByteRegister::Al) as u16;
     parts.space.poke16(0, at, parts.cpu.dx);
     parts.space.poke16(0, at + 2, parts.cpu.ds);
-    parts.give_back();
+    parts.return_from_interrupt();
     parts.count();
     None
 }
@@ -30,7 +30,7 @@ pub(crate) fn get_vector(parts: &mut Parts) -> Option<Stop>
     let at = 4 * parts.cpu.byte(ByteRegister::Al) as u16;
     parts.cpu.bx = parts.space.peek16(0, at);
     parts.cpu.es = parts.space.peek16(0, at + 2);
-    parts.give_back();
+    parts.return_from_interrupt();
     parts.count();
     None
 }

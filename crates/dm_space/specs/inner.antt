@@ -4,3 +4,4 @@ pub mod Memory
 pub mod Places
 pub mod Runs
 pub mod Shifts
+pub mod Stretches

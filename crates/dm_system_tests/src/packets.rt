@@ -2,7 +2,7 @@
 //! "GDB Remote Serial Protocol", "Overview").
 
 use crate::checks::same;
-use dm_requests::packets::{Link, Received, Receiver};
+use dm_requests::packets::{Received, Receiver, SendingSide};
 use std::alloc::Global;
 use std::process::Abort;
 use std::test::Fail;
@@ -124,32 +124,32 @@ fn long_packets_are_refused(rt: HostRuntime) -> Result<(), Fail> {
 /// Definitions: dm_requests packets.Escapes escaped is_special
 #[test]
 fn packets_are_sent(rt: HostRuntime) -> Result<(), Fail> {
-    let mut link = Link::new(rt.alloc());
-    same(&rt, "none yet", link.last(), b"".as_slice());
+    let mut sending = SendingSide::new(rt.alloc());
+    same(&rt, "none yet", sending.last(), b"".as_slice());
     for (payload, bytes) in FRAMES {
-        link.pack(payload)?;
-        same(&rt, "packet", link.last(), bytes);
+        sending.pack(payload)?;
+        same(&rt, "packet", sending.last(), bytes);
     }
     Ok(())
 }
 
-/// Definitions: dm_requests packets.Links acknowledgement receipt
+/// Definitions: dm_requests packets.Sending acknowledgement receipt
 #[test]
 fn packets_are_acknowledged(rt: HostRuntime) -> Result<(), Fail> {
-    let mut link = Link::new(rt.alloc());
+    let mut sending = SendingSide::new(rt.alloc());
     for (received, wanted) in [
         (Received::TooLong, b"+".as_slice()),
         (Received::Damaged, b"-".as_slice()),
         (Received::Interrupt, b"".as_slice()),
         (Received::Again, b"".as_slice()),
     ] {
-        same(&rt, "at first", link.acknowledgement(&received), wanted);
+        same(&rt, "at first", sending.acknowledgement(&received), wanted);
     }
-    link.stop_acknowledging();
+    sending.stop_acknowledging();
     same(
         &rt,
         "later",
-        link.acknowledgement(&Received::Damaged),
+        sending.acknowledgement(&Received::Damaged),
         b"".as_slice(),
     );
     Ok(())

@@ -147,7 +147,7 @@ hit_in points watches p from end found f e s clear =
     let x : Shows points watches p from end (Some f) = subst (λ (y : Option Found). Shows points watches p from end y) e s in
     record { since = x.0; before = x.1; met = x.2; clear = λ last. clear_both points watches p (f.step + 1) end p.machine.steps (x.3 last) clear }
 
-pub known_hit : (points : List ℕ) (watches : List Point) (p : Past) (low end from : ℕ) (last : Option ℕ) (k : ℕ) (f : Found) → last ≡ Some f.step → k ≡ f.step + 1 → p.origin.steps ≤ low → low ≤ from → end ≤ p.machine.steps →
+pub known_hit : (points : List ℕ) (watches : List Point) (p : Past) (low end from : ℕ) (last : Option ℕ) (k : ℕ) (f : Found) → last ≡ Some f.step → k ≡ f.step + 1 → p.beginning.steps ≤ low → low ≤ from → end ≤ p.machine.steps →
     Hit_in points watches p from end f → IsKnown points watches p k last
 known_hit points watches p low end from last k f e n o l top h =
     let since = h.since in
@@ -163,7 +163,7 @@ clear_at points watches p from to e h = subst (λ k. AreClear points watches p k
 
 -- nothing more is left to be looked at
 pub known_last : (points : List ℕ) (watches : List Point) (p : Past) (low end : ℕ) (last : Option ℕ) → end ≤ low → AreClear points watches p end p.machine.steps → IsKnown points watches p low last → IsLast points watches p last
-known_last points watches p low end None l clear k = clear_fewer points watches p end p.origin.steps p.machine.steps (omega (arith, l, k)) clear
+known_last points watches p low end None l clear k = clear_fewer points watches p end p.beginning.steps p.machine.steps (omega (arith, l, k)) clear
 known_last points watches p low end (Some step) l clear k =
     let is = k.0 in
     (k.1, k.2, k.3, clear_fewer points watches p end (step + 1) p.machine.steps (omega (arith, l, is)) clear)
@@ -243,5 +243,5 @@ pub back_met : (points : List ℕ) (watches : List Point) (p q : Past) (k : ℕ)
 back_met points watches p q k what top x back told =
     let before = x.1 in
     let m = x.2 in
-    let same : m.at ≡ q.machine = one_state p.origin m.at q.machine _ m.was.becomes back.was.becomes (m.was.steps ∙ sym back.was.steps) (let count = back.was.steps in omega (arith, before, top, count)) in
+    let same : m.at ≡ q.machine = one_state p.beginning m.at q.machine _ m.was.becomes back.was.becomes (m.was.steps ∙ sym back.was.steps) (let count = back.was.steps in omega (arith, before, top, count)) in
     returning.met k what q x.0 before back (subst (λ (s : State). Meets points watches s what) same (told m.at m.was m.met)) x.3

@@ -32,10 +32,10 @@ abbrev pub AreClear : List ℕ → List Point → Past → ℕ → ℕ → Type 
 AreClear points watches p from end = (k : ℕ) (s : State) → from ≤ k → k < end → Was p k s → IsNoHit points watches s
 
 -- the history p goes back to the last hit before its present state, and becomes q; and what is told of it. Where there
--- is none, it goes back to its origin (`to_start`); where it stands there already, it stays (`begun`)
+-- is none, it goes back to its beginning (`to_start`); where it stands there already, it stays (`begun`)
 pub data Returns (points : List ℕ) (watches : List Point) (p : Past) : Undone → Past → Type 0 where
-  begun : p.machine.steps ≤ p.origin.steps → Returns points watches p Begun p
-  to_start : (q : Past) → p.origin.steps < p.machine.steps → GoesBack p p.origin.steps q → AreClear points watches p p.origin.steps p.machine.steps
+  begun : p.machine.steps ≤ p.beginning.steps → Returns points watches p Begun p
+  to_start : (q : Past) → p.beginning.steps < p.machine.steps → GoesBack p p.beginning.steps q → AreClear points watches p p.beginning.steps p.machine.steps
       → Returns points watches p Begun q
-  met : (k : ℕ) (what : Undone) (q : Past) → p.origin.steps ≤ k → k < p.machine.steps → GoesBack p k q → Meets points watches q.machine what
+  met : (k : ℕ) (what : Undone) (q : Past) → p.beginning.steps ≤ k → k < p.machine.steps → GoesBack p k q → Meets points watches q.machine what
       → AreClear points watches p (k + 1) p.machine.steps → Returns points watches p what q

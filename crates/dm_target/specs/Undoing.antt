@@ -31,6 +31,6 @@ undone_by (Some point) = Hit point
 -- the history p goes back a step and becomes this one, unless it begins at its present state; and what is told of the
 -- step
 pub data Undoes (watches : List Point) (p : Past) : Undone → Past → Type 0 where
-  begun : p.machine.steps ≤ p.origin.steps → Undoes watches p Begun p
-  undone : (hit : Option Point) (q : Past) → p.origin.steps < p.machine.steps → GoesBack p (p.machine.steps - 1) q → HitBy watches q.machine p.machine hit
+  begun : p.machine.steps ≤ p.beginning.steps → Undoes watches p Begun p
+  undone : (hit : Option Point) (q : Past) → p.beginning.steps < p.machine.steps → GoesBack p (p.machine.steps - 1) q → HitBy watches q.machine p.machine hit
       → Undoes watches p (undone_by hit) q

@@ -75,7 +75,7 @@ fn look_on(
     watches: &[Point],
 ) -> Option<Pause>
     ensures ends { Ends points.now watches.now span history.old.machine result history.new.machine }
-    ensures origin { history.new.origin ≡ history.old.origin }
+    ensures beginning { history.new.beginning ≡ history.old.beginning }
     ensures edits { history.new.edits ≡ history.old.edits }
 {
     if let Some(pause) = look(alloc, history, watches) {
@@ -101,7 +101,7 @@ fn go_marked(
 ) -> Pause
     requires { IfSome marks.now (λ m. All (IsGuarded m) watches.now) }
     ensures goes { Continues points.now watches.now span history.old.machine most result history.new.machine }
-    ensures origin { history.new.origin ≡ history.old.origin }
+    ensures beginning { history.new.beginning ≡ history.old.beginning }
     ensures edits { history.new.edits ≡ history.old.edits }
 {
     let mut left = most;
@@ -137,7 +137,7 @@ pub fn go_on(
     watches: &[Point],
 ) -> Pause
     ensures goes { Continues points.now watches.now span history.old.machine most result history.new.machine }
-    ensures origin { history.new.origin ≡ history.old.origin }
+    ensures beginning { history.new.beginning ≡ history.old.beginning }
     ensures edits { history.new.edits ≡ history.old.edits }
 {
     if points.is_empty() && watches.is_empty() && span.is_none() {

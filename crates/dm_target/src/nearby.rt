@@ -124,7 +124,7 @@ fn run_marked(history: &mut History, most: u64, pairs: &[Breakpoint], marks: &Op
     ensures near { GoesNear pairs.now history.old.machine result history.new.machine }
     ensures unmarked { IfSome marks.now (λ m. GoesUnmarked m history.old.machine result history.new.machine) }
     ensures most { result ≤ most }
-    ensures origin { history.new.origin ≡ history.old.origin }
+    ensures beginning { history.new.beginning ≡ history.old.beginning }
     ensures edits { history.new.edits ≡ history.old.edits }
 {
     match marks {
@@ -159,7 +159,7 @@ pub(crate) fn pass(
     requires { IfSome marks.now (λ m. All (IsGuarded m) watches.now) }
     ensures near { PassesNear points.now watches.now span history.old.machine result history.new.machine }
     ensures most { result ≤ most }
-    ensures origin { history.new.origin ≡ history.old.origin }
+    ensures beginning { history.new.beginning ≡ history.old.beginning }
     ensures edits { history.new.edits ≡ history.old.edits }
 {
     if !may_pass(span, watches, marks) {

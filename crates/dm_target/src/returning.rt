@@ -113,7 +113,7 @@ fn survey(
 /// Where the next part to be looked at begins, whose end this is: at `low` or later. Where a hit is known, it is the
 /// later half of what is left; otherwise `part` steps, or those from a copy on.
 fn begin(history: &History, low: u64, end: u64, part: u64, last: Option<u64>) -> u64
-    requires since { history.now.origin.steps ≤ low }
+    requires since { history.now.beginning.steps ≤ low }
     requires before { low < end }
     ensures since { low ≤ result }
     ensures before { result < end }
@@ -141,7 +141,7 @@ fn look_at(
     points: &[u32],
     watches: &[Point],
 ) -> Result<(u64, Option<Found>), AllocError>
-    requires since { history.now.origin.steps ≤ wish }
+    requires since { history.now.beginning.steps ≤ wish }
     requires before { wish < end }
     requires within { end ≤ history.now.machine.steps }
     ensures { IfOk result (λ r. IsPart points.now watches.now history.now wish end r.0 r.1) }
@@ -162,7 +162,7 @@ fn seek(
 ) -> Result<Option<u64>, AllocError>
     ensures { IfOk result (λ last. IsLast points.now watches.now history.now last) }
 {
-    let mut low = history.steps_of_origin();
+    let mut low = history.steps_of_beginning();
     let mut end = history.machine().steps();
     let mut last = None;
     let mut part = FIRST;
@@ -222,7 +222,7 @@ fn told_at(
     step: u64,
     watches: &[Point],
 ) -> Result<Undone, AllocError>
-    requires since { history.now.origin.steps ≤ step }
+    requires since { history.now.beginning.steps ≤ step }
     requires before { step < history.now.machine.steps }
     ensures { IfOk result (λ what. (points : List ℕ) (s : State) → Was history.now step s → IsMet points watches.now s → Meets points watches.now s what) }
 {
@@ -233,7 +233,7 @@ fn told_at(
 
 /// Goes back to an earlier step of the history. An `Err` is a failed allocation, and nothing has changed.
 fn go_back(history: &mut History, step: u64) -> Result<(), AllocError>
-    requires since { history.old.origin.steps ≤ step }
+    requires since { history.old.beginning.steps ≤ step }
     requires before { step < history.old.machine.steps }
     ensures ok { OnOk result (GoesBack history.old step history.new) }
     ensures err { OnErr result (history.new ≡ history.old) }
@@ -258,13 +258,13 @@ pub fn turn_back(
     ensures ok { IfOk result (λ what. Returns points.now watches.now history.old what history.new) }
     ensures err { OnErr result (history.new ≡ history.old) }
 {
-    let origin = history.steps_of_origin();
-    if history.machine().steps() <= origin {
+    let beginning = history.steps_of_beginning();
+    if history.machine().steps() <= beginning {
         return Ok(Undone::Begun);
     }
     match find_last(alloc, history, points, watches)? {
         None => {
-            go_back(history, origin)?;
+            go_back(history, beginning)?;
             Ok(Undone::Begun)
         }
         Some(step) => {

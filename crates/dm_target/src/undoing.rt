@@ -60,7 +60,7 @@ pub fn step_back(
     ensures err { OnErr result (history.new ≡ history.old) }
 {
     let now = history.machine().steps();
-    if now <= history.steps_of_origin() {
+    if now <= history.steps_of_beginning() {
         return Ok(Undone::Begun);
     }
     let after = keep_all(alloc, history.machine().space(), watches)?;

@@ -192,7 +192,7 @@ fn pause_at(stop: Stop, hit: Option<Point>) -> Option<Pause>
 fn perform(history: &mut History, watches: &[Point]) -> Option<Pause>
     requires { entry_point_at history.old.machine.cpu.cs history.old.machine.cpu.ip ≡ None }
     ensures looks { Looks watches.now history.old.machine result history.new.machine }
-    ensures origin { history.new.origin ≡ history.old.origin }
+    ensures beginning { history.new.beginning ≡ history.old.beginning }
     ensures edits { history.new.edits ≡ history.old.edits }
 {
     let hit = first_hit(history.machine(), watches);
@@ -205,7 +205,7 @@ fn act(alloc: Global, history: &mut History, watches: &[Point]) -> Option<Pause>
     requires there { (what : EntryPoint) × (entry_point_at history.old.machine.cpu.cs history.old.machine.cpu.ip ≡ Some what) }
     requires watched { watches.now ≢ [] }
     ensures looks { Looks watches.now history.old.machine result history.new.machine }
-    ensures origin { history.new.origin ≡ history.old.origin }
+    ensures beginning { history.new.beginning ≡ history.old.beginning }
     ensures edits { history.new.edits ≡ history.old.edits }
 {
     let Ok(before) = keep_all(alloc, history.machine().space(), watches) else {
@@ -220,7 +220,7 @@ fn act(alloc: Global, history: &mut History, watches: &[Point]) -> Option<Pause>
 /// the machine changes.
 pub(crate) fn look(alloc: Global, history: &mut History, watches: &[Point]) -> Option<Pause>
     ensures looks { Looks watches.now history.old.machine result history.new.machine }
-    ensures origin { history.new.origin ≡ history.old.origin }
+    ensures beginning { history.new.beginning ≡ history.old.beginning }
     ensures edits { history.new.edits ≡ history.old.edits }
 {
     if watches.is_empty() {

@@ -3,7 +3,7 @@
 use Rattle.std.specs.Prelude.{◌≡◌, ℕ, Bool, List, [], ◌∷◌, ◌++◌, false, true, codes}
 use Rattle.dm_space.specs.Memory.{Memory}
 use Rattle.dm_blocks.specs.declared.header.Header.{Header}
-use Rattle.dm_blocks.specs.declared.header.Entry.{Entry}
+use Rattle.dm_blocks.specs.declared.header.ListedHeader.{ListedHeader}
 use Rattle.dm_blocks.specs.Chain.{first_header, link_header, signature, is_parted, IsArenaBehind}
 use Rattle.dm_blocks.specs.Listing.{Leads, Follows}
 use Rattle.dm_views.specs.Digits.{four_digits}
@@ -46,7 +46,7 @@ pub record IsCutShort (m : Memory) (F : List Header) (start : ℕ) (text : List 
   pub headers : List Header
   pub at : ℕ
   pub leads : Leads m F start headers at
-  pub none : (e : Entry) → Follows m F headers at e → ⊥
+  pub none : (e : ListedHeader) → Follows m F headers at e → ⊥
   pub is : text ≡ front_text headers ++ destroyed_line at
 
 -- the text is the listing of the list from the segment `start` on, whole or cut short

@@ -10,7 +10,7 @@ ghost use Rattle.dm_views.specs.Arena.{header_line, end_line, destroyed_line, un
 ghost use Rattle.dm_views.specs.inner.Telling.{TellsList};
 
 use crate::digits::word_digits;
-use dm_blocks::{Entry, Headers, Step, is_linked, walk};
+use dm_blocks::{Headers, ListedHeader, Met, is_linked, walk};
 use dm_space::Space;
 use std::alloc::AllocError;
 
@@ -22,7 +22,7 @@ fn signature(last: bool) -> u8
 }
 
 /// Appends the line of a header: segment, signature, owner and size in paragraphs.
-fn put_entry(out: &mut Vec<u8>, entry: Entry) -> Result<(), AllocError>
+fn put_entry(out: &mut Vec<u8>, entry: ListedHeader) -> Result<(), AllocError>
     ensures { OnOk result (out.new.items ≡ out.old.items ++ header_line (signature_byte entry.last) entry.header) }
 {
     out.extend_from_slice(&word_digits(entry.header.segment))?;
@@ -66,12 +66,12 @@ fn put_list<'a>(out: &mut Vec<u8>, headers: Headers<'a>) -> Result<Option<Header
     let mut told = headers;
     'walk: loop {
         match told.advance() {
-            Step::Told(entry) => put_entry(out, entry)?,
-            Step::End => {
+            Met::Told(entry) => put_entry(out, entry)?,
+            Met::End => {
                 put_end(out)?;
                 return Ok(Some(told));
             }
-            Step::Destroyed(segment) => {
+            Met::Destroyed(segment) => {
                 put_destroyed(out, segment)?;
                 return Ok(None);
             }

@@ -4,7 +4,7 @@ use Rattle.std.specs.Prelude.{Bool, List, None, Some, false, true, ℕ, ◌++◌
 use Rattle.std.specs.Bool.{OnFalse}
 use Rattle.dm_space.specs.Memory.{Memory}
 use Rattle.dm_blocks.specs.declared.header.Header.{Header}
-use Rattle.dm_blocks.specs.declared.header.Entry.{Entry}
+use Rattle.dm_blocks.specs.declared.header.ListedHeader.{ListedHeader}
 use Rattle.dm_blocks.specs.Chain.{first_header, next, IsArena, IsNonEmpty, NoArena}
 use Rattle.dm_blocks.specs.Reading.{IsSpelledFrom}
 use Rattle.dm_arena.specs.declared.fit.Strategy.{Strategy}
@@ -24,7 +24,7 @@ pub record IsRunFront (upper : Bool) (S : Memory) (L : List Header) (r : Run) (K
 
 -- e is the first block of L with the free blocks after it taken in so far, and K the headers that are left; if none is
 -- taken in, L is the header of e and K
-pub record IsRunOpen (upper : Bool) (S : Memory) (L : List Header) (e : Entry) (several : Bool) (K : List Header) : Type 0 where
+pub record IsRunOpen (upper : Bool) (S : Memory) (L : List Header) (e : ListedHeader) (several : Bool) (K : List Header) : Type 0 where
   pub joining : IsJoining upper S L e K
   pub single : OnFalse several (L ≡ e.header ∷ K)
 
@@ -54,7 +54,7 @@ pub record IsSurvey (upper : Bool) (S : Memory) (L : List Header) (strategy : St
   pub joined : IsJoinedTo upper S L s.from
 
 -- memory spells a clear list, and e is the header of the block that begins at the segment
-pub record IsOwnedAt (upper : Bool) (S : Memory) (segment : ℕ) (e : Entry) : Type 0 where
+pub record IsOwnedAt (upper : Bool) (S : Memory) (segment : ℕ) (e : ListedHeader) : Type 0 where
   pub list : List Header
   pub arena : IsArena S first_header list
   pub found : FindsOther upper S first_header segment (Some e)

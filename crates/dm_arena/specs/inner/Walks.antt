@@ -5,7 +5,7 @@ use Rattle.dm_space.specs.declared.place.Place.{Place}
 use Rattle.dm_space.specs.Memory.{Memory, byte_at, place}
 use Rattle.dm_space.specs.Places.{IsShaped, IsWritable}
 use Rattle.dm_blocks.specs.declared.header.Header.{Header}
-use Rattle.dm_blocks.specs.declared.header.Entry.{Entry}
+use Rattle.dm_blocks.specs.declared.header.ListedHeader.{ListedHeader}
 use Rattle.dm_blocks.specs.Chain.{DiffersInHeaders, HasHeader, IsArena, IsClear, IsHeader, IsNonEmpty, Spells, next}
 use Rattle.dm_arena.specs.declared.fit.Strategy.{Strategy}
 use Rattle.dm_arena.specs.declared.fit.Spoken.{Spoken}
@@ -28,14 +28,14 @@ pub record IsHeaderWritten (S : Memory) (b : Header) (signature : ℕ) (T : Memo
   pub kept : (p : Place) → ((k : ℕ) → k < 5 → p ≢ place S (16 * b.segment + k)) → byte_at T p ≡ byte_at S p
 
 -- e is the first block of L once runs of free blocks are joined, and K the headers of L after it
-pub record IsJoinedFront (upper : Bool) (S : Memory) (L : List Header) (e : Entry) (K : List Header) : Type 0 where
+pub record IsJoinedFront (upper : Bool) (S : Memory) (L : List Header) (e : ListedHeader) (K : List Header) : Type 0 where
   pub is : join upper L ≡ e.header ∷ join upper K
   pub last : e.last ≡ is_nil K
   pub rest : Spells S (next e.header) K
   pub within : (g : ℕ) → HasHeader K g → HasHeader L g
 
 -- e is the first block of L with the free blocks after it taken in so far, and K the headers that are left
-pub record IsJoining (upper : Bool) (S : Memory) (L : List Header) (e : Entry) (K : List Header) : Type 0 where
+pub record IsJoining (upper : Bool) (S : Memory) (L : List Header) (e : ListedHeader) (K : List Header) : Type 0 where
   pub is : join upper L ≡ join_after upper e.header K
   pub last : e.last ≡ is_nil K
   pub rest : Spells S (next e.header) K
@@ -147,7 +147,7 @@ pub record Placing (upper : Bool) (S : Memory) (start : ℕ) (C : List Header) :
   pub clear : IsClear S (before ++ (C ++ after))
 
 -- while 4Ah makes a block larger: g is e with the free blocks R, the first of K, taken in; the headers Q are left
-pub record IsGrown (upper : Bool) (S : Memory) (e : Entry) (K : List Header) (g : Entry) (R Q : List Header) : Type 0 where
+pub record IsGrown (upper : Bool) (S : Memory) (e : ListedHeader) (K : List Header) (g : ListedHeader) (R Q : List Header) : Type 0 where
   pub is : K ≡ R ++ Q
   pub free : AllFree upper R
   pub header : g.header ≡ absorb e.header R
@@ -155,7 +155,7 @@ pub record IsGrown (upper : Bool) (S : Memory) (e : Entry) (K : List Header) (g 
   pub rest : Spells S (next g.header) Q
 
 -- K are the headers that memory spells after the block of e, and e is marked last if there are none
-pub record IsGrowable (S : Memory) (e : Entry) (K : List Header) : Type 0 where
+pub record IsGrowable (S : Memory) (e : ListedHeader) (K : List Header) : Type 0 where
   pub last : e.last ≡ is_nil K
   pub rest : Spells S (next e.header) K
 
@@ -169,7 +169,7 @@ pub record IsReleasing (S : Memory) (start : ℕ) (owner : ℕ) (L : List Header
 
 -- the result of a search, for 49h and 4Ah, for the block that begins at the segment: None if there is none, or if it is
 -- the link block; else its entry
-abbrev pub FindsOther : Bool → Memory → ℕ → ℕ → Option Entry → Type 0
+abbrev pub FindsOther : Bool → Memory → ℕ → ℕ → Option ListedHeader → Type 0
 FindsOther upper S start segment None = (L : List Header) → IsSpelledFrom S start L → IsNoBlock upper L segment
 FindsOther upper S start segment (Some e) =
     (is_link_block upper segment ≡ false) × ((L : List Header) → IsSpelledFrom S start L → (P : List Header) × (Q : List Header) × IsFoundAt S L segment e P Q)

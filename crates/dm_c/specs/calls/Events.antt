@@ -32,7 +32,7 @@ abbrev pub ended_of : RunEnd → Stopped
 ended_of (ending.Stopped stop) = stopped_of (Some stop)
 ended_of (Came place) = record { why = 8; code = 0 }
 
--- the place in the list of the event that came; `before` if none did
+-- the index in the list of the event that came; `before` if none did
 abbrev pub event_index : RunEnd → ℕ → ℕ
 event_index (ending.Stopped stop) before = before
 event_index (Came place) before = place

@@ -14,7 +14,7 @@ use Rattle.dm_views.specs.inventory.Extended.{extended_rows, upper_rows}
 use Rattle.dm_views.specs.inventory.Findings.{record_of}
 use Rattle.dm_host.specs.declared.refusal.Refusal.{Refusal}
 use Rattle.dm_host.specs.declared.refusal.Refusal.TheVariants.{Memory}
-use Rattle.dm_host.specs.Hosts.{Hosted, Shows, IsNotLoaded, IsUnlisted}
+use Rattle.dm_host.specs.Hosts.{Hosted, Shows, IsNotLoaded, IsNotListed}
 use Rattle.dm_host.specs.ByHandle.{ReadsPage, IsPageUnread, ReadsBlock, IsBlockUnread}
 use Rattle.dm_host.specs.Findings.{TellsFinding, IsUntold}
 use Rattle.dm_c.specs.declared.calls.lists.ListEnd.{ListEnd}
@@ -39,12 +39,12 @@ pub data GivesRecords {A : Type 0} (h : Hosted) (Lists : State → List A → Ty
 pub data BlocksTo (h : Hosted) (before after : List ArenaBlock) (wanted_before wanted : ℕ) (end_before end : ListEnd) (status : ℕ) (g : Hosted) : Type 0 where
   listed : (rows : List ArenaBlock) (broken : Option ℕ) → Shows h (λ s. IsListedArena s.upper s.memory rows broken) → GivesItems rows before after wanted status → end ≡ end_of broken → g ≡ h
       → BlocksTo h before after wanted_before wanted end_before end status g
-  refused : (why : Refusal) → IsUnlisted h why → status ≡ status_of why → after ≡ before → wanted ≡ wanted_before → end ≡ end_before → g ≡ h
+  refused : (why : Refusal) → IsNotListed h why → status ≡ status_of why → after ≡ before → wanted ≡ wanted_before → end ≡ end_before → g ≡ h
       → BlocksTo h before after wanted_before wanted end_before end status g
 
 -- `dm_c_page_handles`: the handles of expanded memory in use, by rising number
 abbrev pub PageHandlesTo : Hosted → List PageHandle → List PageHandle → ℕ → ℕ → ℕ → Hosted → Type 0
-PageHandlesTo h before after wanted_before wanted status g = GivesRecords h (λ s rows. rows ≡ handle_rows s.ems) (IsUnlisted h) before after wanted_before wanted status × (g ≡ h)
+PageHandlesTo h before after wanted_before wanted status g = GivesRecords h (λ s rows. rows ≡ handle_rows s.ems) (IsNotListed h) before after wanted_before wanted status × (g ≡ h)
 
 -- `dm_c_windows`: what the four windows of the page frame show
 abbrev pub WindowsTo : Hosted → List Window → List Window → ℕ → ℕ → ℕ → Hosted → Type 0
@@ -53,11 +53,11 @@ WindowsTo h before after wanted_before wanted status g = GivesRecords h (λ s ro
 -- `dm_c_extended_blocks`: the blocks of the handles of extended memory in use, by rising handle
 abbrev pub ExtendedBlocksTo : Hosted → List ExtendedBlock → List ExtendedBlock → ℕ → ℕ → ℕ → Hosted → Type 0
 ExtendedBlocksTo h before after wanted_before wanted status g =
-    GivesRecords h (λ s rows. rows ≡ extended_rows s.xms s.memory) (IsUnlisted h) before after wanted_before wanted status × (g ≡ h)
+    GivesRecords h (λ s rows. rows ≡ extended_rows s.xms s.memory) (IsNotListed h) before after wanted_before wanted status × (g ≡ h)
 
 -- `dm_c_upper_blocks`: the upper memory blocks of the extended memory driver, by rising segment
 abbrev pub UpperBlocksTo : Hosted → List UpperBlock → List UpperBlock → ℕ → ℕ → ℕ → Hosted → Type 0
-UpperBlocksTo h before after wanted_before wanted status g = GivesRecords h (λ s rows. rows ≡ upper_rows s.xms) (IsUnlisted h) before after wanted_before wanted status × (g ≡ h)
+UpperBlocksTo h before after wanted_before wanted status g = GivesRecords h (λ s rows. rows ≡ upper_rows s.xms) (IsNotListed h) before after wanted_before wanted status × (g ≡ h)
 
 -- `dm_c_high_memory`: whether A20 is on, and whether the high memory area is taken (1 or 0); if no program is loaded,
 -- nothing changes
@@ -88,7 +88,7 @@ FindingsTo h before after wanted_before wanted status g =
 -- `dm_c_finding_counts`: how many errors and notes the last checked run had, and how many findings its report neither
 -- lists nor counts as repetitions
 abbrev pub FindingCountsTo : Hosted → ℕ → ℕ → ℕ → ℕ → Hosted → Type 0
-FindingCountsTo h errors notes unlisted status g = (status ≡ 0) × (errors ≡ h.report.errors) × (notes ≡ h.report.notes) × (unlisted ≡ h.report.unlisted) × (g ≡ h)
+FindingCountsTo h errors notes not_listed status g = (status ≡ 0) × (errors ≡ h.report.errors) × (notes ≡ h.report.notes) × (not_listed ≡ h.report.not_listed) × (g ≡ h)
 
 -- `dm_c_finding_line`: the line of finding k of that report is copied to the front of the buffer, if it fits, and
 -- `wanted` is how many bytes it has; if the report lists no finding k, or an allocation failed, nothing changes

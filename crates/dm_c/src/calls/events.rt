@@ -87,7 +87,7 @@ pub fn ended_of(ending: RunEnd) -> Stopped
     }
 }
 
-/// The place in the list of the event that came; `before` if none did.
+/// The index in the list of the event that came; `before` if none did.
 pub fn place_in(ending: RunEnd, before: usize) -> usize
     ensures { result ≡ event_index ending before }
 {

@@ -5,7 +5,7 @@ ghost use Rattle.std.specs.Prelude.{◌≡◌};
 ghost use Rattle.dm_c.specs.calls.Lists.{end_of, BlocksTo, PageHandlesTo, WindowsTo, ExtendedBlocksTo, UpperBlocksTo, HighMemoryTo, ReadsPageTo, ReadsBlockTo, FindingsTo, FindingCountsTo, FindingLineTo};
 ghost use Rattle.dm_views.specs.inventory.Pages.{truth_number};
 
-use crate::calls::values::{OK, give_items, status_of};
+use crate::calls::values::{OK, give_items, status_by};
 use dm_host::Host;
 use dm_views::inventory::{ArenaBlock, ExtendedBlock, FoundRecord, PageHandle, UpperBlock, Window};
 use std::alloc::Global;
@@ -50,13 +50,10 @@ pub fn blocks(
 ) -> u32
     ensures { BlocksTo host.now buffer.old buffer.new wanted.old wanted.new end.old end.new result host.now }
 {
-    match host.blocks(alloc) {
-        Ok((blocks, broken)) => {
-            *end = end_of(broken);
-            give_items(blocks.as_slice(), buffer, wanted)
-        }
-        Err(refusal) => status_of(refusal),
-    }
+    status_by!(host.blocks(alloc), (blocks, broken) => {
+        *end = end_of(broken);
+        give_items(blocks.as_slice(), buffer, wanted)
+    })
 }
 
 /// Copies the handles of expanded memory in use to the front of the buffer if they fit, and sets `wanted` to how many
@@ -69,10 +66,7 @@ pub fn page_handles(
 ) -> u32
     ensures { PageHandlesTo host.now buffer.old buffer.new wanted.old wanted.new result host.now }
 {
-    match host.page_handles(alloc) {
-        Ok(handles) => give_items(handles.as_slice(), buffer, wanted),
-        Err(refusal) => status_of(refusal),
-    }
+    status_by!(host.page_handles(alloc), handles => give_items(handles.as_slice(), buffer, wanted))
 }
 
 /// Copies what the four windows of the page frame show to the front of the buffer if they fit, and sets `wanted` to 4.
@@ -80,10 +74,7 @@ pub fn page_handles(
 pub fn windows(host: &Host, buffer: &mut [Window], wanted: &mut usize) -> u32
     ensures { WindowsTo host.now buffer.old buffer.new wanted.old wanted.new result host.now }
 {
-    match host.windows() {
-        Ok(windows) => give_items(&windows, buffer, wanted),
-        Err(refusal) => status_of(refusal),
-    }
+    status_by!(host.windows(), windows => give_items(&windows, buffer, wanted))
 }
 
 /// Copies the blocks of the handles of extended memory in use to the front of the buffer if they fit, and sets `wanted`
@@ -96,10 +87,7 @@ pub fn extended_blocks(
 ) -> u32
     ensures { ExtendedBlocksTo host.now buffer.old buffer.new wanted.old wanted.new result host.now }
 {
-    match host.extended_blocks(alloc) {
-        Ok(blocks) => give_items(blocks.as_slice(), buffer, wanted),
-        Err(refusal) => status_of(refusal),
-    }
+    status_by!(host.extended_blocks(alloc), blocks => give_items(blocks.as_slice(), buffer, wanted))
 }
 
 /// Copies the upper memory blocks of the extended memory driver to the front of the buffer if they fit, and sets
@@ -112,10 +100,7 @@ pub fn upper_blocks(
 ) -> u32
     ensures { UpperBlocksTo host.now buffer.old buffer.new wanted.old wanted.new result host.now }
 {
-    match host.upper_blocks(alloc) {
-        Ok(blocks) => give_items(blocks.as_slice(), buffer, wanted),
-        Err(refusal) => status_of(refusal),
-    }
+    status_by!(host.upper_blocks(alloc), blocks => give_items(blocks.as_slice(), buffer, wanted))
 }
 
 /// Sets `a20` to whether address line A20 is on, and `used` to whether the high memory area is taken. Status 14, and no
@@ -123,14 +108,11 @@ pub fn upper_blocks(
 pub fn high_memory(host: &Host, a20: &mut u32, used: &mut u32) -> u32
     ensures { HighMemoryTo host.now a20.old a20.new used.old used.new result host.now }
 {
-    match host.high_memory() {
-        Ok((on, taken)) => {
-            *a20 = number_of(on);
-            *used = number_of(taken);
-            OK
-        }
-        Err(refusal) => status_of(refusal),
-    }
+    status_by!(host.high_memory(), (on, taken) => {
+        *a20 = number_of(on);
+        *used = number_of(taken);
+        OK
+    })
 }
 
 /// Fills the buffer with bytes of a logical page of a handle of expanded memory, from an offset in the page on. Status
@@ -139,10 +121,7 @@ pub fn high_memory(host: &Host, a20: &mut u32, used: &mut u32) -> u32
 pub fn read_page(host: &Host, handle: u16, page: u16, offset: usize, buffer: &mut [u8]) -> u32
     ensures { ReadsPageTo host.now handle page offset buffer.old buffer.new result host.now }
 {
-    match host.read_page(handle, page, offset, buffer) {
-        Ok(()) => OK,
-        Err(refusal) => status_of(refusal),
-    }
+    status_by!(host.read_page(handle, page, offset, buffer))
 }
 
 /// Fills the buffer with bytes of the block of a handle of extended memory, from an offset in the block on. Status 14
@@ -151,10 +130,7 @@ pub fn read_page(host: &Host, handle: u16, page: u16, offset: usize, buffer: &mu
 pub fn read_block(host: &Host, handle: u16, offset: usize, buffer: &mut [u8]) -> u32
     ensures { ReadsBlockTo host.now handle offset buffer.old buffer.new result host.now }
 {
-    match host.read_block(handle, offset, buffer) {
-        Ok(()) => OK,
-        Err(refusal) => status_of(refusal),
-    }
+    status_by!(host.read_block(handle, offset, buffer))
 }
 
 /// Copies the findings that the report of the last checked run lists to the front of the buffer if they fit, and sets
@@ -162,21 +138,18 @@ pub fn read_block(host: &Host, handle: u16, offset: usize, buffer: &mut [u8]) ->
 pub fn findings(alloc: Global, host: &Host, buffer: &mut [FoundRecord], wanted: &mut usize) -> u32
     ensures { FindingsTo host.now buffer.old buffer.new wanted.old wanted.new result host.now }
 {
-    match host.findings(alloc) {
-        Ok(records) => give_items(records.as_slice(), buffer, wanted),
-        Err(refusal) => status_of(refusal),
-    }
+    status_by!(host.findings(alloc), records => give_items(records.as_slice(), buffer, wanted))
 }
 
-/// Sets `errors` and `notes` to how many of each the last checked run had, and `unlisted` to how many findings its
+/// Sets `errors` and `notes` to how many of each the last checked run had, and `not_listed` to how many findings its
 /// report neither lists nor counts as repetitions.
-pub fn finding_counts(host: &Host, errors: &mut u64, notes: &mut u64, unlisted: &mut u64) -> u32
-    ensures { FindingCountsTo host.now errors.new notes.new unlisted.new result host.now }
+pub fn finding_counts(host: &Host, errors: &mut u64, notes: &mut u64, not_listed: &mut u64) -> u32
+    ensures { FindingCountsTo host.now errors.new notes.new not_listed.new result host.now }
 {
     let report = host.report();
     *errors = report.errors();
     *notes = report.notes();
-    *unlisted = report.unlisted();
+    *not_listed = report.not_listed();
     OK
 }
 
@@ -192,8 +165,5 @@ pub fn finding_line(
 ) -> u32
     ensures { FindingLineTo host.now k buffer.old buffer.new wanted.old wanted.new result host.now }
 {
-    match host.finding_line(alloc, k) {
-        Ok(text) => give_items(text.as_slice(), buffer, wanted),
-        Err(refusal) => status_of(refusal),
-    }
+    status_by!(host.finding_line(alloc, k), text => give_items(text.as_slice(), buffer, wanted))
 }

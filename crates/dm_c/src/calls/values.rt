@@ -89,6 +89,21 @@ pub fn status_of(refusal: Refusal) -> u32
     }
 }
 
+/// The status of a call of `Host`: that of its refusal; without one it is 0, or what follows `=>` says of the value.
+macro_rules! status_by {
+    ($call:expr) => {
+        status_by!($call, () => $crate::calls::OK)
+    };
+    ($call:expr, $value:pat => $status:expr) => {
+        match $call {
+            Ok($value) => $status,
+            Err(refusal) => $crate::calls::status_of(refusal),
+        }
+    };
+}
+
+pub(crate) use status_by;
+
 /// A stop as C sees it; None is a breakpoint.
 pub fn stopped_of(stop: Option<Stop>) -> Stopped
     ensures { result ≡ stopped_of stop }

@@ -12,7 +12,7 @@ is_no_later step count c = nat_le c.machine.steps step && nat_le c.edits count
 -- the history has been in the copy's state, when the first edits had been made and the others were to come
 pub record IsOnTheWay (p : Past) (c : Kept) : Type 0 where
   pub made : c.edits ≤ length p.edits
-  pub becomes : BecomesBy p.origin (take c.edits p.edits) c.machine
+  pub becomes : BecomesBy p.beginning (take c.edits p.edits) c.machine
   pub next : All (λ e. c.machine.steps ≤ e.step) (drop c.edits p.edits)
   pub before : c.machine.steps ≤ p.machine.steps
   pub loaded : HasProgram c.machine
@@ -27,9 +27,9 @@ pub data MayGain (old : List Kept) (copy : Kept) (new : List Kept) : Type 0 wher
   none : new ≡ old → MayGain old copy new
   more : new ≡ old ++ copy ∷ [] → MayGain old copy new
 
--- the machine's state is the one that the origin becomes, and each copy is on the way
+-- the machine's state is the one that the beginning becomes, and each copy is on the way
 pub record IsHistory (p : Past) (copies : List Kept) : Type 0 where
-  pub becomes : BecomesBy p.origin p.edits p.machine
-  pub origin : HasProgram p.origin
+  pub becomes : BecomesBy p.beginning p.edits p.machine
+  pub beginning : HasProgram p.beginning
   pub loaded : HasProgram p.machine
   pub ways : All (IsOnTheWay p) copies

@@ -6,7 +6,7 @@ use Rattle.dm_alu.specs.declared.shifts.Shifted.{Shifted}
 use Rattle.dm_alu.specs.declared.shifts.ShiftOperation.{ShiftOperation}
 use Rattle.dm_alu.specs.declared.shifts.ShiftOperation.TheVariants.{ArithmeticRight, Left, LogicalRight, RotateLeft, RotateRight, RotateThroughCarryLeft, RotateThroughCarryRight}
 use Rattle.dm_alu.specs.declared.width.Width.{Width}
-use Rattle.dm_alu.specs.Shifts.{flags_after_shift, flags_of_move, moves, one_move, overflow_after_move, shift_value}
+use Rattle.dm_alu.specs.Shifts.{flags_after_shift, flags_of_move, moves, one_move, overflow_after_shift, shift_value}
 use Rattle.dm_laws.specs.arithmetic.Shifts.{Shiftable, ShiftsAddUp, turned, without_overflow}
 
 -- what a shift starts from
@@ -56,7 +56,7 @@ pub turned-some : (op : ShiftOperation) (w : Width) (k : ℕ) (x : Shiftable) �
 unfolding shift_value flags_after_shift
 turned-some op w k x =
     ap (λ (f : Flags). record { value = (moves op w (suc k) (start x)).value; flags = f })
-    (some-flags op w (moves op w (suc k) (start x)) x.flags (if nat_eq (suc k) 1 then overflow_after_move op w x.value (moves op w (suc k) (start x)) else x.flags.overflow) (nat_eq (suc k) 0) (not-zero k))
+    (some-flags op w (moves op w (suc k) (start x)) x.flags (if nat_eq (suc k) 1 then overflow_after_shift op w x.value (moves op w (suc k) (start x)) else x.flags.overflow) (nat_eq (suc k) 0) (not-zero k))
 
 -- the carry that a shift leaves
 pub carry-is : (op : ShiftOperation) (w : Width) (k : ℕ) (x : Shiftable) → (turned op w k x).flags.carry ≡ (moves op w k (start x)).carry

@@ -29,11 +29,11 @@ use Rattle.dm_services.specs.state.State.{Answer, State}
 use Rattle.dm_services.specs.declared.functions.Function.{Function}
 use Rattle.dm_services.specs.declared.functions.Function.TheVariants as function
 use Rattle.dm_services.specs.declared.strategies.StrategyFunction.{StrategyFunction}
-use Rattle.dm_services.specs.declared.strategies.StrategyFunction.TheVariants.{TellStrategy, SetStrategy, TellLink, SetLink, Unlisted}
+use Rattle.dm_services.specs.declared.strategies.StrategyFunction.TheVariants.{TellStrategy, SetStrategy, TellLink, SetLink, Unknown}
 use Rattle.dm_services.specs.Allocation.{allocated, settled}
 use Rattle.dm_services.specs.Functions.{Calls, function_of, no_function}
 use Rattle.dm_services.specs.Handles.{write_handle, write_to_console, bad_handle}
-use Rattle.dm_services.specs.Processes.{Keeping, LoadingAs, Terminating, concluded, executed, overlaid, tell_code}
+use Rattle.dm_services.specs.Processes.{StayingResident, LoadingAs, Terminating, concluded, executed, overlaid, tell_code}
 use Rattle.dm_services.specs.Strategies.{SetsLink, StrategyCalls, TellsLink, link_told, set_to, strategy_of, subfunction_of, wanted}
 use Rattle.dm_services.specs.System.{tell_process, tell_version}
 use Rattle.dm_services.specs.Text.{print}
@@ -94,13 +94,13 @@ module _ (bytes : List ℕ) (more : Bool) where
     answer = ap A t.answer ∙ on_concluded s code t.result t.processes t.cpu t.memory;
   }
 
-  keeping : (s : State) (x : Answer) → Keeping s x → Keeping (G s) (A x)
+  keeping : (s : State) (x : Answer) → StayingResident s x → StayingResident (G s) (A x)
   keeping s x t = record {
     result = t.result;
     processes = t.processes;
     cpu = t.cpu;
     memory = t.memory;
-    keeps = t.keeps;
+    stays = t.stays;
     answer = ap A t.answer ∙ on_concluded s (byte_of s.cpu Al) t.result t.processes t.cpu t.memory;
   }
 
@@ -128,7 +128,7 @@ module _ (bytes : List ℕ) (more : Bool) where
   strategies s SetStrategy x e = ap A e ∙ on_strategy s (strategy_of s.upper s.cpu.bx)
   strategies s TellLink x t = tells_link s s.upper x t
   strategies s SetLink x l = sets_link s (wanted s.upper s.cpu.bx) x l
-  strategies s Unlisted x e = ap A e
+  strategies s Unknown x e = ap A e
 
   writes_handle : (s : State) (b : Bool) → A (if b then write_to_console s else bad_handle s) ≡ (if b then write_to_console (G s) else bad_handle (G s))
   unfolding bad_handle

@@ -58,13 +58,13 @@ ends_for_good Exit = true
 ends_for_good _ = false
 
 -- whether it ends a process, which stays resident: 31h
-abbrev pub keeps : Function → Bool
-keeps Keep = true
-keeps _ = false
+abbrev pub stays_resident : Function → Bool
+stays_resident Keep = true
+stays_resident _ = false
 
 -- whether it ends a process
 abbrev pub is_ending : Function → Bool
-is_ending f = ends_for_good f || keeps f
+is_ending f = ends_for_good f || stays_resident f
 
 -- whether a call of a function of INT 21h with these registers may start a process: 4Bh, but not with AL = 3, which
 -- loads an overlay (any other AL but 0 is an error)
@@ -84,14 +84,14 @@ arranges c (Some (ExtendedMemory number)) = false
 arranges c (Some (Interrupt number)) = false
 
 -- whether a call is function 31h of INT 21h, by which a process ends and stays resident
-abbrev pub stays : Call → Bool
-stays DivideError = false
-stays Terminate = false
-stays (Dos number) = keeps (function_of number)
-stays (ExpandedMemory number) = false
-stays Multiplex = false
-stays (ExtendedMemory number) = false
-stays (Interrupt number) = false
+abbrev pub call_stays_resident : Call → Bool
+call_stays_resident DivideError = false
+call_stays_resident Terminate = false
+call_stays_resident (Dos number) = stays_resident (function_of number)
+call_stays_resident (ExpandedMemory number) = false
+call_stays_resident Multiplex = false
+call_stays_resident (ExtendedMemory number) = false
+call_stays_resident (Interrupt number) = false
 
 -- ---- refusals, by the registers before and after a call
 

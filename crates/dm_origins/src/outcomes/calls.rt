@@ -3,7 +3,7 @@
 //! its findings to `out`; an `Err` is a failed allocation.
 
 ghost use Rattle.std.specs.Prelude.{◌≡◌, ◌++◌, OnOk};
-ghost use Rattle.dm_origins.specs.outcomes.Calls.{allocates, frees, resizes, arranges_lists, is_arena_function, ends_for_good, keeps, is_ending, is_starting, arranges, stays, refusal, refused_by_dos, refused_by_status, refused_by_error, may_be_refused, call_findings, is_stray_handle, is_stray_extended};
+ghost use Rattle.dm_origins.specs.outcomes.Calls.{allocates, frees, resizes, arranges_lists, is_arena_function, ends_for_good, stays_resident, is_ending, is_starting, arranges, call_stays_resident, refusal, refused_by_dos, refused_by_status, refused_by_error, may_be_refused, call_findings, is_stray_handle, is_stray_extended};
 
 use crate::outcomes::appending::put;
 use dm_cpu::Cpu;
@@ -72,8 +72,8 @@ fn ends(function: Function) -> bool
 }
 
 /// Whether a function of INT 21h ends a process, which stays resident.
-pub fn keeps(function: Function) -> bool
-    ensures { result ≡ keeps function }
+pub fn stays_resident(function: Function) -> bool
+    ensures { result ≡ stays_resident function }
 {
     match function {
         Function::Keep => true,
@@ -85,7 +85,7 @@ pub fn keeps(function: Function) -> bool
 pub(crate) fn is_ending(function: Function) -> bool
     ensures { result ≡ is_ending function }
 {
-    ends(function) || keeps(function)
+    ends(function) || stays_resident(function)
 }
 
 /// Whether a call of a function of INT 21h with these registers may start a process: 4Bh, but not with AL = 3. (With
@@ -114,11 +114,11 @@ pub fn arranges(cpu: &Cpu, call: Option<Call>) -> bool
 }
 
 /// Whether a call is function 31h of INT 21h, by which a process ends and stays resident.
-pub fn stays(call: Call) -> bool
-    ensures { result ≡ stays call }
+pub fn call_stays_resident(call: Call) -> bool
+    ensures { result ≡ call_stays_resident call }
 {
     match call {
-        Call::Dos(number) => keeps(function_of(number)),
+        Call::Dos(number) => stays_resident(function_of(number)),
         _ => false,
     }
 }

@@ -6,5 +6,5 @@ mod calls;
 mod courses;
 
 pub use appending::put;
-pub use calls::{arranges, frees, keeps, put_of_call, resizes, stays};
+pub use calls::{arranges, call_stays_resident, frees, put_of_call, resizes, stays_resident};
 pub use courses::{ends_process, has_started};

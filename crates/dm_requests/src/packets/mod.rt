@@ -7,11 +7,11 @@ mod checks;
 mod content;
 mod escapes;
 mod laws;
-mod link;
 mod received;
 mod receiver;
+mod sending;
 
 pub use laws::streams_are_read;
-pub use link::Link;
 pub use received::{Payload, Received};
 pub use receiver::Receiver;
+pub use sending::SendingSide;

@@ -113,7 +113,7 @@ impl Parts {
 
     /// Returns from a service or a driver that was called by INT as IRET does: pops IP, CS and FLAGS from the stack at
     /// SS:SP. Memory and the count of steps stay.
-    pub fn give_back(&mut self)
+    pub fn return_from_interrupt(&mut self)
         ensures { self.new ≡ interrupt_returned self.old }
     {
         interrupt_return(&mut self.cpu, &self.space);
@@ -121,7 +121,7 @@ impl Parts {
 
     /// Returns from the far call of the extended memory driver as RETF does: pops IP and CS from the stack at SS:SP.
     /// FLAGS, memory and the count of steps stay.
-    pub fn give_back_far(&mut self)
+    pub fn return_far(&mut self)
         ensures { self.new ≡ far_returned self.old }
     {
         far_return(&mut self.cpu, &self.space, 0);

@@ -5,23 +5,23 @@ use crate::checks::same;
 use dm_arena::{
     ArenaRefusal, Fit, Strategy, allocate, free, free_all, plan_pair, resize, write_pair,
 };
-use dm_blocks::{Entry, Header, Step, walk};
+use dm_blocks::{Header, ListedHeader, Met, walk};
 use dm_space::Space;
 use std::process::Abort;
 use std::test::Fail;
 
 const OWNER: u16 = 0x103;
 
-fn entry(last: bool, segment: u16, owner: u16, size: u16) -> Entry {
+fn entry(last: bool, segment: u16, owner: u16, size: u16) -> ListedHeader {
     let header = Header {
         segment,
         owner,
         size,
     };
-    Entry { header, last }
+    ListedHeader { header, last }
 }
 
-fn set_header(space: &mut Space, entry: Entry) {
+fn set_header(space: &mut Space, entry: ListedHeader) {
     let segment = entry.header.segment;
     space.poke(segment, 0, if entry.last { b'Z' } else { b'M' });
     space.poke16(segment, 1, entry.header.owner);
@@ -29,7 +29,7 @@ fn set_header(space: &mut Space, entry: Entry) {
 }
 
 /// Compares the bytes of a header.
-fn stands(rt: &impl Abort, space: &Space, entry: Entry) {
+fn stands(rt: &impl Abort, space: &Space, entry: ListedHeader) {
     let Header {
         segment,
         owner,
@@ -235,7 +235,7 @@ fn nothing_is_freed_inside_a_block(rt: HostRuntime) -> Result<(), Fail> {
 }
 
 /// Definitions: dm_blocks Chain IsArena NoArena first_header
-/// Definitions: dm_blocks Listing Steps IsStep IsStepFrom Follows Closes AreTold
+/// Definitions: dm_blocks Listing MeetsNext IsMet IsMetFrom Follows Closes AreTold
 /// Definitions: dm_arena Allocation AllocateRefused
 /// Definitions: dm_arena Owned Frees BlockAt freed FreeRefused IsNoBlock is_link_block ResizeRefused Releases
 /// Definitions: dm_arena Owned ReleasesOne ReleasesBoth ReleaseRefused released released_block
@@ -280,15 +280,15 @@ fn broken_signature_destroys_the_arena(rt: HostRuntime) -> Result<(), Fail> {
         &rt,
         "advance",
         headers.advance(),
-        Step::Told(entry(false, 0x100, OWNER, 1)),
+        Met::Told(entry(false, 0x100, OWNER, 1)),
     );
-    same(&rt, "advance", headers.advance(), Step::Destroyed(0x102));
-    same(&rt, "advance", headers.advance(), Step::Destroyed(0x102));
+    same(&rt, "advance", headers.advance(), Met::Destroyed(0x102));
+    same(&rt, "advance", headers.advance(), Met::Destroyed(0x102));
     Ok(())
 }
 
 /// Definitions: dm_blocks Chain Becomes DiffersInHeaders
-/// Definitions: dm_blocks Listing Walking Path Leads IsBehind start_of Steps IsStep IsStepFrom Follows Closes AreTold
+/// Definitions: dm_blocks Listing Walking Path Leads IsBehind start_of MeetsNext IsMet IsMetFrom Follows Closes AreTold
 /// Definitions: dm_arena Owned Releases ReleasesOne ReleasesBoth ReleaseRefused released released_block
 #[test]
 fn ended_program_leaves_free_blocks(rt: HostRuntime) -> Result<(), Fail> {
@@ -300,16 +300,16 @@ fn ended_program_leaves_free_blocks(rt: HostRuntime) -> Result<(), Fail> {
         &rt,
         "advance",
         headers.advance(),
-        Step::Told(entry(false, 0x100, 0, 1)),
+        Met::Told(entry(false, 0x100, 0, 1)),
     );
     same(
         &rt,
         "advance",
         headers.advance(),
-        Step::Told(entry(true, 0x102, 0, 0x9EFD)),
+        Met::Told(entry(true, 0x102, 0, 0x9EFD)),
     );
-    same(&rt, "advance", headers.advance(), Step::End);
-    same(&rt, "advance", headers.advance(), Step::End);
+    same(&rt, "advance", headers.advance(), Met::End);
+    same(&rt, "advance", headers.advance(), Met::End);
     same(
         &rt,
         "allocate",

@@ -9,7 +9,7 @@ use crate::arena::blocks::{answer, spell, spells};
 use crate::arena::memory::new_space;
 use crate::checks::same;
 use dm_arena::{ArenaRefusal, Fit, Strategy, allocate};
-use dm_blocks::{Entry, Header, Step, walk};
+use dm_blocks::{Header, ListedHeader, Met, walk};
 use dm_pool::{Block, NewError};
 use dm_space::Space;
 use std::alloc::Global;
@@ -484,13 +484,13 @@ fn lists_that_are_not_clear(rt: HostRuntime) -> Result<(), Fail> {
     Ok(())
 }
 
-fn told(last: bool, segment: u16, owner: u16, size: u16) -> Step {
+fn told(last: bool, segment: u16, owner: u16, size: u16) -> Met {
     let header = Header {
         segment,
         owner,
         size,
     };
-    Step::Told(Entry { header, last })
+    Met::Told(ListedHeader { header, last })
 }
 
 #[test]
@@ -499,35 +499,29 @@ fn walks_go_through_the_frame(rt: HostRuntime) -> Result<(), Fail> {
     let first = told(false, 0x100, 7, 0xDEFF);
     let second = told(false, 0xE000, 7, 0x3FF);
     let third = told(false, 0xE400, 7, 0x3FF);
-    let rows: [(Windows, [Step; 5]); 3] = [
+    let rows: [(Windows, [Met; 5]); 3] = [
         (
             [1, 2, 3, 4],
-            [
-                first,
-                second,
-                third,
-                told(true, 0xE800, 0, 0x7FE),
-                Step::End,
-            ],
+            [first, second, third, told(true, 0xE800, 0, 0x7FE), Met::End],
         ),
         (
             [1, 1, 2, 3],
             [
                 first,
                 second,
-                Step::Destroyed(0xE400),
-                Step::Destroyed(0xE400),
-                Step::Destroyed(0xE400),
+                Met::Destroyed(0xE400),
+                Met::Destroyed(0xE400),
+                Met::Destroyed(0xE400),
             ],
         ),
         (
             [0, 1, 2, 3],
             [
                 first,
-                Step::Destroyed(0xE000),
-                Step::Destroyed(0xE000),
-                Step::Destroyed(0xE000),
-                Step::Destroyed(0xE000),
+                Met::Destroyed(0xE000),
+                Met::Destroyed(0xE000),
+                Met::Destroyed(0xE000),
+                Met::Destroyed(0xE000),
             ],
         ),
     ];

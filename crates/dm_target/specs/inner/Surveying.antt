@@ -79,13 +79,13 @@ pub record IsPart (points : List ℕ) (watches : List Point) (p : Past) (wish en
 
 -- the last hit of the history p was at this step, or none was before its present state
 abbrev pub IsLast : List ℕ → List Point → Past → Option ℕ → Type 0
-IsLast points watches p None = AreClear points watches p p.origin.steps p.machine.steps
-IsLast points watches p (Some k) = (p.origin.steps ≤ k) × (k < p.machine.steps) × WasMet points watches p k × AreClear points watches p (k + 1) p.machine.steps
+IsLast points watches p None = AreClear points watches p p.beginning.steps p.machine.steps
+IsLast points watches p (Some k) = (p.beginning.steps ≤ k) × (k < p.machine.steps) × WasMet points watches p k × AreClear points watches p (k + 1) p.machine.steps
 
--- the last hit that is known before `low`: none if `low` is the origin's step; otherwise it was at the step before
+-- the last hit that is known before `low`: none if `low` is the beginning's step; otherwise it was at the step before
 abbrev pub IsKnown : List ℕ → List Point → Past → ℕ → Option ℕ → Type 0
-IsKnown points watches p low None = low ≡ p.origin.steps
-IsKnown points watches p low (Some k) = (low ≡ k + 1) × (p.origin.steps ≤ k) × (k < p.machine.steps) × WasMet points watches p k
+IsKnown points watches p low None = low ≡ p.beginning.steps
+IsKnown points watches p low (Some k) = (low ≡ k + 1) × (p.beginning.steps ≤ k) × (k < p.machine.steps) × WasMet points watches p k
 
 -- a hit, if there is one, and whether it is the last
 abbrev pub found_with : Option ℕ → Bool → Option Found

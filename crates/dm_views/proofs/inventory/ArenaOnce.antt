@@ -2,7 +2,7 @@
 use Rattle.std.proofs.Common.{◌≡◌, ℕ, Bool, List, [], ◌∷◌, ◌++◌, Option, Some, None, false, true, inl, inr, refl, sym, ◌∙◌, ap, ap₂, subst, append-nil, append_assoc}
 use Rattle.dm_space.specs.Memory.{Memory}
 use Rattle.dm_blocks.specs.declared.header.Header.{Header}
-use Rattle.dm_blocks.specs.declared.header.Entry.{Entry}
+use Rattle.dm_blocks.specs.declared.header.ListedHeader.{ListedHeader}
 use Rattle.dm_blocks.specs.Chain.{first_header, link_header, next, AreApart, HasHeader, IsClear, IsHeader, is_parted}
 use Rattle.dm_blocks.specs.Listing.{Path, Follows}
 use Rattle.dm_blocks.proofs.Chains.{has_left, has_right, has_either, clear_within}
@@ -17,7 +17,7 @@ record IsStuck (m : Memory) (F before : List Header) (h : ℕ) (P : List Header)
   path : Path m h P t
   clear : IsClear m (F ++ (before ++ P))
   apart : AreApart F (before ++ P)
-  none : (e : Entry) → Follows m F (before ++ P) t e → ⊥
+  none : (e : ListedHeader) → Follows m F (before ++ P) t e → ⊥
 
 -- a header that others follow is one of the list
 among : (before : List Header) (q : Header) (Q : List Header) (g : ℕ) → HasHeader ((before ++ []) ++ q ∷ []) g → HasHeader (before ++ q ∷ Q) g
@@ -44,7 +44,7 @@ further m F before h p P t b =
     let same = sym (append_assoc before (p ∷ []) P) in
     let C : List Header → Type 0 = λ X. IsClear m (F ++ X) in
     let A : List Header → Type 0 = λ X. AreApart F X in
-    let N : List Header → Type 0 = λ X. (e : Entry) → Follows m F X t e → ⊥ in
+    let N : List Header → Type 0 = λ X. (e : ListedHeader) → Follows m F X t e → ⊥ in
     record { path = b.path.2; clear = subst C same b.clear; apart = subst A same b.apart; none = subst N same b.none }
 
 record SamePath (P Q : List Header) (t u : ℕ) : Type 0 where

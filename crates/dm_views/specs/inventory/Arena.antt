@@ -3,7 +3,7 @@
 use Rattle.std.specs.Prelude.{◌≡◌, ℕ, Bool, List, [], ◌∷◌, ◌++◌, false, true, Option, Some, None}
 use Rattle.dm_space.specs.Memory.{Memory}
 use Rattle.dm_blocks.specs.declared.header.Header.{Header}
-use Rattle.dm_blocks.specs.declared.header.Entry.{Entry}
+use Rattle.dm_blocks.specs.declared.header.ListedHeader.{ListedHeader}
 use Rattle.dm_blocks.specs.Chain.{first_header, link_header, signature, is_parted, IsArenaBehind}
 use Rattle.dm_blocks.specs.Listing.{Leads, Follows}
 use Rattle.dm_views.specs.declared.inventory.arena.ArenaBlock.{ArenaBlock}
@@ -33,7 +33,7 @@ pub record IsWhole (m : Memory) (F : List Header) (start list : ℕ) (L : List H
 pub record IsCutShort (m : Memory) (F : List Header) (start list at : ℕ) (rows : List ArenaBlock) : Type 0 where
   pub headers : List Header
   pub leads : Leads m F start headers at
-  pub none : (e : Entry) → Follows m F headers at e → ⊥
+  pub none : (e : ListedHeader) → Follows m F headers at e → ⊥
   pub is : rows ≡ front_rows list headers
 
 -- these are the records of the list from the segment `start` on, and the segment where it breaks; None if it is whole

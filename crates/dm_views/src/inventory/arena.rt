@@ -7,7 +7,7 @@ ghost use Rattle.dm_blocks.specs.Listing.{start_of};
 ghost use Rattle.dm_views.specs.inventory.Arena.{block_record, IsListed, IsListedArena};
 ghost use Rattle.dm_views.specs.inventory.inner.Telling.{TellsList, end_of};
 
-use dm_blocks::{Entry, Headers, Step, is_linked, walk};
+use dm_blocks::{Headers, ListedHeader, Met, is_linked, walk};
 use dm_space::Space;
 use std::alloc::AllocError;
 
@@ -40,7 +40,7 @@ pub(crate) enum Walked<'a> {
 }
 
 /// The record of a header.
-fn block_of(entry: Entry, list: u8) -> ArenaBlock
+fn block_of(entry: ListedHeader, list: u8) -> ArenaBlock
     ensures { result ≡ block_record list (signature_byte entry.last) entry.header }
 {
     ArenaBlock {
@@ -64,9 +64,9 @@ fn put_list<'a>(
     let mut told = headers;
     'walk: loop {
         match told.advance() {
-            Step::Told(entry) => out.push(block_of(entry, list))?,
-            Step::End => return Ok(Walked::Over(told)),
-            Step::Destroyed(segment) => return Ok(Walked::Broken(segment)),
+            Met::Told(entry) => out.push(block_of(entry, list))?,
+            Met::End => return Ok(Walked::Over(told)),
+            Met::Destroyed(segment) => return Ok(Walked::Broken(segment)),
         }
     }
 }

@@ -23,9 +23,9 @@ pub returns-then-is_seen-clause-knows : goal.returns-then-is_seen-clause-knows
 returns-then-is_seen-clause-knows c = on_ok_weaker c.put_of_call.result (λ e s before watch.
     let t = c.args.machine.now in
     let after = seen_watch s.upper t.upper s.memory t.memory c.args.kept.now watch c.if-is_seen.ensures in
-    known_after s t c.args.before.now c.args.kept.now c.args.kept.now c.args.origins.now c.note.new.origins before watch after (c.in_ok-note.ensures s before)
+    known_after s t c.args.before.now c.args.kept.now c.args.kept.now c.args.origins.now c.record_step.new.origins before watch after (c.in_ok-record_step.ensures s before)
     ) c.put_of_call.ensures
 
 pub returns-clause-knows : goal.returns-clause-knows
 returns-clause-knows c s before watch =
-    known_after s c.args.machine.now c.args.before.now c.args.kept.now c.in_ok-new.new c.args.origins.now c.note-2.new.origins before watch c.in_ok-new.ensures (c.in_ok-note-2.ensures s before)
+    known_after s c.args.machine.now c.args.before.now c.args.kept.now c.in_ok-new.new c.args.origins.now c.record_step-2.new.origins before watch c.in_ok-new.ensures (c.in_ok-record_step-2.ensures s before)

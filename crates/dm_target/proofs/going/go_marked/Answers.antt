@@ -12,7 +12,7 @@ pub loop-init : goal.loop-init
 loop-init c = record {
   counted = omega arith;
   passes = (let F : ℕ → Type 0 = λ j. going.Passes c.args.points.now c.args.watches.now c.args.span c.args.history.now.machine j c.args.history.now.machine in let none : 0 ≡ c.args.most - c.args.most = omega arith in subst F none going.here);
-  origin = refl;
+  beginning = refl;
   edits = refl;
 }
 
@@ -43,7 +43,7 @@ loop-preserved c = elim c.if-made-eq0.branch [
         passes = passes_at ps ws span s w.look_on.new.history c.if-made-eq0.history c.args.most (c.loop.left - 1) c.if-made-eq0.left w.history-is left
             (goes_with ps ws span s c.loop.history.machine w.look_on.new.history.machine c.args.most c.loop.left w.look_on.result w.in_default.is (omega (arith, c.loop.invariant.counted)) (omega (arith, c.if-left-eq0.false)) c.loop.invariant.passes
             (subst (λ (x : State). Ends ps ws span x w.look_on.result w.look_on.new.history.machine) near w.look_on.ensures.ends));
-        origin = ap (λ (x : Past). x.origin) w.history-is ∙ w.look_on.ensures.origin ∙ c.pass-made.ensures.origin ∙ c.loop.invariant.origin;
+        beginning = ap (λ (x : Past). x.beginning) w.history-is ∙ w.look_on.ensures.beginning ∙ c.pass-made.ensures.beginning ∙ c.loop.invariant.beginning;
         edits = ap (λ (x : Past). x.edits) w.history-is ∙ w.look_on.ensures.edits ∙ c.pass-made.ensures.edits ∙ c.loop.invariant.edits;
       }
   | else-made-eq0+else-has_arrived w ↦
@@ -57,7 +57,7 @@ loop-preserved c = elim c.if-made-eq0.branch [
         passes = passes_at ps ws span s c.pass-made.new.history c.if-made-eq0.history c.args.most (c.loop.left - c.pass-made.result) c.if-made-eq0.left w.history-is left
             (more_passes ps ws span s c.loop.history.machine c.pass-made.new.history.machine c.args.most c.loop.left c.pass-made.result (omega (arith, c.loop.invariant.counted)) c.pass-made.ensures.most c.loop.invariant.passes c.pass-made.ensures.near
             (ap (λ x. has_arrived ps span x) (sym w.machine.ensures) ∙ sym w.has_arrived.ensures ∙ w.if-has_arrived.false));
-        origin = ap (λ (x : Past). x.origin) w.history-is ∙ c.pass-made.ensures.origin ∙ c.loop.invariant.origin;
+        beginning = ap (λ (x : Past). x.beginning) w.history-is ∙ c.pass-made.ensures.beginning ∙ c.loop.invariant.beginning;
         edits = ap (λ (x : Past). x.edits) w.history-is ∙ c.pass-made.ensures.edits ∙ c.loop.invariant.edits;
       }
 ]

@@ -6,6 +6,6 @@ abbrev pub invariant-loop : goal.invariant-loop
 invariant-loop l = record {
   counted : l.left + l.counter ≤ l.most;
   passes : Passes l.points l.watches l.span l.initial.history.machine (l.most - l.left) l.history.machine;
-  origin : l.history.origin ≡ l.initial.history.origin;
+  beginning : l.history.beginning ≡ l.initial.history.beginning;
   edits : l.history.edits ≡ l.initial.history.edits;
 }

@@ -6,7 +6,7 @@ use Rattle.dm_target.proofs.returning.seek.Given as goal
 -- from `end` on there is no hit; the last one before `low` is known
 abbrev pub invariant-loop-low : goal.invariant-loop-low
 invariant-loop-low l = record {
-  since : l.history.origin.steps ≤ l.low;
+  since : l.history.beginning.steps ≤ l.low;
   within : l.end ≤ l.history.machine.steps;
   clear : AreClear l.points l.watches l.history l.end l.history.machine.steps;
   known : IsKnown l.points l.watches l.history l.low l.last;

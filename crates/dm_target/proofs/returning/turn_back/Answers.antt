@@ -6,18 +6,18 @@ use Rattle.dm_target.specs.inner.Surveying.{IsMet, IsLast}
 use Rattle.dm_target.proofs.LastHits.{back_met}
 use Rattle.dm_target.proofs.returning.turn_back.Goals as goal
 
-pub returns-then-steps-origin-clause-ok : goal.returns-then-steps-origin-clause-ok
-returns-then-steps-origin-clause-ok c =
+pub returns-then-steps-beginning-clause-ok : goal.returns-then-steps-beginning-clause-ok
+returns-then-steps-beginning-clause-ok c =
     let now = ap (λ (s : State). s.steps) c.machine.ensures in
-    begun (omega (arith, now, c.steps.ensures, c.steps_of_origin-origin.ensures, c.if-steps-origin.true))
+    begun (omega (arith, now, c.steps.ensures, c.steps_of_beginning-beginning.ensures, c.if-steps-beginning.true))
 
 pub returns-in_ok-go_back-in-None-clause-ok : goal.returns-in_ok-go_back-in-None-clause-ok
 returns-in_ok-go_back-in-None-clause-ok c =
     let p = c.args.history.now in
     let now = ap (λ (s : State). s.steps) c.machine.ensures in
     let last : IsLast c.args.points.now c.args.watches.now p None = subst (λ (x : Option ℕ). IsLast c.args.points.now c.args.watches.now p x) c.in-None.is c.in_ok-find_last.ensures in
-    to_start c.go_back.new.history (omega (arith, now, c.steps.ensures, c.steps_of_origin-origin.ensures, c.if-steps-origin.false))
-    (subst (λ k. GoesBack p k c.go_back.new.history) c.steps_of_origin-origin.ensures c.in_ok-go_back-in-None.ensures.ok) last
+    to_start c.go_back.new.history (omega (arith, now, c.steps.ensures, c.steps_of_beginning-beginning.ensures, c.if-steps-beginning.false))
+    (subst (λ k. GoesBack p k c.go_back.new.history) c.steps_of_beginning-beginning.ensures c.in_ok-go_back-in-None.ensures.ok) last
 
 pub returns-in_ok-go_back-in-Some-clause-ok : goal.returns-in_ok-go_back-in-Some-clause-ok
 returns-in_ok-go_back-in-Some-clause-ok c =

@@ -11,10 +11,10 @@ use Rattle.dm_target.proofs.undoing.step_back.Goals as goal
 is_ok_true : {E : Type 0} → (r : Result Bool E) (b : Bool) → r ≡ Ok b → b ≡ true → r ≡ Ok true
 is_ok_true r b e f = e ∙ ap (λ (x : Bool). Ok x) f
 
-pub returns-then-now-steps_of_origin-clause-ok : goal.returns-then-now-steps_of_origin-clause-ok
-returns-then-now-steps_of_origin-clause-ok c =
+pub returns-then-now-steps_of_beginning-clause-ok : goal.returns-then-now-steps_of_beginning-clause-ok
+returns-then-now-steps_of_beginning-clause-ok c =
     let now : c.steps-now.result ≡ c.args.history.now.machine.steps = c.steps-now.ensures ∙ ap (λ (m : State). m.steps) c.machine.ensures in
-    begun (omega (arith, now, c.steps_of_origin.ensures, c.if-now-steps_of_origin.true))
+    begun (omega (arith, now, c.steps_of_beginning.ensures, c.if-now-steps_of_beginning.true))
 
 pub returns-clause-ok : goal.returns-clause-ok
 returns-clause-ok c =
@@ -22,7 +22,7 @@ returns-clause-ok c =
     let q = c.go_back_to.new.self in
     let ws = c.args.watches.now in
     let now : c.steps-now.result ≡ p.machine.steps = c.steps-now.ensures ∙ ap (λ (m : State). m.steps) c.machine.ensures in
-    let since : p.origin.steps < p.machine.steps = omega (arith, now, c.steps_of_origin.ensures, c.if-now-steps_of_origin.false) in
+    let since : p.beginning.steps < p.machine.steps = omega (arith, now, c.steps_of_beginning.ensures, c.if-now-steps_of_beginning.false) in
     let back : GoesBack p (p.machine.steps - 1) q =
     subst (λ (k : ℕ). GoesBack p (k - 1) q) now (c.go_back_to.ensures.back (is_ok_true c.go_back_to.result c.in_ok-go_back_to.field-0 c.in_ok-go_back_to.was c.if-not-branch.false)) in
     let after : c.as_slice.result.now ≡ all_bytes p.machine.memory ws =

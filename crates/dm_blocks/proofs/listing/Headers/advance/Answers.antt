@@ -5,20 +5,20 @@ use Rattle.dm_blocks.proofs.Walks.{at_last, at_more, step_bad, stays_moved, step
 use Rattle.dm_blocks.proofs.listing.Headers.advance.Goals as goal
 use Rattle.dm_blocks.proofs.listing.Headers.advance.Goals.{then-entry, else-entry}
 
-pub returns-in_default-header_at-clause-step : goal.returns-in_default-header_at-clause-step
-returns-in_default-header_at-clause-step c = step_bad _ _ _ _ _ c.self.invariant _ c.in-Some.is _ c.self.view_is c.in_default-header_at.ensures
+pub returns-in_default-header_at-clause-met : goal.returns-in_default-header_at-clause-met
+returns-in_default-header_at-clause-met c = step_bad _ _ _ _ _ c.self.invariant _ c.in-Some.is _ c.self.view_is c.in_default-header_at.ensures
 
 pub invariant_of-self : goal.invariant_of-self
 invariant_of-self c = stays_moved _ _ _ _ _ c.self.invariant _ c.in-Some.is _ c.catch_up-self-inside.ensures
 
-pub returns-then-stands_at-clause-step : goal.returns-then-stands_at-clause-step
-returns-then-stands_at-clause-step c = step_met _ _ _ _ _ c.self.invariant _ c.in-Some.is _ c.catch_up-self-inside.ensures c.if-stands_at.ensures _ c.self.view_is
+pub returns-then-stands_at-clause-met : goal.returns-then-stands_at-clause-met
+returns-then-stands_at-clause-met c = step_met _ _ _ _ _ c.self.invariant _ c.in-Some.is _ c.catch_up-self-inside.ensures c.if-stands_at.ensures _ c.self.view_is
 
 pub invariant_of-self-then-not-admit : goal.invariant_of-self-then-not-admit
 invariant_of-self-then-not-admit c = stays _ _ _ _ _ c.self.invariant _ c.in-Some.is _ c.catch_up-self-inside.ensures c.if-stands_at.ensures _ c.if-not-admit.ensures
 
-pub returns-then-not-admit-clause-step : goal.returns-then-not-admit-clause-step
-returns-then-not-admit-clause-step c = step_refused _ _ _ _ _ c.self.invariant _ c.in-Some.is _ c.catch_up-self-inside.ensures c.if-stands_at.ensures _ c.if-not-admit.ensures _ c.self.view_is
+pub returns-then-not-admit-clause-met : goal.returns-then-not-admit-clause-met
+returns-then-not-admit-clause-met c = step_refused _ _ _ _ _ c.self.invariant _ c.in-Some.is _ c.catch_up-self-inside.ensures c.if-stands_at.ensures _ c.if-not-admit.ensures _ c.self.view_is
 
 pub invariant_of-self-2 : goal.invariant_of-self-2
 invariant_of-self-2 c =
@@ -30,8 +30,8 @@ invariant_of-self-2 c =
     ] in
     goes_on _ _ _ _ _ c.self.invariant _ c.in-Some.is _ c.catch_up-self-inside.ensures c.if-stands_at.ensures _ c.if-not-admit.ensures e x.0 x.1 _ at
 
-pub returns-clause-step : goal.returns-clause-step
-returns-clause-step c =
+pub returns-clause-met : goal.returns-clause-met
+returns-clause-met c =
     let x = c.in-Some-header_at.ensures in
     let e = c.in-Some-header_at.entry in
     let at : c.if-entry.self ≡ (if e.last then None else Some (next e.header)) = elim c.if-entry.branch [

@@ -4,10 +4,10 @@ use Rattle.dm_gdb.specs.Servers.{Served, has_passed, goes_back, with_past}
 use Rattle.dm_gdb.proofs.Replying.{replies_as, is_ok_true}
 use Rattle.dm_gdb.proofs.server.Server.go_back.Goals as goal
 
-pub returns-then-number-steps_of_origin-clause-ok : goal.returns-then-number-steps_of_origin-clause-ok
-returns-then-number-steps_of_origin-clause-ok c =
+pub returns-then-number-steps_of_beginning-clause-ok : goal.returns-then-number-steps_of_beginning-clause-ok
+returns-then-number-steps_of_beginning-clause-ok c =
     λ most. has_passed c.args.line.now c.args.number c.requires.line
-    (subst (λ (k : ℕ). c.args.number < k) (c.steps_of_origin.ensures ∙ ap (λ (s : Served). s.history.origin.steps) c.self.view_is) c.if-number-steps_of_origin.true)
+    (subst (λ (k : ℕ). c.args.number < k) (c.steps_of_beginning.ensures ∙ ap (λ (s : Served). s.history.beginning.steps) c.self.view_is) c.if-number-steps_of_beginning.true)
 
 pub returns-then-branch-clause-ok : goal.returns-then-branch-clause-ok
 returns-then-branch-clause-ok c =

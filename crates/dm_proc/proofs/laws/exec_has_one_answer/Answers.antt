@@ -1,5 +1,0 @@
-use Rattle.dm_proc.proofs.OneAnswer.{exec_unique}
-use Rattle.dm_proc.proofs.laws.exec_has_one_answer.Goals as goal
-
-pub returns : goal.returns
-returns c = exec_unique

@@ -1,5 +1,0 @@
-use Rattle.dm_proc.proofs.OneAnswer.{keeping_unique}
-use Rattle.dm_proc.proofs.laws.keeping_has_one_answer.Goals as goal
-
-pub returns : goal.returns
-returns c = keeping_unique

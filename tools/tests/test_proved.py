@@ -1,0 +1,50 @@
+"""Tests of `proved`: each name of docs/proved.md that its row's crate does not have is reported. From the top:
+`python3 -m unittest discover -s tools/tests`."""
+import os
+import sys
+import unittest
+from unittest import mock
+
+ROOT = os.path.dirname(os.path.dirname(os.path.dirname(os.path.abspath(__file__))))
+sys.path.insert(0, f"{ROOT}/tools")
+import proved  # noqa: E402
+import specs  # noqa: E402
+
+# Names in the row of a crate or a module, and words of the fault, or None where there is none.
+ROWS = (
+    ("`dm_reports`", "`put_report`, `put_not_listed`", None),
+    # (It stands in another crate.)
+    ("`dm_reports`", "`put_pages`", "dm_reports has no public `put_pages`"),
+    ("`dm_views`", "`put_pages`, a law", None),
+    # (It is private.)
+    ("`dm_reports`", "`put_left_out`", "dm_reports has no public `put_left_out`"),
+    ("`dm_machine`", "`Machine::run`, `load`", None),
+    ("`dm_machine`", "`Session::run`", "dm_machine has no public `Session::run`"),
+    ("`dm_cpu`", "`operands::value`, `Destination` and each type that has it", None),
+    ("`dm_findings::processes`", "`end_innermost`", None),
+    ("`dm_findings::processes`", "`Report::new`", "dm_findings::processes has no public `Report::new`"),
+    ("`dm_laws::instructions`", "a law of the definitions `effect` and `dm_alu`", None),
+    ("`dm_laws::instructions`", "a law of the definition `no_effect`", "no definition `no_effect`"),
+    ("`dm_c_new`, `dm_c_free`", "`Makes`", None),
+    ("`dm_c_new`, `dm_c_lose`", "`Makes`", "dm_c has no public `dm_c_lose`"),
+    ("`dm_c_new`", "`IsReport`", "dm_c has no definition `IsReport`"),
+)
+
+
+class Names(unittest.TestCase):
+    def test_the_page_has_no_others(self):
+        self.assertEqual([*proved.faults(specs.known())], [])
+
+    def test_each_other_is_reported(self):
+        for call, names, words in ROWS:
+            is_export = call.startswith("`dm_c_")
+            row = f"| {call} | {names} | says |\n" if is_export else f"| {call} | says `this` | {names} |\n"
+            real = specs.text_of
+            with self.subTest(row=row), mock.patch.object(specs, "text_of", lambda path, row=row: row if path == proved.PAGE else real(path)):
+                found = [*proved.faults(specs.known())]
+                self.assertEqual(len(found), 0 if words is None else 1, found)
+                self.assertIn(words or "", " ".join(found))
+
+
+if __name__ == "__main__":
+    unittest.main()
