@@ -19,7 +19,12 @@ fn room_is_taken_byte_by_byte(rt: HostRuntime) -> Result<(), Fail> {
     same(&rt, "output", console.output(), b"h".as_slice());
     same(&rt, "input left", console.left(), 1);
     same(&rt, "reserved", console.reserve_within_capacity(1), true);
-    same(&rt, "reserved", console.reserve_within_capacity(1 << 40), false);
+    same(
+        &rt,
+        "reserved",
+        console.reserve_within_capacity(1 << 40),
+        false,
+    );
     same(&rt, "put", console.put_within_capacity(b'i'), true);
     same(&rt, "room", console.room(), 0);
     same(&rt, "output", console.output(), b"hi".as_slice());
