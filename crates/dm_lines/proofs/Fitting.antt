@@ -28,7 +28,7 @@ use Rattle.dm_lines.specs.declared.statement.Instruction.{Instruction}
 use Rattle.dm_lines.specs.Words.{reserved}
 use Rattle.dm_lines.specs.inner.Words.{all_words, spelling_of, meaning_of, keyword_token}
 use Rattle.dm_lines.proofs.Rows.{reserved_is}
-use Rattle.dm_lines.specs.Tokens.{uppercase, is_word_byte, digit_of, magnitude_of, number_of, padded_of, or_name, word_token, closed, joined_to, then_list, marked, inside_quotes, lexed, tokens_of}
+use Rattle.dm_lines.specs.Tokens.{uppercase, is_word_byte, digit_of, magnitude_of, number_of, padded_of, or_name, word_token, closed, joined_to, then_list, sign_tokens, inside_quotes, lexed, tokens_of}
 use Rattle.dm_lines.specs.Operands.{minus, amount_of, added_of, parsed_value, amount_word, base_at, based, onto, is_close, inside, memory_of, far_pointer, term_from_number, term_of, begin, is_comma, parts, term_pair, terms_of}
 use Rattle.dm_lines.specs.Statements as line
 use Rattle.dm_lines.specs.Statements.{Item, Statement, instruction, list_of_one, letters, bytes_item, word_items, mnemonic_at, prefixed, exchanges, is_memory, with_terms, operated, after_prefixes, instruction_of, item_of, statement_of, line_statement}
@@ -126,8 +126,8 @@ sign_fits : (c : Bool) (x : Token) (r : Option (List Token)) → TokenFits x →
 sign_fits true x r h k = (h, tt)
 sign_fits false x r h k = k
 
-marked_fits : (b : ℕ) → Holds TokensFit (marked b)
-marked_fits b =
+sign_tokens_fit : (b : ℕ) → Holds TokensFit (sign_tokens b)
+sign_tokens_fit b =
     either_holds TokensFit _ (Some []) _ tt
     (sign_fits (b == 39) t.Quote _ tt (sign_fits (b == 43) t.Plus _ tt (sign_fits (b == 44) t.Comma _ tt (sign_fits (b == 45) t.Minus _ tt
     (sign_fits (b == 58) t.Colon _ tt (sign_fits (b == 91) t.Open _ tt (sign_fits (b == 93) t.Close None tt tt)))))))
@@ -146,7 +146,7 @@ lexed_fits false w [] h = closed_fits w
 lexed_fits false w (b ∷ bs) h =
     either_holds TokensFit (is_word_byte b) _ _ (lexed_fits false (w ++ uppercase b ∷ []) bs h.1)
     (either_holds TokensFit (b == 59) _ _ (closed_fits w)
-    (tokens_then (closed w) (then_list (marked b) (lexed (b == 39) [] bs)) (closed_fits w) (tokens_then (marked b) (lexed (b == 39) [] bs) (marked_fits b) (lexed_fits (b == 39) [] bs h.1))))
+    (tokens_then (closed w) (then_list (sign_tokens b) (lexed (b == 39) [] bs)) (closed_fits w) (tokens_then (sign_tokens b) (lexed (b == 39) [] bs) (sign_tokens_fit b) (lexed_fits (b == 39) [] bs h.1))))
 
 -- ---- operands
 

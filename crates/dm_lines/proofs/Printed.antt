@@ -8,7 +8,7 @@ use borrow.Author.Count.{below_none, below_more}
 use Rattle.dm_decode.specs.Pieces.{Piece, name, byte, word, sign, digit, byte_in_text, word_in_text, text_bytes, is_in_names, is_mark, parted}
 use Rattle.dm_lines.specs.declared.token.Token.{Token}
 use Rattle.dm_lines.specs.declared.token.Token.TheVariants as t
-use Rattle.dm_lines.specs.Tokens.{uppercase, is_word_byte, digit_of, magnitude_of, word_token, closed, joined_to, then_list, marked, lexed, tokens_of}
+use Rattle.dm_lines.specs.Tokens.{uppercase, is_word_byte, digit_of, magnitude_of, word_token, closed, joined_to, then_list, sign_tokens, lexed, tokens_of}
 use Rattle.dm_lines.specs.Laws.{all_tokens, AllFit, IsComment, PiecesAreRead}
 
 both_true : (a b : Bool) → (a && b) ≡ true → (a ≡ true) × (b ≡ true)
@@ -76,7 +76,7 @@ is_sign b = either _ (b == 93) (either _ (b == 91) (either _ (b == 58) (either _
     (sign_of b 91 (record { no_word = refl; no_end = refl; no_quote = refl })))
     (sign_of b 93 (record { no_word = refl; no_end = refl; no_quote = refl }))
 
-sign_read : (v : List ℕ) (b : ℕ) (bs : List ℕ) → IsSign b → lexed false v (b ∷ bs) ≡ then_list (closed v) (then_list (marked b) (lexed false [] bs))
+sign_read : (v : List ℕ) (b : ℕ) (bs : List ℕ) → IsSign b → lexed false v (b ∷ bs) ≡ then_list (closed v) (then_list (sign_tokens b) (lexed false [] bs))
 sign_read v b bs s = rw (s.no_word, s.no_end, s.no_quote) refl
 
 -- ---- numbers
@@ -184,10 +184,10 @@ module _ (comment : List ℕ) (is_comment : IsComment comment) where
       number_read (word_in_text n) n ps i (reads (map uppercase (word_in_text n)) ps (subst (λ (z : Bool). parted z ps ≡ true) (sym i.begun) h) f.1)
   reads [] (sign b ∷ ps) h f =
       let x = both_true (is_mark b) (parted false ps) h in
-      sign_read [] b (text_bytes ps ++ comment) (is_sign b x.0) ∙ ap (λ (z : Option (List Token)). then_list (Some []) (then_list (marked b) z)) (reads [] ps x.1 f.1 ∙ none_before (all_tokens ps))
+      sign_read [] b (text_bytes ps ++ comment) (is_sign b x.0) ∙ ap (λ (z : Option (List Token)). then_list (Some []) (then_list (sign_tokens b) z)) (reads [] ps x.1 f.1 ∙ none_before (all_tokens ps))
   reads (c ∷ v) (sign b ∷ ps) h f =
       let x = both_true (is_mark b) (parted false ps) h in
-      sign_read (c ∷ v) b (text_bytes ps ++ comment) (is_sign b x.0) ∙ ap (λ (z : Option (List Token)). then_list (closed (c ∷ v)) (then_list (marked b) z)) (reads [] ps x.1 f.1 ∙ none_before (all_tokens ps))
+      sign_read (c ∷ v) b (text_bytes ps ++ comment) (is_sign b x.0) ∙ ap (λ (z : Option (List Token)). then_list (closed (c ∷ v)) (then_list (sign_tokens b) z)) (reads [] ps x.1 f.1 ∙ none_before (all_tokens ps))
 
 pub pieces_are_read : PiecesAreRead
 unfolding tokens_of Reads is_begun

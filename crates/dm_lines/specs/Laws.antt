@@ -21,7 +21,7 @@ use Rattle.dm_lines.specs.Own.{own_term, own_statement}
 use Rattle.dm_decode.specs.Pieces.{Piece, name, byte, word, sign, byte_in_text, text_bytes, parted}
 use Rattle.dm_lines.specs.declared.token.Token.{Token}
 use Rattle.dm_lines.specs.declared.token.Token.TheVariants as t
-use Rattle.dm_lines.specs.Tokens.{closed, then_list, marked, tokens_of}
+use Rattle.dm_lines.specs.Tokens.{closed, then_list, sign_tokens, tokens_of}
 
 -- ---- pieces of text
 
@@ -31,7 +31,7 @@ abbrev pub piece_tokens : Piece → Option (List Token)
 piece_tokens (name w) = closed w
 piece_tokens (byte n) = Some (t.Number n ∷ [])
 piece_tokens (word n) = Some (t.Number n ∷ [])
-piece_tokens (sign b) = marked b
+piece_tokens (sign b) = sign_tokens b
 
 -- the tokens of the pieces, one after the other; None if a piece has no tokens
 abbrev pub all_tokens : List Piece → Option (List Token)

@@ -73,8 +73,8 @@ then_list None r = None
 then_list (Some xs) r = joined_to xs r
 
 -- the token of a byte between words: none for a tab or a space, else that of a sign; None for another byte
-abbrev pub marked : ℕ → Option (List Token)
-marked b =
+abbrev pub sign_tokens : ℕ → Option (List Token)
+sign_tokens b =
     if b == 9 || b == 32 then Some []
     else if b == 39 then Some (Quote ∷ [])
     else if b == 43 then Some (Plus ∷ [])
@@ -98,7 +98,7 @@ lexed false w [] = closed w
 lexed false w (b ∷ bs) =
     if is_word_byte b then lexed false (w ++ uppercase b ∷ []) bs
     else if b == 59 then closed w
-    else then_list (closed w) (then_list (marked b) (lexed (b == 39) [] bs))
+    else then_list (closed w) (then_list (sign_tokens b) (lexed (b == 39) [] bs))
 
 -- the tokens of a line up to its comment; None if a byte or a word is no token, or a quoted text does not end
 unfoldable pub tokens_of : List ℕ → Option (List Token)

@@ -3,7 +3,7 @@
 
 ghost use Rattle.std.specs.Prelude.{◌≡◌, ◌<◌, ◌≤◌, ◌+◌, length, option_map, IfSome, drop, replicate, ◌++◌, []};
 ghost use Rattle.arrayvec.specs.ArrayVec.{array_vec_len};
-ghost use Rattle.dm_lines.specs.Tokens.{uppercase, is_word_byte, digit_of, magnitude_of, number_of, word_token, closed, joined_to, marked, inside_quotes, lexed, tokens_of};
+ghost use Rattle.dm_lines.specs.Tokens.{uppercase, is_word_byte, digit_of, magnitude_of, number_of, word_token, closed, joined_to, sign_tokens, inside_quotes, lexed, tokens_of};
 
 use crate::token::{Name, Token};
 use crate::words::reserved_token;
@@ -128,9 +128,9 @@ fn close(tokens: &mut Tokens, word: &mut Letters) -> Option<()>
 
 /// Appends the token of a byte between words to `tokens`; nothing for a tab or a space. None for a byte that is no
 /// sign; then `tokens` stays.
-fn mark(tokens: &mut Tokens, byte: u8) -> Option<()>
+fn push_sign(tokens: &mut Tokens, byte: u8) -> Option<()>
     requires { array_vec_len tokens.old < 255 }
-    ensures items { option_map (λ _. tokens.new.items) result ≡ joined_to tokens.old.items (marked byte) }
+    ensures items { option_map (λ _. tokens.new.items) result ≡ joined_to tokens.old.items (sign_tokens byte) }
     ensures len { IfSome result (λ _. array_vec_len tokens.new ≤ array_vec_len tokens.old + 1) }
 {
     match byte {
@@ -182,7 +182,7 @@ pub(crate) fn put_tokens(tokens: &mut Tokens, line: &[u8]) -> Option<()>
             break;
         }
         close(tokens, &mut word)?;
-        mark(tokens, *byte)?;
+        push_sign(tokens, *byte)?;
         quoted = *byte == b'\'';
     }
     if quoted {

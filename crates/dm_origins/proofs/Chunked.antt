@@ -53,43 +53,43 @@ out_of_chunk c p e same =
     let inside : within (c * 256) (c * 256 + 256) p ≡ true = grind (arith, nat_tests) in
     cc
 
--- the mark of a paragraph's chunk, after a mark is set
-mark_in : (ms : List Step) (c p : ℕ) (m : Step) → c < length ms → within (c * 256) (c * 256 + 256) p ≡ true → get_or (set ms c m) (p / 256) None ≡ m
-mark_in ms c p m fits e = ap (λ (i : ℕ). get_or (set ms c m) i None) (in_chunk c (c * 256) (c * 256 + 256) p (omega arith) (omega arith) e) ∙ get_or-set_same ms c m None fits
+-- what is kept of a paragraph's whole chunk, after that is set
+whole_in : (ms : List Step) (c p : ℕ) (m : Step) → c < length ms → within (c * 256) (c * 256 + 256) p ≡ true → get_or (set ms c m) (p / 256) None ≡ m
+whole_in ms c p m fits e = ap (λ (i : ℕ). get_or (set ms c m) i None) (in_chunk c (c * 256) (c * 256 + 256) p (omega arith) (omega arith) e) ∙ get_or-set_same ms c m None fits
 
-mark_out : (ms : List Step) (c p : ℕ) (m : Step) → within (c * 256) (c * 256 + 256) p ≡ false → get_or (set ms c m) (p / 256) None ≡ get_or ms (p / 256) None
-mark_out ms c p m e = get_or-set_other ms c (p / 256) m None (out_of_chunk c p e)
+whole_out : (ms : List Step) (c p : ℕ) (m : Step) → within (c * 256) (c * 256 + 256) p ≡ false → get_or (set ms c m) (p / 256) None ≡ get_or ms (p / 256) None
+whole_out ms c p m e = get_or-set_other ms c (p / 256) m None (out_of_chunk c p e)
 
--- ---- a chunk that is marked
+-- ---- a chunk that is freed as a whole
 
-marked_case : (w : Bool) (m n x : Step) (o : Origin) → (w ≡ true → n ≡ Some o) → (w ≡ false → n ≡ m) → option_or n x ≡ (if w then Some o else option_or m x)
-marked_case true m n x o in_ out = ap (λ (y : Step). option_or y x) (in_ refl)
-marked_case false m n x o in_ out = ap (λ (y : Step). option_or y x) (out refl)
+whole_case : (w : Bool) (m n x : Step) (o : Origin) → (w ≡ true → n ≡ Some o) → (w ≡ false → n ≡ m) → option_or n x ≡ (if w then Some o else option_or m x)
+whole_case true m n x o in_ out = ap (λ (y : Step). option_or y x) (in_ refl)
+whole_case false m n x o in_ out = ap (λ (y : Step). option_or y x) (out refl)
 
-marked : (ms ps : List Step) (c : ℕ) (o : Origin) → c < length ms → Frees (within (c * 256) (c * 256 + 256)) o (freed_by ms ps) (freed_by (set ms c (Some o)) ps)
-marked ms ps c o fits = record {
+whole_freed : (ms ps : List Step) (c : ℕ) (o : Origin) → c < length ms → Frees (within (c * 256) (c * 256 + 256)) o (freed_by ms ps) (freed_by (set ms c (Some o)) ps)
+whole_freed ms ps c o fits = record {
   count = length-freed_by (set ms c (Some o)) ps ∙ sym (length-freed_by ms ps);
   at = λ p less.
       let inside : p < length ps = omega (arith, less, length-freed_by ms ps) in
       let w = within (c * 256) (c * 256 + 256) p in
       at-freed_by (set ms c (Some o)) ps p inside
-      ∙ marked_case w (get_or ms (p / 256) None) (get_or (set ms c (Some o)) (p / 256) None) (get_or ps p None) o (mark_in ms c p (Some o) fits) (mark_out ms c p (Some o))
+      ∙ whole_case w (get_or ms (p / 256) None) (get_or (set ms c (Some o)) (p / 256) None) (get_or ps p None) o (whole_in ms c p (Some o) fits) (whole_out ms c p (Some o))
       ∙ ap (λ (x : Step). if w then Some o else x) (sym (at-freed_by ms ps p inside));
 }
 
-pub marked_all : (ms ps : List Step) (c first end : ℕ) (o : Origin) → c < length ms → first ≡ c * 256 → end ≡ c * 256 + 256 → Frees (within first end) o (freed_by ms ps) (freed_by (set ms c (Some o)) ps)
-marked_all ms ps c first end o fits from to =
+pub whole_set : (ms ps : List Step) (c first end : ℕ) (o : Origin) → c < length ms → first ≡ c * 256 → end ≡ c * 256 + 256 → Frees (within first end) o (freed_by ms ps) (freed_by (set ms c (Some o)) ps)
+whole_set ms ps c first end o fits from to =
     let F : ℕ → ℕ → Type 0 = λ a b. Frees (within a b) o (freed_by ms ps) (freed_by (set ms c (Some o)) ps) in
-    subst (λ (a : ℕ). F a end) (sym from) (subst (λ (b : ℕ). F (c * 256) b) (sym to) (marked ms ps c o fits))
+    subst (λ (a : ℕ). F a end) (sym from) (subst (λ (b : ℕ). F (c * 256) b) (sym to) (whole_freed ms ps c o fits))
 
--- ---- a chunk whose mark is taken away
+-- ---- a whole chunk that is written to its paragraphs
 
-unmarked_case : (w : Bool) (m n x y : Step) (o : Origin) → y ≡ (if w then Some o else x) → (w ≡ true → m ≡ Some o) → (w ≡ true → n ≡ None) → (w ≡ false → n ≡ m) → option_or n y ≡ option_or m x
-unmarked_case true m n x y o e was in_ out = ap₂ (λ (a b : Step). option_or a b) (in_ refl) e ∙ ap (λ (a : Step). option_or a x) (sym (was refl))
-unmarked_case false m n x y o e was in_ out = ap₂ (λ (a b : Step). option_or a b) (out refl) e
+spread_case : (w : Bool) (m n x y : Step) (o : Origin) → y ≡ (if w then Some o else x) → (w ≡ true → m ≡ Some o) → (w ≡ true → n ≡ None) → (w ≡ false → n ≡ m) → option_or n y ≡ option_or m x
+spread_case true m n x y o e was in_ out = ap₂ (λ (a b : Step). option_or a b) (in_ refl) e ∙ ap (λ (a : Step). option_or a x) (sym (was refl))
+spread_case false m n x y o e was in_ out = ap₂ (λ (a b : Step). option_or a b) (out refl) e
 
-pub unmarked : (ms ps qs : List Step) (c : ℕ) (o : Origin) → c < length ms → get_or ms c None ≡ Some o → Frees (within (c * 256) (c * 256 + 256)) o ps qs → freed_by (set ms c None) qs ≡ freed_by ms ps
-unmarked ms ps qs c o fits was written =
+pub spread_alone : (ms ps qs : List Step) (c : ℕ) (o : Origin) → c < length ms → get_or ms c None ≡ Some o → Frees (within (c * 256) (c * 256 + 256)) o ps qs → freed_by (set ms c None) qs ≡ freed_by ms ps
+spread_alone ms ps qs c o fits was written =
     let ns : List Step = set ms c None in
     ext_get_or None (freed_by ns qs) (freed_by ms ps) (length-freed_by ns qs ∙ written.count ∙ sym (length-freed_by ms ps)) (λ p less.
     (let over : p < length qs = omega (arith, less, length-freed_by ns qs) in
@@ -97,10 +97,10 @@ unmarked ms ps qs c o fits was written =
     let w = within (c * 256) (c * 256 + 256) p in
     let here : w ≡ true → get_or ms (p / 256) None ≡ Some o = λ e. ap (λ (i : ℕ). get_or ms i None) (in_chunk c (c * 256) (c * 256 + 256) p (omega arith) (omega arith) e) ∙ was in
     at-freed_by ns qs p over
-    ∙ unmarked_case w (get_or ms (p / 256) None) (get_or ns (p / 256) None) (get_or ps p None) (get_or qs p None) o (written.at p inside) here (mark_in ms c p None fits) (mark_out ms c p None)
+    ∙ spread_case w (get_or ms (p / 256) None) (get_or ns (p / 256) None) (get_or ps p None) (get_or qs p None) o (written.at p inside) here (whole_in ms c p None fits) (whole_out ms c p None)
     ∙ sym (at-freed_by ms ps p inside)))
 
--- ---- paragraphs of a chunk that has no mark
+-- ---- paragraphs of a chunk that was not freed as a whole
 
 part_case : (w : Bool) (m x y : Step) (o : Origin) → y ≡ (if w then Some o else x) → (w ≡ true → m ≡ None) → option_or m y ≡ (if w then Some o else option_or m x)
 part_case true m x y o e none = ap₂ (λ (a b : Step). option_or a b) (none refl) e

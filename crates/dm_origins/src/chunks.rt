@@ -19,11 +19,11 @@ const CHUNKS: usize = 256;
 
 /// Of each paragraph below 10000h, the last step that freed it; None if there is none.
 ///
-/// A chunk that one step freed as a whole is marked with it: what `each` holds of its paragraphs then means nothing.
+/// Where one step freed a whole chunk, `wholes` has that step: what `each` holds of its paragraphs then means nothing.
 /// Contracts see a list with an entry for each paragraph.
 #[derive(Drop)]
 pub(crate) struct Chunks {
-    marks: Vec<Option<Origin>>,
+    wholes: Vec<Option<Origin>>,
     each: Vec<Option<Origin>>,
 }
 
@@ -34,9 +34,9 @@ impl Model for Chunks {
 
     ghost Value = { List (Option Origin) };
 
-    ghost view = { λ c. freed_by c.marks.items c.each.items };
+    ghost view = { λ c. freed_by c.wholes.items c.each.items };
 
-    ghost invariant = { λ c. (vec_len c.marks ≡ 256) × (vec_len c.each ≡ 0x10000) };
+    ghost invariant = { λ c. (vec_len c.wholes ≡ 256) × (vec_len c.each ≡ 0x10000) };
 }
 
 /// A list that names no step, `count` times. An `Err` is a failed allocation.
@@ -62,41 +62,41 @@ fn write(each: &mut [Option<Origin>], first: usize, end: usize, origin: Origin)
     }
 }
 
-/// Takes the mark of a chunk away, if it has one, and writes its origin to each of the chunk's paragraphs.
-fn unmark(marks: &mut [Option<Origin>], each: &mut [Option<Origin>], chunk: usize)
-    requires marks { length marks.old ≡ 256 }
+/// Writes the step that freed a whole chunk, if there is one, to each of its paragraphs, and forgets it of the whole.
+fn spread(wholes: &mut [Option<Origin>], each: &mut [Option<Origin>], chunk: usize)
+    requires wholes { length wholes.old ≡ 256 }
     requires each { length each.old ≡ 0x10000 }
     requires chunk { chunk < 256 }
-    ensures same { freed_by marks.new each.new ≡ freed_by marks.old each.old }
-    ensures unmarked { slice_index_or marks.new chunk None ≡ None }
+    ensures same { freed_by wholes.new each.new ≡ freed_by wholes.old each.old }
+    ensures forgotten { slice_index_or wholes.new chunk None ≡ None }
 {
-    if let Some(origin) = marks[chunk] {
+    if let Some(origin) = wholes[chunk] {
         write(each, chunk * CHUNK, chunk * CHUNK + CHUNK, origin);
-        marks[chunk] = None;
+        wholes[chunk] = None;
     }
 }
 
 /// Sets the origin of the paragraphs of a chunk from `first` up to but not including `end`.
 fn set_in_chunk(
-    marks: &mut [Option<Origin>],
+    wholes: &mut [Option<Origin>],
     each: &mut [Option<Origin>],
     chunk: usize,
     first: usize,
     end: usize,
     origin: Origin,
 )
-    requires marks { length marks.old ≡ 256 }
+    requires wholes { length wholes.old ≡ 256 }
     requires each { length each.old ≡ 0x10000 }
     requires chunk { chunk < 256 }
     requires from { chunk * 256 ≤ first }
     requires order { first ≤ end }
     requires to { end ≤ chunk * 256 + 256 }
-    ensures { Frees (within first end) origin (freed_by marks.old each.old) (freed_by marks.new each.new) }
+    ensures { Frees (within first end) origin (freed_by wholes.old each.old) (freed_by wholes.new each.new) }
 {
     if end - first == CHUNK {
-        marks[chunk] = Some(origin);
+        wholes[chunk] = Some(origin);
     } else {
-        unmark(marks, each, chunk);
+        spread(wholes, each, chunk);
         write(each, first, end, origin);
     }
 }
@@ -106,9 +106,9 @@ impl Chunks {
     pub(crate) fn never_freed(alloc: Global) -> Result<Chunks, AllocError>
         ensures { IfOk result (λ chunks. chunks ≡ replicate 0x10000 None) }
     {
-        let marks = no_steps(alloc, CHUNKS)?;
+        let wholes = no_steps(alloc, CHUNKS)?;
         let each = no_steps(alloc, PARAGRAPHS)?;
-        Ok(Chunks { marks, each })
+        Ok(Chunks { wholes, each })
     }
 
     /// The last step that freed a paragraph; None if there is none.
@@ -118,7 +118,7 @@ impl Chunks {
         if paragraph >= self.each.len() {
             return None;
         }
-        self.marks[paragraph / CHUNK].or(self.each[paragraph])
+        self.wholes[paragraph / CHUNK].or(self.each[paragraph])
     }
 
     /// Sets the origin of the paragraphs from `first` up to but not including `end`.
@@ -131,7 +131,7 @@ impl Chunks {
         while at < end {
             let chunk = at / CHUNK;
             let next = end.min(chunk * CHUNK + CHUNK);
-            set_in_chunk(&mut self.marks, &mut self.each, chunk, at, next, origin);
+            set_in_chunk(&mut self.wholes, &mut self.each, chunk, at, next, origin);
             at = next;
         }
     }

@@ -7,10 +7,10 @@ use Rattle.dm_requests.specs.declared.request.WatchedAccess.{WatchedAccess}
 use Rattle.dm_requests.specs.declared.request.WatchedAccess.TheVariants.{Execute, Write, Read, Either}
 use Rattle.dm_requests.specs.declared.request.Point.{Point}
 
--- the bytes before the first mark, with `front` before them, and the bytes after it; None if there is no mark
+-- the bytes before the first separator, with `front` before them, and the bytes after it; None if there is no separator
 abbrev pub cut_at : ℕ → List ℕ → List ℕ → Option (List ℕ × List ℕ)
-cut_at mark front [] = None
-cut_at mark front (b ∷ bs) = if b == mark then Some (front, bs) else cut_at mark (front ++ b ∷ []) bs
+cut_at separator front [] = None
+cut_at separator front (b ∷ bs) = if b == separator then Some (front, bs) else cut_at separator (front ++ b ∷ []) bs
 
 -- two numbers with a comma between them; None for any other bytes
 abbrev pub two_numbers : List ℕ → Option (ℕ × ℕ)

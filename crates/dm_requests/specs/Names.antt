@@ -12,9 +12,9 @@ use Rattle.dm_requests.specs.Arguments.{cut_at, two_numbers}
 abbrev pub if_read : {A : Type 0} → Option A → (A → Request) → Request
 if_read read f = option_map_or f read request.Malformed
 
--- the bytes before the first mark; all of them if it is not among them
+-- the bytes before the first separator; all of them if it is not among them
 abbrev pub front_of : ℕ → List ℕ → List ℕ
-front_of mark bytes = option_map_or (λ parts. parts.0) (cut_at mark [] bytes) bytes
+front_of separator bytes = option_map_or (λ parts. parts.0) (cut_at separator [] bytes) bytes
 
 -- the query with this name, without its `q`
 abbrev pub query_named : List ℕ → Request

@@ -11,12 +11,12 @@ use crate::request::{Point, WatchedAccess};
 use hex::FromHexError;
 use std::alloc::{AllocError, Global};
 
-/// The bytes before the first `mark`, and those after it; None if it is not among them.
-pub(crate) fn cut_at(mark: u8, bytes: &[u8]) -> Option<(&[u8], &[u8])>
-    ensures { option_map (λ x. (x.0.now, x.1.now)) result ≡ cut_at mark [] bytes.now }
+/// The bytes before the first `separator`, and those after it; None if it is not among them.
+pub(crate) fn cut_at(separator: u8, bytes: &[u8]) -> Option<(&[u8], &[u8])>
+    ensures { option_map (λ x. (x.0.now, x.1.now)) result ≡ cut_at separator [] bytes.now }
 {
     for (i, byte) in bytes.iter().enumerate() {
-        if *byte == mark {
+        if *byte == separator {
             let (before, behind) = bytes.split_at(i);
             return Some((before, &behind[1..]));
         }

@@ -6,11 +6,11 @@ ghost use Rattle.dm_requests.specs.Names.{front_of, query_named, named_query, ra
 use crate::arguments::{cut_at, two_numbers};
 use crate::request::Request;
 
-/// The bytes before the first `mark`; all of them if it is not among them.
-fn front_of(mark: u8, bytes: &[u8]) -> &[u8]
-    ensures { result.now ≡ front_of mark bytes.now }
+/// The bytes before the first `separator`; all of them if it is not among them.
+fn front_of(separator: u8, bytes: &[u8]) -> &[u8]
+    ensures { result.now ≡ front_of separator bytes.now }
 {
-    match cut_at(mark, bytes) {
+    match cut_at(separator, bytes) {
         Some((front, _)) => front,
         None => bytes,
     }

@@ -8,9 +8,9 @@ invariant-loop-at l = record {
   from : l.first ≤ l.at;
   to : l.at ≤ l.end;
   most : l.end ≤ 0x10000;
-  marks : length l.self-inside.marks.items ≡ 256;
+  wholes : length l.self-inside.wholes.items ≡ 256;
   each : length l.self-inside.each.items ≡ 0x10000;
-  frees : Frees (within l.first l.at) l.origin l.fn.self (freed_by l.self-inside.marks.items l.self-inside.each.items);
+  frees : Frees (within l.first l.at) l.origin l.fn.self (freed_by l.self-inside.wholes.items l.self-inside.each.items);
 }
 
 abbrev pub decreases-loop-at : goal.decreases-loop-at

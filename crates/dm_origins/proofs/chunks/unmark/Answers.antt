@@ -1,6 +1,0 @@
-use Rattle.std.proofs.Common.{arith}
-use Rattle.dm_origins.proofs.Chunked.{unmarked}
-use Rattle.dm_origins.proofs.chunks.unmark.Goals as goal
-
-pub returns-in-Some-clause-same : goal.returns-in-Some-clause-same
-returns-in-Some-clause-same c = unmarked c.args.marks.now c.args.each.now c.write.new.each c.args.chunk c.in-Some.origin (omega arith) c.in-Some.is c.write.ensures
