@@ -433,7 +433,7 @@ fn lines_have_255_bytes(rt: HostRuntime) -> Result<(), Fail> {
 }
 
 /// A comment and a quoted text hold any byte; outside them only some bytes are allowed.
-/// Definitions: dm_lines Tokens tokens_of lexed closed marked inside_quotes
+/// Definitions: dm_lines Tokens tokens_of lexed closed sign_tokens inside_quotes
 #[test]
 fn comments_and_texts_hold_any_byte(rt: HostRuntime) -> Result<(), Fail> {
     let mut reader = Reader::new();
