@@ -31,5 +31,6 @@ pub use operation::{
 };
 pub use repetitions::repeat_together;
 pub use strings::{
-    Comparing, Loading, Moving, Scanning, Storing, StringWork, repeat_low_string, repeat_string,
+    Comparing, Loading, Moving, Scanning, Storing, StringWork, count_down, repeat_low_string,
+    repeat_string,
 };
