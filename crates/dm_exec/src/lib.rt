@@ -30,6 +30,4 @@ pub use operation::{
     TransferOperation,
 };
 pub use repetitions::repeat_together;
-pub use strings::{
-    Comparing, Loading, Moving, Scanning, Storing, StringWork, repeat_low_string, repeat_string,
-};
+pub use strings::{Comparing, Loading, Moving, Scanning, Storing, StringWork, count_down};
