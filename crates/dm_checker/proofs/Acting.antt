@@ -31,7 +31,7 @@ begins bytes o i k d e = let both = (d i k).0 e in record { short = both.0; spel
 pub instruction_acts : (b : Before) (o : Option (Ins × ℕ)) (i : Ins) (k behind : ℕ) → b.call ≡ None → Decodes b.bytes o → o ≡ Some (i, k) → behind ≡ up b.cpu.ip k → (s : State) → IsBefore s b → IsAct s (act.Instruction i behind)
 instruction_acts b o i k behind none d e is s h =
     let F : List ℕ → Type 0 = λ bytes. BeginsWith bytes i k in
-    instructed i k (sym h.call ∙ none) (subst F h.bytes (begins b.bytes o i k d e))
+    instructed i k (sym h.call ∙ none) (subst F (h.bytes none) (begins b.bytes o i k d e))
     (ap (λ (n : ℕ). act.Instruction i n) (is ∙ ap (λ (c : Cpu). up c.ip k) h.cpu))
 
 pub some_none : {A : Type 0} (a : A) → Some a ≡ None → ⊥
@@ -41,7 +41,7 @@ pub nothing_acts : (b : Before) (o : Option (Ins × ℕ)) → b.call ≡ None �
 nothing_acts b o none d e s h = record {
   call = sym h.call ∙ none;
   none = λ i k x. (let F : List ℕ → Type 0 = λ bytes. BeginsWith bytes i k in
-      let y : BeginsWith b.bytes i k = subst F (sym h.bytes) x in
+      let y : BeginsWith b.bytes i k = subst F (sym (h.bytes none)) x in
       some_none (i, k) (sym ((d i k).1 (y.short, y.spells)) ∙ e));
 }
 
@@ -52,11 +52,11 @@ called_next b call e s h = no_instruction (λ i k none x. some_none call (sym e 
 
 pub decoded_next : (b : Before) (o : Option (Ins × ℕ)) → b.call ≡ None → Decodes b.bytes o → (s : State) → IsBefore s b → IsNextAct s o
 decoded_next b None none d s h = no_instruction (λ i k e x. (let F : List ℕ → Type 0 = λ bytes. BeginsWith bytes i k in
-    let y : BeginsWith b.bytes i k = subst F (sym h.bytes) x in
+    let y : BeginsWith b.bytes i k = subst F (sym (h.bytes none)) x in
     some_none (i, k) (sym ((d i k).1 (y.short, y.spells)))))
 decoded_next b (Some (i, k)) none d s h =
     let F : List ℕ → Type 0 = λ bytes. BeginsWith bytes i k in
-    an_instruction i k (sym h.call ∙ none) (subst F h.bytes (begins b.bytes (Some (i, k)) i k d refl))
+    an_instruction i k (sym h.call ∙ none) (subst F (h.bytes none) (begins b.bytes (Some (i, k)) i k d refl))
 
 -- ---- steps in which nothing acts
 

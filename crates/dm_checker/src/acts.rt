@@ -1,6 +1,6 @@
 //! What a step performs: a call of a service or driver, or an instruction.
 
-ghost use Rattle.std.specs.Prelude.{◌≡◌, ◌+◌, ◌∷◌, [], map, MatchOption};
+ghost use Rattle.std.specs.Prelude.{◌≡◌, ◌+◌, ◌∷◌, [], map, MatchOption, None};
 ghost use Rattle.dm_space.specs.EightBytes.{byte_after};
 ghost use Rattle.dm_machine.specs.Step.{fetched};
 ghost use Rattle.dm_services.specs.state.State.{State};
@@ -14,7 +14,7 @@ use dm_machine::Machine;
 use dm_space::Space;
 
 /// What the checker keeps of the state before a step: the registers, A20, the present process, the call that the step
-/// performs, if any, where in its code the program performs it, and the sixteen bytes from CS:IP on.
+/// performs, if any, where in its code the program performs it, and, without a call, the sixteen bytes from CS:IP on.
 #[derive(Clone, Copy)]
 pub(crate) struct Before {
     pub(crate) cpu: Cpu,
@@ -55,6 +55,18 @@ fn fetch(cpu: &Cpu, space: &Space) -> [u8; 16]
     [a, b, c, d, e, f, g, h, i, j, k, l, m, n, o, p]
 }
 
+/// The sixteen bytes from CS:IP on if the step performs no call. (With one they are not looked at, and would be read
+/// from the ROM, one by one.)
+#[inline(always)]
+fn fetch_unless(call: Option<Call>, cpu: &Cpu, space: &Space) -> [u8; 16]
+    ensures { call ≡ None → result ≡ fetched space.now.memory cpu.now }
+{
+    match call {
+        Some(_) => [0; 16],
+        None => fetch(cpu, space),
+    }
+}
+
 impl Before {
     /// What the checker keeps of a machine before its next step.
     pub(crate) fn of(machine: &Machine) -> Before
@@ -69,7 +81,7 @@ impl Before {
             present: machine.present(),
             call,
             site: site_of(&cpu, space, call),
-            bytes: fetch(&cpu, space),
+            bytes: fetch_unless(call, &cpu, space),
         }
     }
 

@@ -25,14 +25,14 @@ use Rattle.dm_checker.specs.Watching.{IsWatch}
 use Rattle.dm_checker.specs.inner.Watching.{shown_of}
 
 -- b is what the checker keeps of the state s before a step: the registers, A20, the present process, the call, where in
--- its code the program performs it, and the bytes at CS:IP
+-- its code the program performs it, and, if there is no call, the bytes at CS:IP
 pub record IsBefore (s : State) (b : Before) : Type 0 where
   pub cpu : b.cpu ≡ s.cpu
   pub a20 : b.a20 ≡ s.memory.a20
   pub present : b.present ≡ s.processes.present
   pub call : b.call ≡ call_of s.cpu
   pub site : b.site ≡ site_of s.memory s.cpu
-  pub bytes : b.bytes ≡ fetched s.memory s.cpu
+  pub bytes : b.call ≡ None → b.bytes ≡ fetched s.memory s.cpu
 
 -- the step from s performs no call, and the bytes at CS:IP are no instruction
 pub record IsUnlisted (s : State) : Type 0 where
