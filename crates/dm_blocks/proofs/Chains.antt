@@ -85,6 +85,6 @@ clear_map S T L map c = record {
   apart = λ h g w v e. c.apart h g w v (sym (map _) ∙ e ∙ map _);
 }
 
-pub mark-signature : (last : Bool) (K : List Header) → last ≡ is_nil K → signature_byte last ≡ signature K
-mark-signature last [] e = ap signature_byte e
-mark-signature last (c ∷ K) e = ap signature_byte e
+pub last-signature : (last : Bool) (K : List Header) → last ≡ is_nil K → signature_byte last ≡ signature K
+last-signature last [] e = ap signature_byte e
+last-signature last (c ∷ K) e = ap signature_byte e

@@ -4,7 +4,7 @@ pub mod Words
 pub mod Chains
 pub mod Places
 pub mod Stands
-pub mod Marking
+pub mod Occupying
 pub mod Finding
 pub mod Unique
 pub mod Cursors

@@ -11,7 +11,7 @@ use Rattle.dm_blocks.specs.Listing.{Follows, Leads, LeadsOn, StandsAfter}
 use Rattle.dm_blocks.specs.Reading.{IsEntryAt}
 use Rattle.dm_blocks.specs.inner.Low.{IsUpTo}
 use Rattle.dm_blocks.specs.inner.Standing.{MayStand}
-use Rattle.dm_blocks.proofs.Marking.{low-marked}
+use Rattle.dm_blocks.proofs.Occupying.{low-occupied}
 use Rattle.dm_blocks.proofs.Stands.{low-stands}
 use Rattle.dm_blocks.proofs.Walks.{path-more, path-below, told, closes, bad-header, no_arena}
 
@@ -19,11 +19,11 @@ use Rattle.dm_blocks.proofs.Walks.{path-more, path-below, told, closes, bad-head
 pub at-first : (S : Memory) → IsUpTo S [] first_header
 at-first S = record {
   leads = record { path = refl; clear = record { writable = λ h w. absurd w; apart = λ h g w. absurd w }; apart = λ g w v. w };
-  unmarked = λ marks a. a;
+  unoccupied = λ occupied a. a;
 }
 
-header-mark : (S : Memory) (b : Header) (m n : ℕ) → m ≡ n → IsHeader S b m → IsHeader S b n
-header-mark S b m n e x = let F : ℕ → Type 0 = λ v. IsHeader S b v in subst F e x
+header-signed : (S : Memory) (b : Header) (m n : ℕ) → m ≡ n → IsHeader S b m → IsHeader S b n
+header-signed S b m n e x = let F : ℕ → Type 0 = λ v. IsHeader S b v in subst F e x
 
 -- the headers P lead to segment t below C000h
 module _ (S : Memory) (P : List Header) (t : ℕ) (u : IsUpTo S P t) where
@@ -48,11 +48,11 @@ module _ (S : Memory) (P : List Header) (t : ℕ) (u : IsUpTo S P t) where
       P ++ e.header ∷ [],
       record {
         leads = record {
-          path = path-more S 0x100 P t e.header u.leads.path at (header-mark S e.header _ _ (ap signature_byte last) x);
+          path = path-more S 0x100 P t e.header u.leads.path at (header-signed S e.header _ _ (ap signature_byte last) x);
           clear = follows.clear;
           apart = follows.apart;
         };
-        unmarked = λ marks a. low-marked S P marks t (16 * t) (u.unmarked marks a) ram e.header at;
+        unoccupied = λ occupied a. low-occupied S P occupied t (16 * t) (u.unoccupied occupied a) ram e.header at;
       },
     )
 
@@ -73,7 +73,7 @@ module _ (S : Memory) (P : List Header) (t : ℕ) (u : Leads S [] first_header P
   stands-by false l = (
     P ++ e.header ∷ [],
     record {
-      path = path-more S 0x100 P t e.header u.path at (header-mark S e.header _ _ (ap signature_byte l) x);
+      path = path-more S 0x100 P t e.header u.path at (header-signed S e.header _ _ (ap signature_byte l) x);
       clear = after.clear;
       apart = after.apart;
     },

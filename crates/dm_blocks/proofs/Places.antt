@@ -5,7 +5,7 @@ use Rattle.std.specs.Prelude.{if◌then◌else◌, slice_index_or}
 use Rattle.dm_space.specs.declared.place.Place.{Place}
 use Rattle.dm_space.specs.declared.place.Place.TheVariants.{Low, Page, Rom, Nothing}
 use Rattle.dm_space.specs.Memory.{Memory, place, shown}
-use Rattle.dm_blocks.specs.inner.Marks.{is_shown, first_showing, slot}
+use Rattle.dm_blocks.specs.inner.Occupied.{is_shown, first_showing, frame_paragraph}
 
 bool_cases : (b : Bool) → (b ≡ true) ⊎ (b ≡ false)
 bool_cases true = inl refl
@@ -148,9 +148,9 @@ first-at (w ∷ ws) (suc i) b e = elim (bool_cases (is_shown w b)) [
       record { shows = subst F (sym z) r.shows; below = omega arith })
 ]
 
--- the marks of pages at paragraphs
-pub slot-small : (m : Memory) (b k : ℕ) → IsFramed m b k → slot m b k < 0x1000
-slot-small m b k f =
+-- the paragraphs of pages in the frame
+pub paragraph-small : (m : Memory) (b k : ℕ) → IsFramed m b k → frame_paragraph m b k < 0x1000
+paragraph-small m b k f =
     let r = first-at m.windows f.window b f.shows in
     let below = r.below in
     let small = f.small in
@@ -163,8 +163,8 @@ sixteenths a b k l u v e = omega arith
 offsets : (a b k l : ℕ) → k % 16 ≡ 0 → l % 16 ≡ 0 → a ≡ b → 0x400 * a + k / 16 ≡ 0x400 * b + l / 16 → k ≡ l
 offsets a b k l u v s e = omega arith
 
-pub slot-apart : (m : Memory) (b k c l : ℕ) → IsFramed m b k → IsFramed m c l → slot m b k ≡ slot m c l → Page b k ≡ Page c l
-slot-apart m b k c l f g e =
+pub paragraph-apart : (m : Memory) (b k c l : ℕ) → IsFramed m b k → IsFramed m c l → frame_paragraph m b k ≡ frame_paragraph m c l → Page b k ≡ Page c l
+paragraph-apart m b k c l f g e =
     let r = first-at m.windows f.window b f.shows in
     let q = first-at m.windows g.window c g.shows in
     let same : first_showing m.windows b ≡ first_showing m.windows c = sixteenths _ _ k l f.within g.within e in

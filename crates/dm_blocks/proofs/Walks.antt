@@ -12,7 +12,7 @@ use Rattle.dm_blocks.specs.declared.listing.Met.{Met}
 use Rattle.dm_blocks.specs.declared.listing.Met.TheVariants.{Told, End, Destroyed}
 use Rattle.dm_blocks.specs.Listing.{Walking, Path, Leads, Follows, Closes, IsBehind, IsMet, IsMetFrom, MeetsNext, start_of}
 use Rattle.dm_blocks.proofs.Chains.{has_left, has_right, has_either, clear_within}
-use Rattle.dm_blocks.specs.inner.Marks.{AreMarked, IsMarked, IsMarkedWalk}
+use Rattle.dm_blocks.specs.inner.Occupied.{AreOccupied, FitsAt, FitsWalk}
 use Rattle.dm_blocks.specs.inner.Standing.{MayStand}
 use Rattle.dm_blocks.proofs.OneHeader.{header-unique}
 use Rattle.dm_blocks.proofs.Stands.{clear-with}
@@ -22,12 +22,12 @@ signature-append : (P Q : List Header) (b : Header) → signature (P ++ b ∷ Q)
 signature-append [] Q b = refl
 signature-append (p ∷ P) Q b = refl
 
-header-mark : (S : Memory) (b : Header) (m n : ℕ) → m ≡ n → IsHeader S b m → IsHeader S b n
-header-mark S b m n e x = let F : ℕ → Type 0 = λ v. IsHeader S b v in subst F e x
+header-signed : (S : Memory) (b : Header) (m n : ℕ) → m ≡ n → IsHeader S b m → IsHeader S b n
+header-signed S b m n e x = let F : ℕ → Type 0 = λ v. IsHeader S b v in subst F e x
 
 path-spells : (S : Memory) (h : ℕ) (P : List Header) (t : ℕ) (b : Header) → Path S h P t → b.segment ≡ t → IsHeader S b 0x5A → Spells S h (P ++ b ∷ [])
 path-spells S h [] t b p at x = (at ∙ sym p, x, tt)
-path-spells S h (q ∷ P) t b p at x = (p.0, header-mark S q _ _ (sym (signature-append P [] b)) p.1, path-spells S (next q) P t b p.2 at x)
+path-spells S h (q ∷ P) t b p at x = (p.0, header-signed S q _ _ (sym (signature-append P [] b)) p.1, path-spells S (next q) P t b p.2 at x)
 
 pub path-more : (S : Memory) (h : ℕ) (P : List Header) (t : ℕ) (b : Header) → Path S h P t → b.segment ≡ t → IsHeader S b 0x4D → Path S h (P ++ b ∷ []) (next b)
 path-more S h [] t b p at x = (at ∙ sym p, x, refl)
@@ -111,18 +111,18 @@ stood S F f P t e l x =
     }
 
 pub closes : (S : Memory) (F : List Header) (f : ℕ) (P : List Header) (t : ℕ) (e : ListedHeader) → Leads S F f P t → Follows S F P t e → Closes S F f P e
-closes S F f P t e l x last = ((nonempty P e.header [], path-spells S f P t e.header l.path x.at (header-mark S e.header _ _ (ap signature_byte last) x.header)), x.clear, x.apart)
+closes S F f P t e l x last = ((nonempty P e.header [], path-spells S f P t e.header l.path x.at (header-signed S e.header _ _ (ap signature_byte last) x.header)), x.clear, x.apart)
 
 bad-by : (S : Memory) (F P : List Header) (t : ℕ) (e : ListedHeader) (r : Bool) → e.last ≡ r → ((b : Header) (L : List Header) → b.segment ≡ t → IsHeader S b (signature L) → ⊥) → Follows S F P t e → ⊥
-bad-by S F P t e true last bad f = bad e.header [] f.at (header-mark S e.header _ _ (ap signature_byte last) f.header)
-bad-by S F P t e false last bad f = bad e.header (e.header ∷ []) f.at (header-mark S e.header _ _ (ap signature_byte last) f.header)
+bad-by S F P t e true last bad f = bad e.header [] f.at (header-signed S e.header _ _ (ap signature_byte last) f.header)
+bad-by S F P t e false last bad f = bad e.header (e.header ∷ []) f.at (header-signed S e.header _ _ (ap signature_byte last) f.header)
 
 pub bad-header : (S : Memory) (F P : List Header) (t : ℕ) (e : ListedHeader) → ((b : Header) (L : List Header) → b.segment ≡ t → IsHeader S b (signature L) → ⊥) → Follows S F P t e → ⊥
 bad-header S F P t e bad f = bad-by S F P t e _ refl bad f
 
-mark-nil : (K : List Header) → signature_byte (is_nil K) ≡ signature K
-mark-nil [] = refl
-mark-nil (c ∷ K) = refl
+nil-signature : (K : List Header) → signature_byte (is_nil K) ≡ signature K
+nil-signature [] = refl
+nil-signature (c ∷ K) = refl
 
 follows-of : (S : Memory) (F P : List Header) (t : ℕ) (L K : List Header) → IsClear S (F ++ L) → AreApart F L → L ≡ P ++ K → IsNonEmpty K → Spells S t K → (e : ListedHeader) × Follows S F P t e
 follows-of S F P t L [] c d is n s = absurd n
@@ -134,7 +134,7 @@ follows-of S F P t L (k ∷ K) c d is n s =
       record { header = k; last = is_nil K },
       record {
         at = s.0;
-        header = header-mark S k _ _ (sym (mark-nil K)) s.1;
+        header = header-signed S k _ _ (sym (nil-signature K)) s.1;
         clear = clear_within S (F ++ L) _ (λ g w. elim (has_either F (P ++ k ∷ []) g w) [ inl i ↦ has_left F L g i | inr r ↦ has_right F L g (within g r) ]) c;
         apart = λ g w v. d g w (within g v);
       },
@@ -147,21 +147,21 @@ no_arena S F f P t l bad L a =
     let x = follows-of S F P t L r.0 a.1 a.2 r.1 r.2 r.3 in
     bad x.0 x.1
 
-marked_on : (m : Memory) (F P : List Header) (b : Header) (marks : List Bool) → AreMarked m ((F ++ P) ++ b ∷ []) marks → AreMarked m (F ++ (P ++ b ∷ [])) marks
-marked_on m F P b marks a = (let G : List Header → Type 0 = λ X. AreMarked m X marks in subst G (append_assoc F P (b ∷ [])) a)
+occupied_on : (m : Memory) (F P : List Header) (b : Header) (occupied : List Bool) → AreOccupied m ((F ++ P) ++ b ∷ []) occupied → AreOccupied m (F ++ (P ++ b ∷ [])) occupied
+occupied_on m F P b occupied a = (let G : List Header → Type 0 = λ X. AreOccupied m X occupied in subst G (append_assoc F P (b ∷ [])) a)
 
 -- a walk that has told a header
-under_way : (m : Memory) (second : Bool) (F : List Header) → IsBehind m second F → (P : List Header) (t : ℕ) (e : ListedHeader) (cursor : Option ℕ) (new : List Bool) (r : Bool) → e.last ≡ r → Leads m F (start_of second) P t → Follows m F P t e → AreMarked m (F ++ (P ++ e.header ∷ [])) new → IsCursor m F cursor t → IsMarked m second F (if r then None else Some (next e.header)) cursor new
+under_way : (m : Memory) (second : Bool) (F : List Header) → IsBehind m second F → (P : List Header) (t : ℕ) (e : ListedHeader) (cursor : Option ℕ) (new : List Bool) (r : Bool) → e.last ≡ r → Leads m F (start_of second) P t → Follows m F P t e → AreOccupied m (F ++ (P ++ e.header ∷ [])) new → IsCursor m F cursor t → FitsAt m second F (if r then None else Some (next e.header)) cursor new
 under_way m false F b P t e cursor new true last l x a k =
     let c = closes m F 0x100 P t e l x last in
     let G : List Header → Type 0 = λ X. IsClear m (X ++ (P ++ e.header ∷ [])) in
-    let H : List Header → Type 0 = λ X. AreMarked m (X ++ (P ++ e.header ∷ [])) new in
+    let H : List Header → Type 0 = λ X. AreOccupied m (X ++ (P ++ e.header ∷ [])) new in
     (P ++ e.header ∷ [], (c.0, subst G b c.1), subst H b a)
 under_way m true F b P t e cursor new true last l x a k = tt
 under_way m second F b P t e cursor new false last l x a k = (
   P ++ e.header ∷ [],
   record {
-    path = path-more m (start_of second) P t e.header l.path x.at (header-mark m e.header _ _ (ap signature_byte last) x.header);
+    path = path-more m (start_of second) P t e.header l.path x.at (header-signed m e.header _ _ (ap signature_byte last) x.header);
     clear = x.clear;
     apart = x.apart;
   },
@@ -176,16 +176,16 @@ pub at_more : (o : Option ℕ) (e : ListedHeader) (n : ℕ) → e.last ≡ false
 at_more o e n last is n-is = rw last (is ∙ ap (λ x. Some x) n-is)
 
 -- the walk that has told all
-pub step_end : (m : Memory) (second : Bool) (o : Option ℕ) (cursor : Option ℕ) (marks : List Bool) → IsMarkedWalk (record { memory = m; second = second; at = o }) cursor marks → o ≡ None → (w : Walking) → record { memory = m; second = second; at = o } ≡ w → MeetsNext w End w.at
-step_end m second o cursor marks u none w is =
+pub step_end : (m : Memory) (second : Bool) (o : Option ℕ) (cursor : Option ℕ) (occupied : List Bool) → FitsWalk (record { memory = m; second = second; at = o }) cursor occupied → o ≡ None → (w : Walking) → record { memory = m; second = second; at = o } ≡ w → MeetsNext w End w.at
+step_end m second o cursor occupied u none w is =
     let G : Walking → Type 0 = λ y. MeetsNext y End y.at in
     let H : Option ℕ → Type 0 = λ y. MeetsNext (record { memory = m; second = second; at = y }) End y in
     subst G is (subst H (sym none) (record { front = u.0; behind = u.1; told = tt; meets = refl }))
 
 -- the walk that stands at the segment t
-module _ (m : Memory) (second : Bool) (o : Option ℕ) (cursor : Option ℕ) (marks : List Bool) (u : IsMarkedWalk (record { memory = m; second = second; at = o }) cursor marks) (t : ℕ) (there : o ≡ Some t) where
-  stands : (P : List Header) × Leads m u.0 (start_of second) P t × AreMarked m (u.0 ++ P) marks × IsCursor m u.0 cursor t
-  stands = let G : Option ℕ → Type 0 = λ x. IsMarked m second u.0 x cursor marks in subst G there u.2
+module _ (m : Memory) (second : Bool) (o : Option ℕ) (cursor : Option ℕ) (occupied : List Bool) (u : FitsWalk (record { memory = m; second = second; at = o }) cursor occupied) (t : ℕ) (there : o ≡ Some t) where
+  stands : (P : List Header) × Leads m u.0 (start_of second) P t × AreOccupied m (u.0 ++ P) occupied × IsCursor m u.0 cursor t
+  stands = let G : Option ℕ → Type 0 = λ x. FitsAt m second u.0 x cursor occupied in subst G there u.2
 
   same : (P : List Header) → Leads m u.0 (start_of second) P t → stands.0 ≡ P
   same P l = path-unique m (start_of second) stands.0 P t stands.1.path l.path
@@ -215,9 +215,9 @@ module _ (m : Memory) (second : Bool) (o : Option ℕ) (cursor : Option ℕ) (ma
     moved : IsCursor m u.0 caught t × HasCaughtUp caught t
     moved = moves u.0 stands.3
 
-    pub stays_moved : IsMarkedWalk (record { memory = m; second = second; at = o }) caught marks
+    pub stays_moved : FitsWalk (record { memory = m; second = second; at = o }) caught occupied
     stays_moved =
-        let G : Option ℕ → Type 0 = λ x. IsMarked m second u.0 x caught marks in
+        let G : Option ℕ → Type 0 = λ x. FitsAt m second u.0 x caught occupied in
         (u.0, u.1, subst G (sym there) (stands.0, stands.1, stands.2, moved.0))
 
     -- the first list has a header there
@@ -237,7 +237,7 @@ module _ (m : Memory) (second : Bool) (o : Option ℕ) (cursor : Option ℕ) (ma
       none_there w = elim (has_either u.0 stands.0 t w) [ inl i ↦ new_there i | inr i ↦ below i ]
 
       -- no header may stand there
-      module _ (new : List Bool) (refuses : (Q : List Header) → AreMarked m Q marks → (HasHeader Q t → ⊥) → (MayStand m Q t → ⊥) × (new ≡ marks)) where
+      module _ (new : List Bool) (refuses : (Q : List Header) → AreOccupied m Q occupied → (HasHeader Q t → ⊥) → (MayStand m Q t → ⊥) × (new ≡ occupied)) where
         refused : (P : List Header) → Leads m u.0 (start_of second) P t → (e : ListedHeader) → Follows m u.0 P t e → ⊥
         refused P l e x =
             let G : List Header → Type 0 = λ X. MayStand m (u.0 ++ X) t in
@@ -246,11 +246,11 @@ module _ (m : Memory) (second : Bool) (o : Option ℕ) (cursor : Option ℕ) (ma
         pub step_refused : (w : Walking) → record { memory = m; second = second; at = o } ≡ w → MeetsNext w (Destroyed t) o
         step_refused w is = steps_by w is (Destroyed t) o (refl, there, no_arena m u.0 (start_of second) stands.0 t stands.1 (refused stands.0 stands.1), refused)
 
-        pub stays : IsMarkedWalk (record { memory = m; second = second; at = o }) caught new
-        stays = let G : List Bool → Type 0 = λ x. IsMarkedWalk (record { memory = m; second = second; at = o }) caught x in subst G (sym (refuses (u.0 ++ stands.0) stands.2 none_there).1) stays_moved
+        pub stays : FitsWalk (record { memory = m; second = second; at = o }) caught new
+        stays = let G : List Bool → Type 0 = λ x. FitsWalk (record { memory = m; second = second; at = o }) caught x in subst G (sym (refuses (u.0 ++ stands.0) stands.2 none_there).1) stays_moved
 
       -- the header of e is told
-      module _ (new : List Bool) (admits : (Q : List Header) → AreMarked m Q marks → (HasHeader Q t → ⊥) → MayStand m Q t × ((b : Header) → b.segment ≡ t → AreMarked m (Q ++ b ∷ []) new)) (e : ListedHeader) (at : e.header.segment ≡ t) (x : IsHeader m e.header (signature_byte e.last)) where
+      module _ (new : List Bool) (admits : (Q : List Header) → AreOccupied m Q occupied → (HasHeader Q t → ⊥) → MayStand m Q t × ((b : Header) → b.segment ≡ t → AreOccupied m (Q ++ b ∷ []) new)) (e : ListedHeader) (at : e.header.segment ≡ t) (x : IsHeader m e.header (signature_byte e.last)) where
         follows : (P : List Header) → Leads m u.0 (start_of second) P t → Follows m u.0 P t e
         follows P l =
             let G : List Header → Type 0 = λ X. MayStand m (u.0 ++ X) t in
@@ -259,19 +259,19 @@ module _ (m : Memory) (second : Bool) (o : Option ℕ) (cursor : Option ℕ) (ma
         pub step_told : (w : Walking) → record { memory = m; second = second; at = o } ≡ w → (o' : Option ℕ) → o' ≡ (if e.last then None else Some (next e.header)) → MeetsNext w (Told e) o'
         step_told w is o' at-is = steps_by w is (Told e) o' (at-is, λ P l. (follows P l, closes m u.0 (start_of second) P t e l (follows P l)))
 
-        pub goes_on : (o' : Option ℕ) → o' ≡ (if e.last then None else Some (next e.header)) → IsMarkedWalk (record { memory = m; second = second; at = o' }) caught new
+        pub goes_on : (o' : Option ℕ) → o' ≡ (if e.last then None else Some (next e.header)) → FitsWalk (record { memory = m; second = second; at = o' }) caught new
         goes_on o' at-is =
-            let G : Option ℕ → Type 0 = λ y. IsMarkedWalk (record { memory = m; second = second; at = y }) caught new in
-            subst G (sym at-is) (u.0, u.1, under_way m second u.0 u.1 stands.0 t e caught new e.last refl stands.1 (follows stands.0 stands.1) (marked_on m u.0 stands.0 e.header new ((admits (u.0 ++ stands.0) stands.2 none_there).1 e.header at)) moved.0)
+            let G : Option ℕ → Type 0 = λ y. FitsWalk (record { memory = m; second = second; at = y }) caught new in
+            subst G (sym at-is) (u.0, u.1, under_way m second u.0 u.1 stands.0 t e caught new e.last refl stands.1 (follows stands.0 stands.1) (occupied_on m u.0 stands.0 e.header new ((admits (u.0 ++ stands.0) stands.2 none_there).1 e.header at)) moved.0)
 
 -- from a first list that was told whole, the walk over the second one begins
-second_by : (m : Memory) (second : Bool) (o : Option ℕ) (cursor c : Option ℕ) (marks : List Bool) (F : List Header) → second ≡ false → o ≡ None → c ≡ Some first_header → IsMarked m second F o cursor marks → IsMarkedWalk (record { memory = m; second = true; at = Some 0x9FFF }) c marks
-second_by m second o cursor c marks F s none start u =
-    let G : Bool → Type 0 = λ x. IsMarked m x F o cursor marks in
-    let H : Option ℕ → Type 0 = λ x. IsMarked m false F x cursor marks in
-    let v : (L : List Header) × IsArena m first_header L × AreMarked m L marks = subst H none (subst G s u) in
+second_by : (m : Memory) (second : Bool) (o : Option ℕ) (cursor c : Option ℕ) (occupied : List Bool) (F : List Header) → second ≡ false → o ≡ None → c ≡ Some first_header → FitsAt m second F o cursor occupied → FitsWalk (record { memory = m; second = true; at = Some 0x9FFF }) c occupied
+second_by m second o cursor c occupied F s none start u =
+    let G : Bool → Type 0 = λ x. FitsAt m x F o cursor occupied in
+    let H : Option ℕ → Type 0 = λ x. FitsAt m false F x cursor occupied in
+    let v : (L : List Header) × IsArena m first_header L × AreOccupied m L occupied = subst H none (subst G s u) in
     let C : List Header → Type 0 = λ X. IsClear m X in
-    let A : List Header → Type 0 = λ X. AreMarked m X marks in
+    let A : List Header → Type 0 = λ X. AreOccupied m X occupied in
     let K : Option ℕ → Type 0 = λ x. IsCursor m v.0 x 0x9FFF in (
       v.0,
       v.1,
@@ -283,5 +283,5 @@ second_by m second o cursor c marks F s none start u =
       ),
     )
 
-pub second-begins : (m : Memory) (second : Bool) (o : Option ℕ) (cursor : Option ℕ) (marks : List Bool) → IsMarkedWalk (record { memory = m; second = second; at = o }) cursor marks → second ≡ false → o ≡ None → IsMarkedWalk (record { memory = m; second = true; at = Some 0x9FFF }) (Some first_header) marks
-second-begins m second o cursor marks u s none = second_by m second o cursor (Some first_header) marks u.0 s none refl u.2
+pub second-begins : (m : Memory) (second : Bool) (o : Option ℕ) (cursor : Option ℕ) (occupied : List Bool) → FitsWalk (record { memory = m; second = second; at = o }) cursor occupied → second ≡ false → o ≡ None → FitsWalk (record { memory = m; second = true; at = Some 0x9FFF }) (Some first_header) occupied
+second-begins m second o cursor occupied u s none = second_by m second o cursor (Some first_header) occupied u.0 s none refl u.2

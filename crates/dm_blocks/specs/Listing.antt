@@ -80,6 +80,6 @@ pub record MeetsNext (w : Walking) (met : Met) (at : Option ℕ) : Type 0 where
 abbrev pub StandsAfter : Memory → Bool → ℕ → Type 0
 StandsAfter S last t = MatchBool last ((L : List Header) × IsArena S first_header L) ((P : List Header) × Leads S [] first_header P t)
 
--- a header, marked last or not, leads a walk over the first list on from segment h to segment t
+-- a header, the last or not, leads a walk over the first list on from segment h to segment t
 abbrev pub LeadsOn : Memory → ℕ → Bool → ℕ → Type 0
 LeadsOn S h last t = (P : List Header) → Leads S [] first_header P h → StandsAfter S last t

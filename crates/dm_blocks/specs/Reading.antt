@@ -21,7 +21,7 @@ abbrev pub is_nil : List Header → Bool
 is_nil [] = true
 is_nil (b ∷ L) = false
 
--- e is the first header of L, marked last if no other follows, and memory spells the other headers K after its block
+-- e is the first header of L, the last if no other follows, and memory spells the other headers K after its block
 pub record IsFront (S : Memory) (L : List Header) (e : ListedHeader) (K : List Header) : Type 0 where
   pub is : L ≡ e.header ∷ K
   pub last : e.last ≡ is_nil K

@@ -7,12 +7,12 @@
 //! linked with it where it has that header too. Nothing is written here.
 #![tactic(auto)]
 
+mod frame;
 mod header;
 mod laws;
 mod list;
 mod listing;
 mod low;
-mod seen;
 
 pub use header::{Header, ListedHeader, header_at, is_last};
 pub use laws::{chain_is_short, chain_is_unique, walk_is_short};

@@ -5,9 +5,9 @@ ghost use Rattle.dm_blocks.specs.Chain.{first_header, link_header};
 ghost use Rattle.dm_blocks.specs.Listing.{MeetsNext};
 ghost use Rattle.dm_blocks.specs.inner.Low.{IsUpTo};
 
+use crate::frame::FrameHeaders;
 use crate::header::{ListedHeader, header_at};
 use crate::list::{FIRST, LINK, catch_up};
-use crate::seen::Seen;
 use dm_space::Space;
 use std::marker::Model;
 
@@ -36,18 +36,18 @@ pub struct Headers<'a> {
     /// For a walk over the second list: the segment of the first header of the first list that
     /// isn't below the headers so far; None at its end, and for a walk over the first list.
     beside: Option<u16>,
-    seen: Seen,
+    in_frame: FrameHeaders,
 }
 
 impl<'a> Model for Headers<'a> {
     ghost use Rattle.dm_blocks.specs.Listing.{Walking};
-    ghost use Rattle.dm_blocks.specs.inner.Marks.{IsMarkedWalk};
+    ghost use Rattle.dm_blocks.specs.inner.Occupied.{FitsWalk};
 
     ghost Value = { Walking };
 
     ghost view = { λ w. record { memory = w.space.now.memory; second = w.second; at = w.at } };
 
-    ghost invariant = { λ w. IsMarkedWalk (record { memory = w.space.now.memory; second = w.second; at = w.at }) w.beside w.seen.marks };
+    ghost invariant = { λ w. FitsWalk (record { memory = w.space.now.memory; second = w.second; at = w.at }) w.beside w.in_frame.occupied };
 }
 
 /// Starts a walk over the first list, at its first header.
@@ -61,7 +61,7 @@ pub fn walk(space: &Space) -> Headers<'_>
         second: false,
         at: Some(FIRST),
         beside: None,
-        seen: Seen::new(),
+        in_frame: FrameHeaders::new(),
     }
 }
 
@@ -77,7 +77,7 @@ pub(crate) fn walk_from(space: &Space, segment: u16) -> Headers<'_>
         second: false,
         at: Some(segment),
         beside: None,
-        seen: Seen::new(),
+        in_frame: FrameHeaders::new(),
     }
 }
 
@@ -109,7 +109,7 @@ impl<'a> Headers<'a> {
         if stands_at(self.beside, segment) {
             return Met::Destroyed(segment);
         }
-        if !self.seen.admit(self.space, segment) {
+        if !self.in_frame.admit(self.space, segment) {
             return Met::Destroyed(segment);
         }
         self.at = if entry.last {
@@ -121,7 +121,7 @@ impl<'a> Headers<'a> {
     }
 
     /// Starts the walk over the second list, once a walk over the first one has passed its last
-    /// header. The marks of the first list are kept.
+    /// header. The paragraphs that headers of the first list occupy are kept.
     pub fn walk_second(self) -> Headers<'a>
         requires first { self.second ≡ false }
         requires over { self.at ≡ None }
