@@ -138,13 +138,13 @@ no_int : (ms : List ℕ) (t : State) (i : Ins) (k n : ℕ) → IsInt i.action n 
 no_int ms t i k n x q marked =
     let g = guest t.cpu t.memory in
     let a20 = t.memory.a20 in
-    let place = linear a20 0 (4 * (n % 256)) in
+    let address = linear a20 0 (4 * (n % 256)) in
     let second : passes_if (lies_below ms 2) a20 (reads g i k).second ≡ true = passes_second (lies_below ms 2) a20 (reads g i k) q.reads in
     let vector : passes_if (lies_below ms 2) a20 (Some (Word 0 (4 * (n % 256)))) ≡ true = subst (λ (o : Option Element). passes_if (lies_below ms 2) a20 o ≡ true) (int_reads g i k n x) second in
-    let first : lies_below ms 2 place ≡ true = and_left (lies_below ms 2 place) (lies_below ms 2 (linear_of a20 (far 0 (up (4 * (n % 256)) 1)))) vector in
-    let less : level_at ms (place / 16) < 2 = below_two ms place first in
-    let at : place / 16 ≡ n / 4 = vector_at a20 n x.fits in
-    let there : level_at ms (place / 16) ≡ level_at ms (n / 4) = ap (level_at ms) at in
+    let first : lies_below ms 2 address ≡ true = and_left (lies_below ms 2 address) (lies_below ms 2 (linear_of a20 (far 0 (up (4 * (n % 256)) 1)))) vector in
+    let less : level_at ms (address / 16) < 2 = below_two ms address first in
+    let at : address / 16 ≡ n / 4 = vector_at a20 n x.fits in
+    let there : level_at ms (address / 16) ≡ level_at ms (n / 4) = ap (level_at ms) at in
     omega (arith, less, there, marked)
 
 -- the bytes at CS:IP where a call is next

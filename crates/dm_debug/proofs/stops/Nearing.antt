@@ -1,4 +1,4 @@
--- Events that are places, spelled as the pairs of one segment.
+-- Events at addresses, spelled as the pairs of one segment.
 use Rattle.std.proofs.Common.{◌≡◌, ℕ, ◌+◌, ◌-◌, ◌*◌, ◌%◌, ◌<◌, Bool, true, false, List, [], ◌∷◌, ◌++◌, None, inl, inr, refl, sym, ◌∙◌, arith}
 use Rattle.std.specs.Prelude.{◌==◌, ◌&&◌, if◌then◌else◌, nat_le}
 use Rattle.std.specs.List.{list_all}
@@ -11,7 +11,7 @@ use Rattle.dm_machine.specs.Until.{is_one_of}
 use Rattle.dm_debug.specs.declared.stops.events.Event.{Event}
 use Rattle.dm_debug.specs.declared.stops.events.Event.TheVariants.{At, Address, Change, Call, Function}
 use Rattle.dm_debug.specs.stops.Events.{has_come, first_from}
-use Rattle.dm_debug.specs.stops.inner.Nearby.{is_place, pair_at, pairs_at, pairs_for, pairs_of}
+use Rattle.dm_debug.specs.stops.inner.Nearby.{is_at_address, pair_at, pairs_at, pairs_for, pairs_of}
 
 pub and_left : (a b : Bool) → (a && b) ≡ true → a ≡ true
 and_left true b e = refl
@@ -59,20 +59,20 @@ point_other false s o p seg small e =
       | inr over ↦ pair_other s o (p + 1048576) small h.1 (omega (arith, same, over, seg, small))
     ])
 
--- at a place that is none of the pairs of an event that is a place, the event has not come
-pub apart : (start : Memory) (s : State) (e : Event) → is_place e ≡ true → s.cpu.cs < 65536 → s.cpu.ip < 65536 → is_one_of (pairs_for s.cpu.cs e) s.cpu.cs s.cpu.ip ≡ false → has_come start s e ≡ false
-apart start s (At p) place seg small off = (neither (p.offset == s.cpu.ip && p.segment == s.cpu.cs) false off).0
-apart start s (Address a) place seg small off = point_other s.memory.a20 s.cpu.cs s.cpu.ip a seg small off
-apart start s (Change r) place seg small off = absurd (false≢true place)
-apart start s (Call n) place seg small off = absurd (false≢true place)
-apart start s (Function n ah) place seg small off = absurd (false≢true place)
+-- at an address that is none of the pairs of an event at an address, the event has not come
+pub apart : (start : Memory) (s : State) (e : Event) → is_at_address e ≡ true → s.cpu.cs < 65536 → s.cpu.ip < 65536 → is_one_of (pairs_for s.cpu.cs e) s.cpu.cs s.cpu.ip ≡ false → has_come start s e ≡ false
+apart start s (At p) address seg small off = (neither (p.offset == s.cpu.ip && p.segment == s.cpu.cs) false off).0
+apart start s (Address a) address seg small off = point_other s.memory.a20 s.cpu.cs s.cpu.ip a seg small off
+apart start s (Change r) address seg small off = absurd (false≢true address)
+apart start s (Call n) address seg small off = absurd (false≢true address)
+apart start s (Function n ah) address seg small off = absurd (false≢true address)
 
--- at a place that is none of the pairs of events that are places, no event has come
-pub all_apart : (start : Memory) (s : State) (es : List Event) (k : ℕ) → list_all is_place es ≡ true → s.cpu.cs < 65536 → s.cpu.ip < 65536 → is_one_of (pairs_of s.cpu.cs es) s.cpu.cs s.cpu.ip ≡ false
+-- at an address that is none of the pairs of events at addresses, no event has come
+pub all_apart : (start : Memory) (s : State) (es : List Event) (k : ℕ) → list_all is_at_address es ≡ true → s.cpu.cs < 65536 → s.cpu.ip < 65536 → is_one_of (pairs_of s.cpu.cs es) s.cpu.cs s.cpu.ip ≡ false
     → first_from (has_come start s) k es ≡ None
-all_apart start s [] k places seg small off = refl
-all_apart start s (e ∷ es) k places seg small off =
+all_apart start s [] k addresses seg small off = refl
+all_apart start s (e ∷ es) k addresses seg small off =
     let h = one_append (pairs_for s.cpu.cs e) (pairs_of s.cpu.cs es) s.cpu.cs s.cpu.ip off in
-    let first = apart start s e (and_left (is_place e) (list_all is_place es) places) seg small h.0 in
-    let rest = all_apart start s es (k + 1) (and_right (is_place e) (list_all is_place es) places) seg small h.1 in
+    let first = apart start s e (and_left (is_at_address e) (list_all is_at_address es) addresses) seg small h.0 in
+    let rest = all_apart start s es (k + 1) (and_right (is_at_address e) (list_all is_at_address es) addresses) seg small h.1 in
     rw (first, rest) refl

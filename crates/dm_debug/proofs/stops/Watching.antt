@@ -35,7 +35,7 @@ first_seen start events ws t o are is =
 
 -- a run up to events that began with the memory of its first state
 pub goes_runs : (s : State) (most : ℕ) (events : List Event) (ending : RunEnd) (t : State) → GoesTo s.memory s most events ending t → RunsTo s most events ending t
-goes_runs s most events ending t (watching.came made place before fewer is p step there) = runs.came made place before fewer is p step there
+goes_runs s most events ending t (watching.came made index before fewer is p step there) = runs.came made index before fewer is p step there
 goes_runs s most events ending t (watching.whole is p) = runs.whole is p
 goes_runs s most events ending t (watching.cut made before why fewer is other p step) = runs.cut made before why fewer is other p step
 

@@ -1,4 +1,4 @@
--- Events that end a run after a step: a place, a change of memory, a call of an interrupt that is next.
+-- Events that end a run after a step: an address of code, a change of memory, a call of an interrupt that is next.
 -- Source: Intel 8086 Family User's Manual, "Memory" (segment * 16 + offset) and "INT" (CDh and the number).
 use Rattle.std.specs.Prelude.{ℕ, ◌+◌, ◌-◌, ◌*◌, ◌/◌, ◌==◌, ◌&&◌, Bool, true, false, not, min, nat_lt, if◌then◌else◌, List, [], ◌∷◌, Option, Some, None}
 use Rattle.dm_space.specs.Memory.{Memory, linear, peek}
@@ -65,7 +65,7 @@ abbrev pub first_from : {X : Type 0} → (X → Bool) → ℕ → List X → Opt
 first_from p k [] = None
 first_from p k (x ∷ xs) = if p x then Some k else first_from p (k + 1) xs
 
--- the place in the list, from 0, of the first event that has come in the state s of a run that began with this memory;
+-- the index, from 0, of the first event that has come in the state s of a run that began with this memory;
 -- None if none has
 abbrev pub first_come : Memory → List Event → State → Option ℕ
 first_come start events s = first_from (has_come start s) 0 events

@@ -21,8 +21,8 @@ pub data Passes (start : Memory) (events : List Event) (s : State) : ℕ → Sta
 -- (`cut`). Where there is no event or no step, it is a run (`plain`)
 pub data RunsTo (s : State) (most : ℕ) (events : List Event) (ending : RunEnd) (t : State) : Type 0 where
   plain : (why : Stop) → (most ≡ 0) ⊎ (events ≡ []) → ending ≡ Stopped why → IsRun s most why t → RunsTo s most events ending t
-  came : (made place : ℕ) (before : State) → made < most → ending ≡ Came place → Passes s.memory events s made before → IsRun before 1 AllSteps t
-      → first_come s.memory events t ≡ Some place → RunsTo s most events ending t
+  came : (made index : ℕ) (before : State) → made < most → ending ≡ Came index → Passes s.memory events s made before → IsRun before 1 AllSteps t
+      → first_come s.memory events t ≡ Some index → RunsTo s most events ending t
   whole : ending ≡ Stopped AllSteps → Passes s.memory events s most t → RunsTo s most events ending t
   cut : (made : ℕ) (before : State) (why : Stop) → made < most → ending ≡ Stopped why → why ≢ AllSteps → Passes s.memory events s made before → IsRun before 1 why t
       → RunsTo s most events ending t

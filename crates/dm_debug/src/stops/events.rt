@@ -115,7 +115,7 @@ pub(crate) fn watches_of(
     Ok(watches)
 }
 
-/// The place in the list of the first event that has come; None if none has.
+/// The index of the first event that has come; None if none has.
 pub(crate) fn first_come(watches: &[Watch], machine: &Machine) -> Option<usize>
     ensures { result ≡ first_from (λ w. comes machine.now w.event w.before) 0 watches.now }
 {

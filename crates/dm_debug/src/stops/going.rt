@@ -8,12 +8,12 @@ ghost use Rattle.dm_services.specs.state.State.{HasProgram};
 ghost use Rattle.dm_machine.specs.Run.{IsRun};
 ghost use Rattle.dm_debug.specs.stops.Runs.{RunsTo};
 ghost use Rattle.dm_debug.specs.stops.inner.Marking.{is_quick, AreStill, IsGuarded};
-ghost use Rattle.dm_debug.specs.stops.inner.Nearby.{is_place, PassesNear};
+ghost use Rattle.dm_debug.specs.stops.inner.Nearby.{is_at_address, PassesNear};
 ghost use Rattle.dm_debug.specs.stops.inner.Watching.{watch_of, GoesTo};
 
 use crate::stops::events::{Event, Watch, first_come, watches_of};
 use crate::stops::marking::{are_quick, marks_of};
-use crate::stops::nearby::{are_places, pass};
+use crate::stops::nearby::{are_at_addresses, pass};
 use dm_machine::{Breakpoint, Machine, Stop};
 use dm_touches::quiet::Marks;
 use std::alloc::{AllocError, Global};
@@ -23,7 +23,7 @@ use std::alloc::{AllocError, Global};
 pub enum RunEnd {
     /// The machine stopped, or all steps were made.
     Stopped(Stop),
-    /// The last step led to an event, the first in the list that came: its place in the list, from 0.
+    /// The last step led to an event, the first in the list that came: its index, from 0.
     Came(usize),
 }
 
@@ -41,7 +41,7 @@ fn advance(
     requires loaded { HasProgram machine.old }
     requires some { 0 < most }
     requires quick { IsTrue quick → list_all is_quick events.now ≡ true }
-    requires places { marks.now ≡ None → list_all is_place events.now ≡ true }
+    requires addresses { marks.now ≡ None → list_all is_at_address events.now ≡ true }
     requires marked { IfSome marks.now (λ m. All (IsGuarded m) events.now) }
     ensures near { IfOk result (λ n. (start : Memory) → AreStill start machine.old.memory events.now → PassesNear start events.now machine.old n machine.new) }
     ensures some { IfOk result (λ n. 0 < n) }
@@ -72,7 +72,7 @@ fn go(
 ) -> RunEnd
     requires loaded { HasProgram machine.old }
     requires quick { IsTrue quick → list_all is_quick events.now ≡ true }
-    requires places { marks.now ≡ None → list_all is_place events.now ≡ true }
+    requires addresses { marks.now ≡ None → list_all is_at_address events.now ≡ true }
     requires marked { IfSome marks.now (λ m. All (IsGuarded m) events.now) }
     ensures goes { (start : Memory) → watches.now ≡ map (watch_of start) events.now → AreStill start machine.old.memory events.now → GoesTo start machine.old most events.now result machine.new }
     ensures loaded { HasProgram machine.new }
@@ -86,19 +86,19 @@ fn go(
             Ok(made) => left -= made,
             Err(stop) => return RunEnd::Stopped(stop),
         }
-        if let Some(place) = first_come(watches, machine) {
-            return RunEnd::Came(place);
+        if let Some(index) = first_come(watches, machine) {
+            return RunEnd::Came(index);
         }
     }
     RunEnd::Stopped(Stop::Steps)
 }
 
-/// Marks on the memory that these events look at; None if all are places. An `Err` is a failed allocation.
+/// Marks on the memory that these events look at; None if all are at addresses. An `Err` is a failed allocation.
 fn marks_if_any(alloc: Global, events: &[Event]) -> Result<Option<Marks>, AllocError>
-    ensures places { IfOk result (λ marks. marks ≡ None → list_all is_place events.now ≡ true) }
+    ensures addresses { IfOk result (λ marks. marks ≡ None → list_all is_at_address events.now ≡ true) }
     ensures marked { IfOk result (λ marks. IfSome marks (λ m. All (IsGuarded m) events.now)) }
 {
-    if are_places(events) {
+    if are_at_addresses(events) {
         return Ok(None);
     }
     Ok(Some(marks_of(alloc, events)?))

@@ -1,5 +1,5 @@
-//! Runs that end at events: a step that leads to a place, a step after which a byte of memory reads otherwise, an `INT`
-//! instruction that is next.
+//! Runs that end at events: a step that leads to an address, a step after which a byte of memory reads otherwise, an
+//! `INT` instruction that is next.
 
 mod events;
 mod going;

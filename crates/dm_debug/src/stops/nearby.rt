@@ -7,7 +7,7 @@ ghost use Rattle.dm_services.specs.state.State.{HasProgram};
 ghost use Rattle.dm_machine.specs.Near.{GoesNear};
 ghost use Rattle.dm_machine.specs.Unmarked.{GoesUnmarked};
 ghost use Rattle.dm_debug.specs.stops.inner.Marking.{is_quick, AreStill, IsGuarded};
-ghost use Rattle.dm_debug.specs.stops.inner.Nearby.{is_place, pair_at, pairs_at, pairs_for, pairs_of, PassesNear};
+ghost use Rattle.dm_debug.specs.stops.inner.Nearby.{is_at_address, pair_at, pairs_at, pairs_for, pairs_of, PassesNear};
 
 use crate::stops::events::Event;
 use dm_machine::{Breakpoint, Machine};
@@ -35,7 +35,7 @@ fn put_pairs_at(pairs: &mut Vec<Breakpoint>, segment: u16, address: u32) -> Resu
     put_pair(pairs, segment, address as u64 + 0x10_0000)
 }
 
-/// Appends the pairs at which an event that is a place may come. An `Err` is a failed allocation.
+/// Appends the pairs at which an event at an address may come. An `Err` is a failed allocation.
 fn put_pairs_for(pairs: &mut Vec<Breakpoint>, segment: u16, event: &Event) -> Result<(), AllocError>
     ensures { OnOk result (pairs.new.items ≡ pairs.old.items ++ pairs_for segment event.now) }
 {
@@ -47,7 +47,7 @@ fn put_pairs_for(pairs: &mut Vec<Breakpoint>, segment: u16, event: &Event) -> Re
     Ok(())
 }
 
-/// Replaces `pairs` by the pairs at which events that are places may come, while CS is the segment. An `Err` is a
+/// Replaces `pairs` by the pairs at which events at addresses may come, while CS is the segment. An `Err` is a
 /// failed allocation.
 fn put_pairs(pairs: &mut Vec<Breakpoint>, segment: u16, events: &[Event]) -> Result<(), AllocError>
     ensures pairs { OnOk result (pairs.new.items ≡ pairs_of segment events.now) }
@@ -60,9 +60,9 @@ fn put_pairs(pairs: &mut Vec<Breakpoint>, segment: u16, events: &[Event]) -> Res
     Ok(())
 }
 
-/// Whether the event is a place to which a step leads.
-fn is_place(event: &Event) -> bool
-    ensures { result ≡ is_place event.now }
+/// Whether the event is about CS:IP alone: an address to which a step leads.
+fn is_at_address(event: &Event) -> bool
+    ensures { result ≡ is_at_address event.now }
 {
     match event {
         Event::At(_) | Event::Address(_) => true,
@@ -70,11 +70,11 @@ fn is_place(event: &Event) -> bool
     }
 }
 
-/// Whether all events are places to which a step leads.
-pub(crate) fn are_places(events: &[Event]) -> bool
-    ensures { result ≡ list_all is_place events.now }
+/// Whether all events are about CS:IP alone.
+pub(crate) fn are_at_addresses(events: &[Event]) -> bool
+    ensures { result ≡ list_all is_at_address events.now }
 {
-    events.iter().all(|event| is_place(event))
+    events.iter().all(|event| is_at_address(event))
 }
 
 /// Makes at most `most` steps with these marks, if there are any, and returns how many: steps of instructions in the
@@ -93,8 +93,8 @@ fn run_marked(machine: &mut Machine, most: u64, pairs: &[Breakpoint], marks: &Op
 }
 
 /// Makes at most `most` steps, none but the last of which leads to an event, and returns how many. It may make none.
-/// `quick` says that marks tell whether events can come; where there are no marks all events are places. `pairs` is
-/// room for breakpoints.
+/// `quick` says that marks tell whether events can come; where there are no marks all events are at addresses. `pairs`
+/// is room for breakpoints.
 pub(crate) fn pass(
     machine: &mut Machine,
     most: u64,
@@ -105,7 +105,7 @@ pub(crate) fn pass(
 ) -> u64
     requires loaded { HasProgram machine.old }
     requires quick { IsTrue quick → list_all is_quick events.now ≡ true }
-    requires places { marks.now ≡ None → list_all is_place events.now ≡ true }
+    requires addresses { marks.now ≡ None → list_all is_at_address events.now ≡ true }
     requires marked { IfSome marks.now (λ m. All (IsGuarded m) events.now) }
     ensures near { (start : Memory) → AreStill start machine.old.memory events.now → PassesNear start events.now machine.old result machine.new }
     ensures most { result ≤ most }

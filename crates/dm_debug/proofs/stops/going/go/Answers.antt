@@ -21,7 +21,7 @@ returns-in-Err-clause-goes c = λ start are still.
 
 pub returns-in-Some-clause-goes : goal.returns-in-Some-clause-goes
 returns-in-Some-clause-goes c = λ start are still.
-    near_comes start c.args.events.now c.args.machine.now c.loop.machine c.advance.new.machine c.args.most c.loop.left c.in-Ok.made c.in-Some.place (omega (arith, c.loop.invariant.counted)) c.in-Ok.ensures.most
+    near_comes start c.args.events.now c.args.machine.now c.loop.machine c.advance.new.machine c.args.most c.loop.left c.in-Ok.made c.in-Some.index (omega (arith, c.loop.invariant.counted)) c.in-Ok.ensures.most
     (omega (arith, c.in-Ok.ensures.some)) (c.loop.invariant.passes start are still) (c.in-Ok.ensures.near start (c.loop.invariant.still start are still))
     (first_seen start c.args.events.now c.args.watches.now c.advance.new.machine c.first_come.result are c.first_come.ensures ∙ c.in-Some.is)
 
