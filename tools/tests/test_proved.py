@@ -1,4 +1,4 @@
-"""Tests of `proved`: each name of docs/proved.md that its row's crate does not have is reported. From the top:
+"""Tests of `proved`: each name of docs/proved.md that its row's crate does not have is reported, and each such file of docs/architecture.md. From the top:
 `python3 -m unittest discover -s tools/tests`."""
 import os
 import sys
@@ -25,23 +25,63 @@ ROWS = (
     ("`dm_findings::processes`", "`Report::new`", "dm_findings::processes has no public `Report::new`"),
     ("`dm_laws::instructions`", "a law of the definitions `effect` and `dm_alu`", None),
     ("`dm_laws::instructions`", "a law of the definition `no_effect`", "no definition `no_effect`"),
+    ("`dm_decode`, texts", "`text`", None),
+    ("`dm_decode`, texts", "`put_pages`", "dm_decode has no public `put_pages`"),
+    ("`dm`", "private `call` and `end`", None),
+    ("`dm`", "private `call` and `finish`", "dm has no public `finish`"),
     ("`dm_c_new`, `dm_c_free`", "`Makes`", None),
     ("`dm_c_new`, `dm_c_lose`", "`Makes`", "dm_c has no public `dm_c_lose`"),
     ("`dm_c_new`", "`IsReport`", "dm_c has no definition `IsReport`"),
 )
 
 
+# The calls of a row of the first table, what it says, and words of the fault.
+MAIN_ROWS = (
+    ("`Machine::run`, `decode`", "a run (`IsRun`)", None),
+    ("`allocate`, `free` of `dm_arena`", "`Allocates`", None),
+    ("`allocate`, `walk` of `dm_arena`", "`Allocates`", "`walk` is no public name of dm_arena"),
+    ("`Machine::walk`", "a run (`IsRun`)", "`Machine::walk` is no public name of any crate"),
+    ("`Machine::run`", "a run (`IsWalk`)", "no definition `IsWalk`"),
+)
+# An item of the page of crates, and words of the fault.
+ITEMS = (
+    ("- **`dm_blocks`** (`src/list.rt`, `specs/Chain.antt`): bytes", None),
+    # (Another crate has this file.)
+    ("- **`dm_blocks`** (`src/space.rt`): bytes", "dm_blocks has no file src/space.rt"),
+)
+
+
+def faults_in(path, text):
+    """The faults where a page has this text."""
+    real = specs.text_of
+    with mock.patch.object(specs, "text_of", lambda one: text if one == path else real(one)):
+        return [*proved.faults(specs.known())]
+
+
 class Names(unittest.TestCase):
     def test_the_page_has_no_others(self):
         self.assertEqual([*proved.faults(specs.known())], [])
+
+    def test_each_other_of_the_first_table_is_reported(self):
+        for calls, says, words in MAIN_ROWS:
+            with self.subTest(calls=calls, says=says):
+                found = faults_in(proved.PAGE, f"## Main contracts\n\n| What | The contract of | Says |\n|---|---|---|\n| runs | {calls} | {says} |\n\n## By crate\n")
+                self.assertEqual(len(found), 0 if words is None else 1, found)
+                self.assertIn(words or "", " ".join(found))
+
+    def test_each_file_of_another_crate_is_reported(self):
+        for item, words in ITEMS:
+            with self.subTest(item=item):
+                found = faults_in(proved.CRATES, f"## The crates\n\n{item}\n")
+                self.assertEqual(len(found), 0 if words is None else 1, found)
+                self.assertIn(words or "", " ".join(found))
 
     def test_each_other_is_reported(self):
         for call, names, words in ROWS:
             is_export = call.startswith("`dm_c_")
             row = f"| {call} | {names} | says |\n" if is_export else f"| {call} | says `this` | {names} |\n"
-            real = specs.text_of
-            with self.subTest(row=row), mock.patch.object(specs, "text_of", lambda path, row=row: row if path == proved.PAGE else real(path)):
-                found = [*proved.faults(specs.known())]
+            with self.subTest(row=row):
+                found = faults_in(proved.PAGE, row)
                 self.assertEqual(len(found), 0 if words is None else 1, found)
                 self.assertIn(words or "", " ".join(found))
 
