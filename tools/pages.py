@@ -30,7 +30,8 @@ def escaped(text):
 
 
 def marked(cell):
-    """A cell of a table of the manual as roff: code in bold, links as their text."""
+    """A cell of a table of the manual as roff: code in bold, links as their text, without those in parentheses, which only point elsewhere."""
+    cell = re.sub(r" \(\[[^\]]*\]\([^)]*\)\)", "", cell)
     cell = re.sub(r"\[([^\]]*)\]\([^)]*\)", r"\1", cell)
     return "".join(f"\\fB{escaped(part.strip())}\\fR" if at % 2 else escaped(part) for at, part in enumerate(cell.split("`")))
 
@@ -100,12 +101,18 @@ def synopsis(command):
     return " ".join(words)
 
 
+def default_of(option, defaults):
+    """A sentence about an option's default, with those of commands that have another one; nothing if there is none."""
+    others = "".join(f", in {name} {it}" for name, it in defaults.items() if it != option.default)
+    return {None: "", "": " The default is the empty text."}.get(option.default, f" The default is {option.default}{others}.")
+
+
 def add_options(page, program):
     page.head("options")
-    for option, names in program.options():
-        names = "" if len(names) == len(program.commands) else f" (Commands: {', '.join(names)}.)"
+    for option, defaults in program.options():
+        names = "" if len(defaults) == len(program.commands) else f" (Commands: {', '.join(defaults)}.)"
         keys = ", ".join(f"\\fB{escaped(it)}\\fR" for it in (option.short, option.name) if it)
-        default = {None: "", "": " The default is the empty text."}.get(option.default, f" The default is {option.default}.")
+        default = default_of(option, defaults)
         page.item(keys + (f" \\fI{option.value}\\fR" if option.value else ""), escaped(f"{option.text}.{default}{names}"))
     version = next(it for it in program.top.options if it.name == "--version")
     page.item(f"\\fB{escaped(version.short)}\\fR, \\fB{escaped(version.name)}\\fR", escaped(f"{version.text}. (Without a command.)"))
@@ -142,7 +149,7 @@ def dm_page(program):
         page.text(escaped(f"{command.about}:"))
         page.as_is([command.example])
     page.head("see also")
-    page.text("\\fBmezguld\\fR(3)")
+    page.text("\\fBmezguld\\fR(3). The manual, with examples and sessions, is docs/manual.md in the folder share/doc/mezguld of the installation.")
     return str(page)
 
 

@@ -13,8 +13,9 @@ import usage
 import versions
 
 PROGRAM = "crates/dm/out/dm"
-# The pages for users, besides those of the examples, and a link: its text, its file and the heading.
+# The pages for users, besides those of the examples; what they show and run; and a link: its text, its file and the heading.
 PAGES = ("README.md", "docs/manual.md", "docs/install.md", "docs/picture.md", "docs/proved.md", "bench/README.md")
+SHOWN = ("docs/pictures", "examples", "python/tests/programs/fragments.asm", "python/tests/programs/leak.asm")
 PAGE_LINK = re.compile(r"(?<!!)\[([^\[\]]+)\]\(([^)#\s]+)(?:#[^)\s]*)?\)")
 PKG_CONFIG = """\
 prefix=${{pcfiledir}}/{up}
@@ -150,9 +151,9 @@ def page(path, names):
 
 
 def documents(layout):
-    """The pages for users, as they lie in the tree, with their pictures and the examples, and the gdb scripts, where there are any. (In the Debian package
-    they are not compressed: no link would lead to them.)"""
-    paths = [*PAGES, *tracked("docs/pictures", "examples")]
+    """The pages for users, as they lie in the tree, with their pictures and the programs that they run, and the gdb scripts, where there are any. (In the Debian
+    package they are not compressed: no link would lead to them.)"""
+    paths = [*PAGES, *tracked(*SHOWN)]
     for path in paths:
         data = page(path, paths) if path.endswith(".md") else bytes_of(path)
         yield f"{layout.prefix}share/doc/mezguld/{path}", (data, 0o644)

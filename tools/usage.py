@@ -93,11 +93,11 @@ class Usage:
         self.commands = {name: Command(f"dm {name}", help_of(program, name)) for name in self.top.commands if name != "help"}
 
     def options(self):
-        """Each option of the commands once, with the names of the commands that have it; that for help is the last."""
+        """Each option of the commands once, with its default in each command that has it; that for help is the last."""
         found = {}
         for name, command in self.commands.items():
             for option in command.options:
-                found.setdefault(option.name, (option, []))[1].append(name)
+                found.setdefault(option.name, (option, {}))[1][name] = option.default
         return sorted(found.values(), key=lambda it: it[0].name == "--help")
 
 
