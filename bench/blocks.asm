@@ -1,5 +1,5 @@
-; Moves of extended memory, 262,144 bytes a turn of 13 steps: from one block to another, within one over itself, and from conventional
-; memory to a block.
+; Moves of extended memory, 262,144 bytes a turn of 13 steps: from one block to another, within one over itself, and
+; from conventional memory to a block.
         MOV AX,4310h            ; the driver's address
         INT 2Fh
         MOV [entry],BX

@@ -1,6 +1,6 @@
-; Writes the longest block list: 57,088 headers of size 0, from 0100h to BFFFh and from D000h to EFFFh, over four pages in the four
-; windows. It asks for the last block (step 399,925), then, with window 3 on window 0's page, for 0 paragraphs (step 399,934), which
-; fails. It runs below the list, at 0050:0000.
+; Writes the longest block list: 57,088 headers of size 0, from 0100h to BFFFh and from D000h to EFFFh, over four pages
+; in the four windows. It asks for the last block (step 399,925), then, with window 3 on window 0's page, for 0
+; paragraphs (step 399,934), which fails. It runs below the list, at 0050:0000.
 
         MOV     AH,43h          ; four pages
         MOV     BX,4

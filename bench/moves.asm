@@ -15,7 +15,8 @@ again:  MOV     AX,5700h
         NOP
         JMP     SHORT again
 
-; A region move: the length, then the source and the destination, each a type, a handle, an offset and a segment or a page.
+; A region move: the length, then the source and the destination, each a type, a handle, an offset and a segment or a
+; page.
 there:  DW      0,1
         DB      0
         DW      0,0,2000h

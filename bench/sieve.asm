@@ -1,5 +1,5 @@
-; Sieve of Eratosthenes over 8191 odd numbers, a byte each, many times over: byte compares and writes by index, sums, short jumps.
-; Prints the sum that it makes of the primes in hexadecimal, and ends with code 0.
+; Sieve of Eratosthenes over 8191 odd numbers, a byte each, many times over: byte compares and writes by index, sums,
+; short jumps. Prints the sum that it makes of the primes in hexadecimal, and ends with code 0.
 ;
 ; Build: nasm -f bin -o SIEVE.COM sieve.asm
 

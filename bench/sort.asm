@@ -1,5 +1,6 @@
 ; Insertion sort of 512 words, which are filled in anew each time: word reads and writes by base and index, compares,
-; near calls, the stack. Prints `sorted` and ends with code 0, or prints nothing and ends with code 1 if they are not sorted.
+; near calls, the stack. Prints `sorted` and ends with code 0, or prints nothing and ends with code 1 if they are not
+; sorted.
 ;
 ; Build: nasm -O0 -f bin -o SORT.COM sort.asm
 

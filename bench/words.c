@@ -1,5 +1,6 @@
-/* WORDS.COM [ROUNDS]: counts the words of texts that it makes, 15 of them unless the command tail has another number, and sorts them: C with
-   structures, strings, malloc, a hash table of lists, a recursive sort, and printf. Debian's `bcc` compiles it; it reads K&R's C. */
+/* WORDS.COM [ROUNDS]: counts the words of texts that it makes, 15 of them unless the command tail has another
+ * number, and sorts them: C with structures, strings, malloc, a hash table of lists, a recursive sort, and printf.
+ * Debian's `bcc` compiles it; it reads K&R's C. */
 #include <stdio.h>
 #include <stdlib.h>
 #include <string.h>

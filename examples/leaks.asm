@@ -1,5 +1,5 @@
-; Allocates something of each kind and ends without freeing it: pages of expanded memory, one of which stays mapped, a saved
-; map, a locked block of extended memory, an upper memory block, the high memory area, and address line A20.
+; Allocates something of each kind and ends without freeing it: pages of expanded memory, one of which stays mapped, a
+; saved map, a locked block of extended memory, an upper memory block, the high memory area, and address line A20.
         MOV AH,43h              ; two pages, with their handle in DX
         MOV BX,2
         INT 67h

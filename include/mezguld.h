@@ -1,8 +1,9 @@
 /* The proved MS-DOS machine of Mezguld, from C.
  *
- * A machine is made by mezguld_new. Programs are added by mezguld_add, one of them is loaded by mezguld_load, and then it
- * runs, in as many calls of mezguld_run, mezguld_run_until or mezguld_run_to as you like. Between two calls its registers and memory can
- * be read and written, input supplied, output taken, and a snapshot made by mezguld_copy. mezguld_free frees it.
+ * A machine is made by mezguld_new. Programs are added by mezguld_add, one of them is loaded by mezguld_load, and then
+ * it runs, in as many calls of mezguld_run, mezguld_run_until or mezguld_run_to as you like. Between two calls its
+ * registers and memory can be read and written, input supplied, output taken, and a snapshot made by mezguld_copy.
+ * mezguld_free frees it.
  *
  *     mezguld *machine;
  *     if (mezguld_new(&machine, 64, 1024, NULL, 0, 0) == MEZGULD_OK) {
@@ -10,27 +11,27 @@
  *         mezguld_free(machine);
  *     }
  *
- * Each function but mezguld_version and mezguld_free returns a status. Where it is not MEZGULD_OK, nothing has changed and
- * nothing was written, unless the function's comment says otherwise. Each comment names the statuses that the function
- * returns beside OK and NULL_POINTER, without their prefix, in the order in which they are tried; OUT_OF_MEMORY may come before any
- * of them. Texts and bytes have a count, and no zero byte after them.
+ * Each function but mezguld_version and mezguld_free returns a status. Where it is not MEZGULD_OK, nothing has changed
+ * and nothing was written, unless the function's comment says otherwise. Each comment names the statuses that the
+ * function returns beside OK and NULL_POINTER, without their prefix, in the order in which they are tried;
+ * OUT_OF_MEMORY may come before any of them. Texts and bytes have a count, and no zero byte after them.
  *
- * NULL: a machine that is NULL is no machine (NO_MACHINE), and mezguld_free ignores it. A buffer, text or array may be NULL where
- * its count is 0; elsewhere the status is NULL_POINTER, which is tried right after NO_MACHINE (in mezguld_new and mezguld_copy
- * first). A result that is not wanted may be NULL: nothing is written there.
+ * NULL: a machine that is NULL is no machine (NO_MACHINE), and mezguld_free ignores it. A buffer, text or array may be
+ * NULL where its count is 0; elsewhere the status is NULL_POINTER, which is tried right after NO_MACHINE (in
+ * mezguld_new and mezguld_copy first). A result that is not wanted may be NULL: nothing is written there.
  *
  * What no function can test, and C must keep to:
  *
- *  - A `mezguld *` is NULL, or comes from mezguld_new or mezguld_copy and was not freed. Every other pointer that is not NULL
- *    points to as many elements as the count after it says, or to one where there is no count. What a function writes
- *    overlaps nothing else that it is passed.
- *  - No two calls on one machine overlap, not even two that take a `const mezguld *`. They may come from any threads, if each call has ended before the next one
- *    begins, as under a mutex. No function is called from a signal handler, or in the forked child of a process with
- *    threads; no `longjmp` and no cancellation of a thread leaves a call.
+ *  - A `mezguld *` is NULL, or comes from mezguld_new or mezguld_copy and was not freed. Every other pointer that is
+ *    not NULL points to as many elements as the count after it says, or to one where there is no count. What a function
+ *    writes overlaps nothing else that it is passed.
+ *  - No two calls on one machine overlap, not even two that take a `const mezguld *`. They may come from any threads,
+ *    if each call has ended before the next one begins, as under a mutex. No function is called from a signal handler,
+ *    or in the forked child of a process with threads; no `longjmp` and no cancellation of a thread leaves a call.
  *  - malloc, realloc and free are those of one allocator, as of the C library.
  *
- * What the functions return, write and change is then proved (crates/dm_c), but for what lib/mezguld.c adds in C: it holds
- * the handle of each machine, and answers NULL.
+ * What the functions return, write and change is then proved (of the exports that the library is made of), but for what
+ * it adds in C: it holds the handle of each machine, and answers NULL.
  */
 #ifndef MEZGULD_H
 #define MEZGULD_H
@@ -46,8 +47,9 @@
 #define MEZGULD_VERSION_PATCH 0
 #define MEZGULD_VERSION_NUMBER 20000
 
-/* What stands before each function that returns a status, which is to be looked at; and before those that make a machine: the
- * place for it, the parameter of this number, is not NULL either. (Where the library itself is compiled, it may be.) */
+/* What stands before each function that returns a status, which is to be looked at; and before those that make a
+ * machine: the place for it, the parameter of this number, is not NULL either. (Where the library itself is
+ * compiled, it may be.) */
 #if (defined(__GNUC__) || defined(__clang__)) && !defined(MEZGULD_INSIDE)
 #define MEZGULD_CALL __attribute__((warn_unused_result))
 #define MEZGULD_MAKES(place) __attribute__((warn_unused_result, nonnull(place)))
@@ -115,7 +117,8 @@ typedef struct mezguld_stopped {
     uint32_t code;
 } mezguld_stopped;
 
-/* The registers; `flags` is the word that PUSHF stores: CF is bit 0, PF 2, AF 4, ZF 6, SF 7, TF 8, IF 9, DF 10, OF 11. */
+/* The registers; `flags` is the word that PUSHF stores: CF is bit 0, PF 2, AF 4, ZF 6, SF 7, TF 8, IF 9, DF 10 and
+ * OF 11. */
 typedef struct mezguld_cpu {
     uint16_t ax, bx, cx, dx, sp, bp, si, di, cs, ds, es, ss, ip, flags;
 } mezguld_cpu;
@@ -129,9 +132,10 @@ typedef struct mezguld_point {
 /* The kinds of events, and the fields of a mezguld_event that count for each. */
 typedef enum mezguld_kind {
     MEZGULD_AT_PAIR = 0,    /* CS:IP is exactly the pair `segment`, `offset` */
-    MEZGULD_AT_ADDRESS = 1, /* CS:IP has the linear address `address`, whatever the pair; its bit 20 is off while A20 is */
-    MEZGULD_AT_CHANGE = 2,  /* one of the `length` bytes from the linear address `address` up reads otherwise than before the run,
-                             * whoever wrote it: the program, a service, another page in a window; none is past 10FFEFh */
+    MEZGULD_AT_ADDRESS = 1, /* CS:IP has the linear address `address`, by any pair; its bit 20 is off while A20 is */
+    MEZGULD_AT_CHANGE = 2,  /* one of the `length` bytes from the linear address `address` up reads otherwise than
+                             * before the run, whoever wrote it: the program, a service, another page in a window;
+                             * none is past 10FFEFh */
     MEZGULD_AT_CALL = 3,    /* the bytes at CS:IP are CDh and `number`: INT is next */
     MEZGULD_AT_FUNCTION = 4 /* the same, and AH is `ah` */
 } mezguld_kind;
@@ -144,22 +148,23 @@ typedef struct mezguld_event {
     uint8_t number, ah;
 } mezguld_event;
 
-/* A header of the DOS memory arena (a memory control block): its own segment, one below that of its block; the owner of the
- * block, 0 if it is free, 8 for DOS, otherwise the segment of a program's PSP; the size of the block in paragraphs; its
- * signature, 5Ah (`Z`) in the last header of its list, otherwise 4Dh (`M`); and its list: 0 for the first one, 1 for that of
- * upper memory where the first does not lead to it. */
+/* A header of the DOS memory arena (a memory control block): its own segment, one below that of its block; the owner
+ * of the block, 0 if it is free, 8 for DOS, otherwise the segment of a program's PSP; the size of the block in
+ * paragraphs; its signature, 5Ah (`Z`) in the last header of its list, otherwise 4Dh (`M`); and its list: 0 for the
+ * first one, 1 for that of upper memory where the first does not lead to it. */
 typedef struct mezguld_block {
     uint16_t segment, owner, size;
     uint8_t signature, list;
 } mezguld_block;
 
-/* How the lists of headers end: whole (`destroyed` is 0), or at the segment `at`, where a header has to be and none can. */
+/* How the lists of headers end: whole (`destroyed` is 0), or at the segment `at`, where a header has to be and none
+ * can. */
 typedef struct mezguld_list_end {
     uint16_t destroyed, at;
 } mezguld_list_end;
 
-/* A handle of expanded memory in use: its number; how many pages of 16 KiB it has, which are numbered from 0; whether the
- * windows are saved under it (1, otherwise 0); and its name, eight zeros if it has none. */
+/* A handle of expanded memory in use: its number; how many pages of 16 KiB it has, which are numbered from 0;
+ * whether the windows are saved under it (1, otherwise 0); and its name, eight zeros if it has none. */
 typedef struct mezguld_page_handle {
     uint16_t number, pages;
     uint32_t saved;
@@ -171,8 +176,8 @@ typedef struct mezguld_window {
     uint16_t shows, handle, page;
 } mezguld_window;
 
-/* The block of a handle of extended memory: the linear address of its first byte, how often it is locked, the handle, and
- * the size of the block in KiB. */
+/* The block of a handle of extended memory: the linear address of its first byte, how often it is locked, the
+ * handle, and the size of the block in KiB. */
 typedef struct mezguld_extended_block {
     uint64_t address;
     uint32_t locks;
@@ -205,8 +210,8 @@ typedef enum mezguld_finding_kind {
     MEZGULD_FOUND_TAIL_WRITTEN = 16,    /* `header`, `byte` */
     MEZGULD_FOUND_OTHER_FREED = 17,     /* `block`, `owner` */
     MEZGULD_FOUND_NOT_RESIZED = 18,     /* `wanted` */
-    MEZGULD_FOUND_HANDLE_KEPT = 19,     /* `handle`, `pages`, `saved`; this and the next ones: left by a program that has ended
-                                         * (an error), or held by one that stays resident (a note) */
+    MEZGULD_FOUND_HANDLE_KEPT = 19,     /* `handle`, `pages`, `saved`; this and the next ones: left by a program that
+                                         * has ended (an error), or held by one that stays resident (a note) */
     MEZGULD_FOUND_WINDOW_KEPT = 20,     /* `window` */
     MEZGULD_FOUND_BLOCK_KEPT = 21,      /* `handle`, `kib`, `locked` */
     MEZGULD_FOUND_UPPER_KEPT = 22,      /* `block` */
@@ -257,7 +262,7 @@ typedef struct mezguld_details {
 typedef struct mezguld_finding {
     uint64_t step;        /* the number of the step; the first step of a machine is 1 */
     uint64_t more, last;  /* how many findings after it repeat it, and the step of the last that does, or its own */
-    uint64_t origin_step; /* the step that freed the memory that it is about, or allocated what is left or held; 0 if not known */
+    uint64_t origin_step; /* the step that freed what it is about, or allocated what is left or held; 0: not known */
     mezguld_finding_kind kind;
     uint32_t is_error;    /* 1 for an error, 0 for a note */
     mezguld_place at, origin_at; /* where the step was performed, and where that of `origin_step` was */
@@ -301,17 +306,17 @@ MEZGULD_HAS_SIZE(mezguld_finding, 104);
 /* The version of the library that the program runs with, as MEZGULD_VERSION_NUMBER of its header. */
 uint32_t mezguld_version(void);
 
-/* Makes a machine with so many pages of expanded memory (16 KiB each, at most 512), so many KiB of extended memory (at
- * most 15,360), no program, and these variables in the first program's environment: `NAME=VALUE`, each closed by a zero
- * byte, at most 32,767 bytes in all (NULL and 0 for none). Where `upper` is not 0, the DOS memory arena continues in upper
- * memory. `*machine` is the machine then; with any other status than OK it is NULL.
+/* Makes a machine with so many pages of expanded memory (16 KiB each, at most 512), so many KiB of extended memory
+ * (at most 15,360), no program, and these variables in the first program's environment: `NAME=VALUE`, each closed by
+ * a zero byte, at most 32,767 bytes in all (NULL and 0 for none). Where `upper` is not 0, the DOS memory arena
+ * continues in upper memory. `*machine` is the machine then; with any other status than OK it is NULL.
  * BAD_VARIABLES, TOO_LARGE, VARIABLES_TOO_LONG, OUT_OF_MEMORY. */
-MEZGULD_MAKES(1) mezguld_status mezguld_new(mezguld **machine, uint32_t ems_pages, uint32_t xms_kib, const char *variables,
-                                        size_t variables_count, uint32_t upper);
+MEZGULD_MAKES(1) mezguld_status mezguld_new(mezguld **machine, uint32_t ems_pages, uint32_t xms_kib,
+                                            const char *variables, size_t variables_count, uint32_t upper);
 
-/* Makes a second machine in the state of the first one: with the same programs, breakpoints, input, output and answer. The
- * two share nothing, and each is freed: a copy is a snapshot, which can be copied and run again and again. A copy costs what
- * its memory costs. `*copy` is the machine then; with any other status than OK it is NULL.
+/* Makes a second machine in the state of the first one: with the same programs, breakpoints, input, output and
+ * answer. The two share nothing, and each is freed: a copy is a snapshot, which can be copied and run again and
+ * again. A copy costs what its memory costs. `*copy` is the machine then; with any other status than OK it is NULL.
  * NO_MACHINE, OUT_OF_MEMORY. */
 MEZGULD_MAKES(2) mezguld_status mezguld_copy(const mezguld *machine, mezguld **copy);
 
@@ -323,31 +328,33 @@ void mezguld_free(mezguld *machine);
 MEZGULD_CALL mezguld_status mezguld_add(mezguld *machine, const char *name, size_t name_count, const void *program,
                                         size_t program_count);
 
-/* Loads the program of this name, with a command tail of at most 126 bytes (it begins with a space, as in " /q"; NULL and
- * 0 for none) and the console's input, which is closed: no more of it comes, unless mezguld_open_input is called next.
+/* Loads the program of this name, with a command tail of at most 126 bytes (it begins with a space, as in " /q";
+ * NULL and 0 for none) and the console's input, which is closed: no more of it comes, unless mezguld_open_input is
+ * called next.
  * NO_MACHINE, STARTED, BAD_NAME, TAIL_TOO_LONG, NOT_FOUND, BAD_FORMAT, OUT_OF_MEMORY, SHORT. After the last two the
  * machine is used up: it can only be freed. */
 MEZGULD_CALL mezguld_status mezguld_load(mezguld *machine, const char *name, size_t name_count, const char *tail,
                                          size_t tail_count, const void *input, size_t input_count);
 
-/* Makes at most so many steps, and writes why the run stopped into `*stopped`. A step is an instruction, a repetition of
- * a string instruction, or a service. NO_MACHINE, NOT_LOADED. */
+/* Makes at most so many steps, and writes why the run stopped into `*stopped`. A step is an instruction, a
+ * repetition of a string instruction, or a service. NO_MACHINE, NOT_LOADED. */
 MEZGULD_CALL mezguld_status mezguld_run(mezguld *machine, uint64_t steps, mezguld_stopped *stopped);
 
 /* Makes at most so many steps, but none after the first that leads to one of these breakpoints: then the stop is
- * BREAKPOINT, and CS:IP is the breakpoint. Where the run begins is no breakpoint to it, so that the next run goes on.
- * To stop at each call of an interrupt n, before it acts, give where its vector leads as a breakpoint: the word at 0:4n is
- * the offset, the word at 0:4n+2 the segment (0:0084h for INT 21h, with the function in AH).
+ * BREAKPOINT, and CS:IP is the breakpoint. Where the run begins is no breakpoint to it, so that the next run goes
+ * on. To stop at each call of an interrupt n, before it acts, give where its vector leads as a breakpoint: the word
+ * at 0:4n is the offset, the word at 0:4n+2 the segment (0:0084h for INT 21h, with the function in AH).
  * NO_MACHINE, OUT_OF_MEMORY, NOT_LOADED. */
 MEZGULD_CALL mezguld_status mezguld_run_until(mezguld *machine, uint64_t steps, const mezguld_point *points,
                                               size_t points_count, mezguld_stopped *stopped);
 
-/* Makes at most so many steps, but none after the first that leads to one of these events: then the stop is EVENT, and the
- * place in the list of the first event that came, from 0, is written into `*place`, which stays otherwise. Where the run
- * begins is no event to it, so that the next run goes on; bytes are compared with those at its beginning. An INT with a prefix
- * before it, INT 3 (CCh), INTO and a jump to where a vector leads are no calls to it: MEZGULD_AT_ADDRESS sees where they lead.
- * Steps are as fast as with breakpoints, but for those that touch the 16-byte paragraphs of a range or of a vector that is
- * called; with a range that reaches past BFFFFh each step is looked at, and all bytes of the ranges are compared.
+/* Makes at most so many steps, but none after the first that leads to one of these events: then the stop is EVENT,
+ * and the place in the list of the first event that came, from 0, is written into `*place`, which stays otherwise.
+ * Where the run begins is no event to it, so that the next run goes on; bytes are compared with those at its
+ * beginning. An INT with a prefix before it, INT 3 (CCh), INTO and a jump to where a vector leads are no calls to
+ * it: MEZGULD_AT_ADDRESS sees where they lead. Steps are as fast as with breakpoints, but for those that touch the
+ * 16-byte paragraphs of a range or of a vector that is called; with a range that reaches past BFFFFh each step is
+ * looked at, and all bytes of the ranges are compared.
  * NO_MACHINE, BAD_EVENT, OUT_OF_MEMORY, NOT_LOADED. */
 MEZGULD_CALL mezguld_status mezguld_run_to(mezguld *machine, uint64_t steps, const mezguld_event *events,
                                            size_t events_count, mezguld_stopped *stopped, size_t *place);
@@ -358,12 +365,12 @@ MEZGULD_CALL mezguld_status mezguld_steps(const mezguld *machine, uint64_t *step
 /* Writes the registers into `*registers`. NO_MACHINE, NOT_LOADED. */
 MEZGULD_CALL mezguld_status mezguld_registers(const mezguld *machine, mezguld_cpu *registers);
 
-/* Sets all the registers. Of `flags` only the bits of the nine flags count. The next run goes on at the new CS:IP. Nothing
- * else changes. NO_MACHINE, NOT_LOADED. */
+/* Sets all the registers. Of `flags` only the bits of the nine flags count. The next run goes on at the new CS:IP.
+ * Nothing else changes. NO_MACHINE, NOT_LOADED. */
 MEZGULD_CALL mezguld_status mezguld_set_registers(mezguld *machine, const mezguld_cpu *registers);
 
-/* Fills a buffer with the bytes of memory from segment:offset on; offsets wrap in their segment, so that a buffer of over
- * 65,536 bytes has them again. A byte is FFh where there is no memory. NO_MACHINE, NOT_LOADED. */
+/* Fills a buffer with the bytes of memory from segment:offset on; offsets wrap in their segment, so that a buffer of
+ * over 65,536 bytes has them again. A byte is FFh where there is no memory. NO_MACHINE, NOT_LOADED. */
 MEZGULD_CALL mezguld_status mezguld_read(const mezguld *machine, uint16_t segment, uint16_t offset, void *buffer,
                                          size_t count);
 
@@ -372,42 +379,45 @@ MEZGULD_CALL mezguld_status mezguld_read(const mezguld *machine, uint16_t segmen
 MEZGULD_CALL mezguld_status mezguld_write(mezguld *machine, uint16_t segment, uint16_t offset, const void *bytes,
                                           size_t count);
 
-/* Fills a buffer with the bytes of memory from a linear address up, segment * 16 + offset, as a program reads them: while the
- * A20 line is off, the addresses 100000h to 10FFEFh are those 100000h below. A byte is FFh where there is no memory, and past
- * 10FFEFh (FFFF:FFFF), which no program reaches. NO_MACHINE, NOT_LOADED. */
+/* Fills a buffer with the bytes of memory from a linear address up, segment * 16 + offset, as a program reads them:
+ * while the A20 line is off, the addresses 100000h to 10FFEFh are those 100000h below. A byte is FFh where there is
+ * no memory, and past 10FFEFh (FFFF:FFFF), which no program reaches. NO_MACHINE, NOT_LOADED. */
 MEZGULD_CALL mezguld_status mezguld_read_linear(const mezguld *machine, uint32_t address, void *buffer, size_t count);
 
-/* Writes bytes to memory from a linear address up, as a program writes them: while the A20 line is off, the addresses 100000h to
- * 10FFEFh are those 100000h below. Bytes of the ROM, and where there is no memory, stay; bytes past 10FFEFh are lost.
+/* Writes bytes to memory from a linear address up, as a program writes them: while the A20 line is off, the
+ * addresses 100000h to 10FFEFh are those 100000h below. Bytes of the ROM, and where there is no memory, stay; bytes
+ * past 10FFEFh are lost.
  * NO_MACHINE, NOT_LOADED. */
 MEZGULD_CALL mezguld_status mezguld_write_linear(mezguld *machine, uint32_t address, const void *bytes, size_t count);
 
-/* Copies the headers of the DOS memory arena, in the order of their lists, into a buffer: those of the first list, and then,
- * if upper memory belongs to the arena and the first list is whole and does not lead there, those of the second one. Writes
- * how many they are into `*wanted`, and how the lists end into `*end`. (A list is what the program's memory spells: of one that
- * is destroyed, the headers are those before the place where it breaks.)
+/* Copies the headers of the DOS memory arena, in the order of their lists, into a buffer: those of the first list,
+ * and then, if upper memory belongs to the arena and the first list is whole and does not lead there, those of the
+ * second one. Writes how many they are into `*wanted`, and how the lists end into `*end`. (A list is what the
+ * program's memory spells: of one that is destroyed, the headers are those before the place where it breaks.)
  * NO_MACHINE, NOT_LOADED, OUT_OF_MEMORY, TOO_SMALL (then `*wanted` and `*end` alone are written). */
 MEZGULD_CALL mezguld_status mezguld_blocks(const mezguld *machine, mezguld_block *buffer, size_t room, size_t *wanted,
                                            mezguld_list_end *end);
 
-/* Copies the handles of expanded memory in use, by rising number (handle 0 is always in use), into a buffer, and writes how
- * many they are, at most 64, into `*wanted`.
+/* Copies the handles of expanded memory in use, by rising number (handle 0 is always in use), into a buffer, and
+ * writes how many they are, at most 64, into `*wanted`.
  * NO_MACHINE, NOT_LOADED, OUT_OF_MEMORY, TOO_SMALL (then `*wanted` alone is written). */
 MEZGULD_CALL mezguld_status mezguld_page_handles(const mezguld *machine, mezguld_page_handle *buffer, size_t room,
                                                  size_t *wanted);
 
-/* Copies what the four windows of the page frame show, from segment E000h up, into a buffer, and writes 4 into `*wanted`.
+/* Copies what the four windows of the page frame show, from segment E000h up, into a buffer, and writes 4 into
+ * `*wanted`.
  * NO_MACHINE, NOT_LOADED, TOO_SMALL (then `*wanted` alone is written). */
-MEZGULD_CALL mezguld_status mezguld_windows(const mezguld *machine, mezguld_window *buffer, size_t room, size_t *wanted);
+MEZGULD_CALL mezguld_status mezguld_windows(const mezguld *machine, mezguld_window *buffer, size_t room,
+                                            size_t *wanted);
 
-/* Copies the blocks of the handles of extended memory in use, by rising handle, into a buffer, and writes how many they are,
- * at most 64, into `*wanted`.
+/* Copies the blocks of the handles of extended memory in use, by rising handle, into a buffer, and writes how many
+ * they are, at most 64, into `*wanted`.
  * NO_MACHINE, NOT_LOADED, OUT_OF_MEMORY, TOO_SMALL (then `*wanted` alone is written). */
 MEZGULD_CALL mezguld_status mezguld_extended_blocks(const mezguld *machine, mezguld_extended_block *buffer, size_t room,
                                                     size_t *wanted);
 
-/* Copies the upper memory blocks of the extended memory driver, by rising segment, into a buffer, and writes how many they
- * are, at most 64, into `*wanted`.
+/* Copies the upper memory blocks of the extended memory driver, by rising segment, into a buffer, and writes how
+ * many they are, at most 64, into `*wanted`.
  * NO_MACHINE, NOT_LOADED, OUT_OF_MEMORY, TOO_SMALL (then `*wanted` alone is written). */
 MEZGULD_CALL mezguld_status mezguld_upper_blocks(const mezguld *machine, mezguld_upper_block *buffer, size_t room,
                                                  size_t *wanted);
@@ -416,62 +426,69 @@ MEZGULD_CALL mezguld_status mezguld_upper_blocks(const mezguld *machine, mezguld
  * NO_MACHINE, NOT_LOADED. */
 MEZGULD_CALL mezguld_status mezguld_high_memory(const mezguld *machine, uint32_t *a20, uint32_t *used);
 
-/* Fills the buffer with bytes of a page of expanded memory, whether a window shows it or not: of logical page `page` of a
- * handle, from byte `offset` of it on. A page has 16,384 bytes. NO_MACHINE, NOT_LOADED, NO_HANDLE, NO_PAGE, PAST_END. */
+/* Fills the buffer with bytes of a page of expanded memory, whether a window shows it or not: of logical page `page`
+ * of a handle, from byte `offset` of it on. A page has 16,384 bytes. NO_MACHINE, NOT_LOADED, NO_HANDLE, NO_PAGE,
+ * PAST_END. */
 MEZGULD_CALL mezguld_status mezguld_read_page(const mezguld *machine, uint16_t handle, uint16_t page, size_t offset,
                                               void *buffer, size_t count);
 
-/* Fills the buffer with bytes of the block of a handle of extended memory, from byte `offset` of it on. A block of n KiB has
- * 1,024 n bytes. NO_MACHINE, NOT_LOADED, NO_HANDLE, PAST_END. */
+/* Fills the buffer with bytes of the block of a handle of extended memory, from byte `offset` of it on. A block of n
+ * KiB has 1,024 n bytes. NO_MACHINE, NOT_LOADED, NO_HANDLE, PAST_END. */
 MEZGULD_CALL mezguld_status mezguld_read_block(const mezguld *machine, uint16_t handle, size_t offset, void *buffer,
                                                size_t count);
 
-/* Copies what the program wrote to the console, from byte `from` of it on (0: all; past the end: nothing), into a buffer,
- * and writes the count into `*wanted`. So the output since the last call is got with the count of all before it as `from`.
+/* Copies what the program wrote to the console, from byte `from` of it on (0: all; past the end: nothing), into a
+ * buffer, and writes the count into `*wanted`. So the output since the last call is got with the count of all before
+ * it as `from`.
  * NO_MACHINE, NOT_LOADED, TOO_SMALL (then `*wanted` alone is written). */
-MEZGULD_CALL mezguld_status mezguld_output(const mezguld *machine, size_t from, void *buffer, size_t room, size_t *wanted);
+MEZGULD_CALL mezguld_status mezguld_output(const mezguld *machine, size_t from, void *buffer, size_t room,
+                                           size_t *wanted);
 
 /* Writes how many bytes the program has written to the console into `*count`. NO_MACHINE, NOT_LOADED. */
 MEZGULD_CALL mezguld_status mezguld_output_count(const mezguld *machine, size_t *count);
 
-/* Opens the console's input: more of it may come, by mezguld_supply. From then on a run stops with INPUT_ENDED before each
- * call of DOS that wants input which is not there (functions 01h, 07h, 08h and 3Fh: a byte; 0Ah: a line, up to 0Dh), and
- * nothing of the call is done; after more was supplied, the next run makes the call. Polls (06h, 0Bh) tell what is there,
- * and never stop. NO_MACHINE, NOT_LOADED. */
+/* Opens the console's input: more of it may come, by mezguld_supply. From then on a run stops with INPUT_ENDED
+ * before each call of DOS that wants input which is not there (functions 01h, 07h, 08h and 3Fh: a byte; 0Ah: a line,
+ * up to 0Dh), and nothing of the call is done; after more was supplied, the next run makes the call. Polls (06h,
+ * 0Bh) tell what is there, and never stop. NO_MACHINE, NOT_LOADED. */
 MEZGULD_CALL mezguld_status mezguld_open_input(mezguld *machine);
 
-/* Closes the console's input: no more of it comes after what is left. From then on function 3Fh with no input left returns
- * a count of 0, the end of a file; for the other calls INPUT_ENDED is the end. NO_MACHINE, NOT_LOADED. */
+/* Closes the console's input: no more of it comes after what is left. From then on function 3Fh with no input left
+ * returns a count of 0, the end of a file; for the other calls INPUT_ENDED is the end. NO_MACHINE, NOT_LOADED. */
 MEZGULD_CALL mezguld_status mezguld_close_input(mezguld *machine);
 
-/* Adds bytes to the end of the console's input, which mezguld_open_input has opened. They are copied. The key Enter is the
- * byte 0Dh. NO_MACHINE, NOT_LOADED, INPUT_CLOSED, OUT_OF_MEMORY. */
+/* Adds bytes to the end of the console's input, which mezguld_open_input has opened. They are copied. The key Enter
+ * is the byte 0Dh. NO_MACHINE, NOT_LOADED, INPUT_CLOSED, OUT_OF_MEMORY. */
 MEZGULD_CALL mezguld_status mezguld_supply(mezguld *machine, const void *bytes, size_t count);
 
 /* Writes how many bytes of the console's input the program has not read yet into `*left`. NO_MACHINE, NOT_LOADED. */
 MEZGULD_CALL mezguld_status mezguld_input_left(const mezguld *machine, size_t *left);
 
-/* Executes the command that a line of the debugger asks for (docs/manual.md; no line end), keeps its answer, and writes
- * the answer's count into `*wanted`. NO_MACHINE, NOT_LOADED, SYNTAX, FULL, OUT_OF_MEMORY. After the last one the command
- * may be done, whole or in part. */
+/* Executes the command that a line of the debugger asks for (the manual has a table; no line end), keeps its answer,
+ * and writes the answer's count into `*wanted`. NO_MACHINE, NOT_LOADED, SYNTAX, FULL, OUT_OF_MEMORY. After the last one
+ * the command may be done, whole or in part. */
 MEZGULD_CALL mezguld_status mezguld_command(mezguld *machine, const char *line, size_t line_count, size_t *wanted);
 
-/* Makes at most so many steps, as mezguld_run, under the memory checker, keeps its report (see mezguld_findings), and the text
- * of that with the line about the stop as the answer, and writes the text's count into `*wanted`.
- * NO_MACHINE, NOT_LOADED, OUT_OF_MEMORY. After the last one any part of the run was made, none or all of it included. */
+/* Makes at most so many steps, as mezguld_run, under the memory checker, keeps its report (see mezguld_findings),
+ * and the text of that with the line about the stop as the answer, and writes the text's count into `*wanted`.
+ * NO_MACHINE, NOT_LOADED, OUT_OF_MEMORY. After the last one any part of the run was made, none or all of it
+ * included. */
 MEZGULD_CALL mezguld_status mezguld_check(mezguld *machine, uint64_t steps, mezguld_stopped *stopped, size_t *wanted);
 
 /* Copies the answer of the last command or checked run that had one into a buffer, and writes its count into `*wanted`.
  * NO_MACHINE, TOO_SMALL (then `*wanted` alone is written). */
 MEZGULD_CALL mezguld_status mezguld_answer(const mezguld *machine, char *buffer, size_t room, size_t *wanted);
 
-/* Copies the findings that the report of the last mezguld_check lists (none before the first one), in the order in which they
- * happened, into a buffer, and writes how many they are, at most 200, into `*wanted`. Another call than mezguld_check, also a
- * debugger command, changes nothing of them. NO_MACHINE, OUT_OF_MEMORY, TOO_SMALL (then `*wanted` alone is written). */
-MEZGULD_CALL mezguld_status mezguld_findings(const mezguld *machine, mezguld_finding *buffer, size_t room, size_t *wanted);
+/* Copies the findings that the report of the last mezguld_check lists (none before the first one), in the order in
+ * which they happened, into a buffer, and writes how many they are, at most 200, into `*wanted`. Another call than
+ * mezguld_check, also a debugger command, changes nothing of them. NO_MACHINE, OUT_OF_MEMORY, TOO_SMALL (then
+ * `*wanted` alone is written). */
+MEZGULD_CALL mezguld_status mezguld_findings(const mezguld *machine, mezguld_finding *buffer, size_t room,
+                                             size_t *wanted);
 
-/* Writes how many errors and how many notes that report has, repetitions included, into `*errors` and `*notes`, and how many
- * findings it neither lists nor counts as repetitions, since it lists 100 of their kind, into `*not_listed`. NO_MACHINE. */
+/* Writes how many errors and how many notes that report has, repetitions included, into `*errors` and `*notes`, and
+ * how many findings it neither lists nor counts as repetitions, since it lists 100 of their kind, into
+ * `*not_listed`. NO_MACHINE. */
 MEZGULD_CALL mezguld_status mezguld_finding_counts(const mezguld *machine, uint64_t *errors, uint64_t *notes,
                                                    uint64_t *not_listed);
 
@@ -480,9 +497,10 @@ MEZGULD_CALL mezguld_status mezguld_finding_counts(const mezguld *machine, uint6
 MEZGULD_CALL mezguld_status mezguld_finding_line(const mezguld *machine, size_t k, char *buffer, size_t room,
                                                  size_t *wanted);
 
-/* Assembles a text to the bytes of a COM program, and writes their count into `*wanted`. LINE_SYNTAX and LINE_TWICE at the
- * first line with either, TOO_LONG, LINE_UNKNOWN and LINE_RANGE at the first line with either (with these four the line's
- * number, from 1, is written into `*line` alone), OUT_OF_MEMORY, TOO_SMALL (then `*wanted` alone is written). */
+/* Assembles a text to the bytes of a COM program, and writes their count into `*wanted`. LINE_SYNTAX and LINE_TWICE
+ * at the first line with either, TOO_LONG, LINE_UNKNOWN and LINE_RANGE at the first line with either (with these
+ * four the line's number, from 1, is written into `*line` alone), OUT_OF_MEMORY, TOO_SMALL (then `*wanted` alone is
+ * written). */
 MEZGULD_CALL mezguld_status mezguld_assemble(const char *text, size_t text_count, void *buffer, size_t room,
                                              size_t *wanted, size_t *line);
 
@@ -491,7 +509,8 @@ MEZGULD_CALL mezguld_status mezguld_assemble(const char *text, size_t text_count
 MEZGULD_CALL mezguld_status mezguld_disassemble(const void *program, size_t program_count, char *buffer, size_t room,
                                                 size_t *wanted);
 
-/* The text of a status, with a zero byte after it, which lives as long as the program; for another number "unknown status". */
+/* The text of a status, with a zero byte after it, which lives as long as the program; for another number "unknown
+ * status". */
 static inline const char *mezguld_status_text(mezguld_status status)
 {
     switch (status) {

@@ -1,7 +1,7 @@
 /* The exports of crates/dm_c, whose contracts are proved. lib/mezguld.c calls them; no program does.
  *
- * Each pointer points to as many elements as the count after it says, or to one; none is NULL, not even where a count is 0.
- * A handle is MEZGULD_NONE before a machine is put into it, and C neither writes to it nor copies it.
+ * Each pointer points to as many elements as the count after it says, or to one; none is NULL, not even where a count
+ * is 0. A handle is MEZGULD_NONE before a machine is put into it, and C neither writes to it nor copies it.
  */
 #ifndef MEZGULD_EXPORTS_H
 #define MEZGULD_EXPORTS_H
@@ -54,7 +54,8 @@ mezguld_status dm_c_windows(mezguld *machine, mezguld_window *buffer, size_t roo
 mezguld_status dm_c_extended_blocks(mezguld *machine, mezguld_extended_block *buffer, size_t room, size_t *wanted);
 mezguld_status dm_c_upper_blocks(mezguld *machine, mezguld_upper_block *buffer, size_t room, size_t *wanted);
 mezguld_status dm_c_high_memory(mezguld *machine, uint32_t *a20, uint32_t *used);
-mezguld_status dm_c_read_page(mezguld *machine, uint16_t handle, uint16_t page, size_t offset, void *buffer, size_t count);
+mezguld_status dm_c_read_page(mezguld *machine, uint16_t handle, uint16_t page, size_t offset, void *buffer,
+                              size_t count);
 mezguld_status dm_c_read_block(mezguld *machine, uint16_t handle, size_t offset, void *buffer, size_t count);
 mezguld_status dm_c_findings(mezguld *machine, mezguld_finding *buffer, size_t room, size_t *wanted);
 mezguld_status dm_c_finding_counts(mezguld *machine, uint64_t *errors, uint64_t *notes, uint64_t *not_listed);

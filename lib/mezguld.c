@@ -1,8 +1,9 @@
 /* The functions of include/mezguld.h, over the exports of crates/dm_c.
  *
- * What a call does to a machine is done, and proved, there. This file answers NULL, which the exports never get, tests the
- * variables, and allocates each machine's handle. It only initializes a handle; everything else in it is the crate's. The file
- * needs no header of the C library, so that the kit's compiler makes the same bytes of it on every machine.
+ * What a call does to a machine is done, and proved, there. This file answers NULL, which the exports never get, tests
+ * the variables, and allocates each machine's handle. It only initializes a handle; everything else in it is the
+ * crate's. The file needs no header of the C library, so that the kit's compiler makes the same bytes of it on every
+ * machine.
  */
 #define MEZGULD_INSIDE
 #include "exports.h"
@@ -43,7 +44,8 @@ static const void *bytes_at(const void *bytes)
     return bytes == NULL ? &nothing : bytes;
 }
 
-/* The handle of a machine from which a call reads alone. (The exports take the machine out of its handle and put it back.) */
+/* The handle of a machine from which a call reads alone. (The exports take the machine out of its handle and put it
+ * back.) */
 static mezguld *handle_of(const mezguld *machine)
 {
     return (mezguld *)machine;
@@ -397,8 +399,8 @@ mezguld_status mezguld_finding_counts(const mezguld *machine, uint64_t *errors, 
     uint64_t unwanted, unneeded, unused;
     if (machine == NULL)
         return MEZGULD_NO_MACHINE;
-    return dm_c_finding_counts(handle_of(machine), errors == NULL ? &unwanted : errors, notes == NULL ? &unneeded : notes,
-                               not_listed == NULL ? &unused : not_listed);
+    return dm_c_finding_counts(handle_of(machine), errors == NULL ? &unwanted : errors,
+                               notes == NULL ? &unneeded : notes, not_listed == NULL ? &unused : not_listed);
 }
 
 mezguld_status mezguld_finding_line(const mezguld *machine, size_t k, char *buffer, size_t room, size_t *wanted)
@@ -426,5 +428,6 @@ mezguld_status mezguld_disassemble(const void *program, size_t program_count, ch
     size_t unwanted;
     if (is_missing(program, program_count) || is_missing(buffer, room))
         return MEZGULD_NULL_POINTER;
-    return dm_c_disassemble(bytes_at(program), program_count, room_at(buffer), room, wanted == NULL ? &unwanted : wanted);
+    return dm_c_disassemble(bytes_at(program), program_count, room_at(buffer), room,
+                            wanted == NULL ? &unwanted : wanted);
 }

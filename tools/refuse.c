@@ -2,9 +2,9 @@
 
    The variable REFUSE is a letter and a number N, counted from 1:
      m  the N-th allocation (malloc, realloc) fails                    M  this one and all after it
-     i  the N-th open, read or write fails with EIO                    s  the N-th read or write of several bytes moves one
-   To the descriptor in REFUSE_REPORT it writes `open FD PATH` for each file that was opened, `refused CALL FD` for each failed call, and `refused memory BYTES`
-   for each failed allocation.
+     i  the N-th open, read or write fails with EIO                    s  the N-th read or write of bytes moves one
+   To the descriptor in REFUSE_REPORT it writes `open FD PATH` for each file that was opened, `refused CALL FD` for each
+   failed call, and `refused memory BYTES` for each failed allocation.
    It is compiled without headers, because the kit has none. */
 
 typedef unsigned long size_t;

@@ -1,8 +1,9 @@
-/* What a guest program holds, from C: its blocks of the DOS memory arena, its handles and pages of expanded memory, and what the memory checker finds when
- * it ends, all as records.
+/* What a guest program holds, from C: its blocks of the DOS memory arena, its handles and pages of expanded memory, and
+ * what the memory checker finds when it ends, all as records.
  *
- * The guest keeps 512 bytes, allocates a block of five paragraphs and two pages of expanded memory, writes "Hi" to the first page through window 0, and ends
- * without freeing the pages. The host stops it before it ends, lists what it has, and runs it to its end under the memory checker.
+ * The guest keeps 512 bytes, allocates a block of five paragraphs and two pages of expanded memory, writes "Hi" to the
+ * first page through window 0, and ends without freeing the pages. The host stops it before it ends, lists what it has,
+ * and runs it to its end under the memory checker.
  */
 #include <stdio.h>
 #include <stdlib.h>
@@ -52,13 +53,15 @@ static void list_blocks(const mezguld *machine)
     }
     must("mezguld_blocks", mezguld_blocks(machine, blocks, count, &count, &end));
     for (size_t at = 0; at < count; at++)
-        printf("block %04X: owner %04X, %u paragraphs\n", blocks[at].segment + 1, blocks[at].owner, (unsigned)blocks[at].size);
+        printf("block %04X: owner %04X, %u paragraphs\n", blocks[at].segment + 1, blocks[at].owner,
+               (unsigned)blocks[at].size);
     if (end.destroyed)
         printf("destroyed at %04X\n", end.at);
     free(blocks);
 }
 
-/* Prints the handles that have pages, the beginning of each page, and what the windows show. (64 handles are all that there can be.) */
+/* Prints the handles that have pages, the beginning of each page, and what the windows show. (64 handles are all
+ * that there can be.) */
 static void list_pages(const mezguld *machine)
 {
     mezguld_page_handle handles[64];
@@ -89,7 +92,8 @@ static void list_findings(const mezguld *machine)
         must("mezguld_finding_line", mezguld_finding_line(machine, at, line, sizeof line, &length));
         printf("%s of process %04X: ", found[at].is_error ? "error" : "note", found[at].process);
         if (found[at].kind == MEZGULD_FOUND_HANDLE_KEPT)
-            printf("%u pages of handle %u are left\n", (unsigned)found[at].details.pages, (unsigned)found[at].details.handle);
+            printf("%u pages of handle %u are left\n", (unsigned)found[at].details.pages,
+                   (unsigned)found[at].details.handle);
         else if (found[at].kind == MEZGULD_FOUND_WINDOW_KEPT)
             printf("window %u is left mapped\n", (unsigned)found[at].details.window);
         else

@@ -1,7 +1,8 @@
-/* Runs a guest program again and again from a snapshot: it is started once, and each round is a copy of the machine as it was then.
+/* Runs a guest program again and again from a snapshot: it is started once, and each round is a copy of the machine as
+ * it was then.
  *
- * The guest counts to 60,000, as a program does that takes long to start, and then adds the sixteen bytes at offset 0120h; their sum
- * is its exit code. Each round writes other bytes there.
+ * The guest counts to 60,000, as a program does that takes long to start, and then adds the sixteen bytes at offset
+ * 0120h; their sum is its exit code. Each round writes other bytes there.
  */
 #include <malloc.h>
 #include <stdio.h>
@@ -62,7 +63,8 @@ int main(void)
     mezguld *machine;
     mezguld_stopped stopped;
     mezguld_cpu registers;
-    /* A machine has two large blocks. Kept for the next one, they cost no new pages, which take twice as long as the copy. */
+    /* A machine has two large blocks. Kept for the next one, they cost no new pages, which take twice as long as the
+     * copy. */
     mallopt(M_MMAP_THRESHOLD, 64 << 20);
     mallopt(M_TRIM_THRESHOLD, 256 << 20);
     double begin = now();
@@ -79,6 +81,7 @@ int main(void)
     double ended = now();
     mezguld_free(machine);
     printf("%d of %d rounds are right\n", right, ROUNDS);
-    fprintf(stderr, "the start: %.0f microseconds; a round from the snapshot: %.0f\n", started - begin, (ended - started) / ROUNDS);
+    fprintf(stderr, "the start: %.0f microseconds; a round from the snapshot: %.0f\n", started - begin,
+            (ended - started) / ROUNDS);
     return right == ROUNDS ? 0 : 1;
 }

@@ -1,7 +1,9 @@
-/* A conversation with a guest program, from C: it is run up to its question, looked at, changed, answered, and run again from a snapshot.
+/* A conversation with a guest program, from C: it is run up to its question, looked at, changed, answered, and run
+ * again from a snapshot.
  *
- * The guest prints "Your name? ", reads a line by function 0Ah, and says "Hello, " with the name; its exit code is the length of the name. The host
- * stops it before it prints, has it print another text, supplies each name as input, stops it when the name is in memory, and takes the output as it comes.
+ * The guest prints "Your name? ", reads a line by function 0Ah, and says "Hello, " with the name; its exit code is the
+ * length of the name. The host stops it before it prints, has it print another text, supplies each name as input, stops
+ * it when the name is in memory, and takes the output as it comes.
  */
 #include <stdio.h>
 #include <stdlib.h>
@@ -53,7 +55,8 @@ static mezguld *start(void)
     return machine;
 }
 
-/* Has the program print its second text in place of the first one: it is stopped before its first call of function 09h, and DX is changed. */
+/* Has the program print its second text in place of the first one: it is stopped before its first call of function
+ * 09h, and DX is changed. */
 static void change_question(mezguld *machine)
 {
     mezguld_stopped stopped;
@@ -70,8 +73,8 @@ static void change_question(mezguld *machine)
     must("mezguld_set_registers", mezguld_set_registers(machine, &registers));
 }
 
-/* Answers the question in a copy of the machine, and returns the exit code of the program there. The copy is stopped when the line is in memory, and says
- * where. */
+/* Answers the question in a copy of the machine, and returns the exit code of the program there. The copy is stopped
+ * when the line is in memory, and says where. */
 static unsigned answer(mezguld *snapshot, size_t shown, const char *name)
 {
     mezguld *machine;

@@ -1,4 +1,5 @@
-; An EXE file that NASM writes byte by byte: it keeps what it needs, allocates, resizes and frees blocks, and walks the block list.
+; An EXE file that NASM writes byte by byte: it keeps what it needs, allocates, resizes and frees blocks, and walks the
+; block list.
         cpu 8086
         bits 16
         org 0

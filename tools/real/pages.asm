@@ -1,5 +1,5 @@
-; Copies a block of DOS memory to four pages of expanded memory and back. NASM assembles it to a COM program, as it is, or with one of five
-; bugs: `-D BUG=N` plants bug N, and the line that `dm check` must name has the mark `;@N`.
+; Copies a block of DOS memory to four pages of expanded memory and back. NASM assembles it to a COM program, as it is,
+; or with one of five bugs: `-D BUG=N` plants bug N, and the line that `dm check` must name has the mark `;@N`.
 %ifndef BUG
 %assign BUG 0
 %endif

@@ -1,5 +1,5 @@
-; Calls a procedure that calls far, which calls an interrupt with a handler of its own, which divides by zero, which leads to another handler.
-; Each pushes registers or makes room for locals, in which stands what looks like a return address.
+; Calls a procedure that calls far, which calls an interrupt with a handler of its own, which divides by zero: another
+; handler. Each pushes registers or makes room for locals, in which stands what looks like a return address.
 section .text
 start:
     mov ax, 2560h

@@ -1,5 +1,5 @@
-/* Calls each function of mezguld.h, and expects its statuses and results: without a machine, without a program, with its input closed and open, with
- * buffers that are too small, and with NULL for each pointer. */
+/* Calls each function of mezguld.h, and expects its statuses and results: without a machine, without a program, with
+ * its input closed and open, with buffers that are too small, and with NULL for each pointer. */
 #include <stdio.h>
 #include <stdlib.h>
 #include <string.h>
@@ -115,7 +115,8 @@ static void look(mezguld *machine)
     mezguld_free(copy);
 }
 
-/* NULL where a count is 0 and where a result is not wanted, and NULL where it is refused. The loaded program has made no step, and has the input "ab". */
+/* NULL where a count is 0 and where a result is not wanted, and NULL where it is refused. The loaded program has
+ * made no step, and has the input "ab". */
 static void give_null(mezguld *machine)
 {
     char bytes[64];
@@ -144,8 +145,9 @@ static void give_null(mezguld *machine)
     EXPECT(mezguld_new(&machine, 0, 0, NULL, 1, 0) == MEZGULD_NULL_POINTER && machine == NULL);
 }
 
-/* What a machine holds: without and with room, and with NULL for each pointer. The loaded program has made no step: the arena has the blocks of its
- * environment and its prefix, the link block and a block of upper memory; handle 0 of expanded memory is in use; nothing else is. */
+/* What a machine holds: without and with room, and with NULL for each pointer. The loaded program has made no step:
+ * the arena has the blocks of its environment and its prefix, the link block and a block of upper memory; handle 0
+ * of expanded memory is in use; nothing else is. */
 static void list_all(mezguld *machine)
 {
     mezguld_block blocks[5];
@@ -189,7 +191,8 @@ static void list_all(mezguld *machine)
     EXPECT(mezguld_finding_line(machine, (size_t)-1, bytes, 8, &count) == MEZGULD_NO_FINDING && bytes[0] == 0);
 }
 
-/* A checked run of a program that allocates a page, divides by 0 (AX / 0) and so ends: an error at the division, and one for the handle that is left. */
+/* A checked run of a program that allocates a page, divides by 0 (AX / 0) and so ends: an error at the division, and
+ * one for the handle that is left. */
 static void find(void)
 {
     static const char text[] = "MOV BX,1\nMOV AH,43h\nINT 67h\nMOV BL,0\nDIV BL";
@@ -216,7 +219,8 @@ static void find(void)
     mezguld_free(copy);
 }
 
-/* Linear addresses: A20 is off at the start, so that 100000h is 0 again; F0000h is the ROM, and past 10FFEFh there is nothing. */
+/* Linear addresses: A20 is off at the start, so that 100000h is 0 again; F0000h is the ROM, and past 10FFEFh there
+ * is nothing. */
 static void read_and_write(mezguld *machine)
 {
     static const uint8_t none[6] = {0xFF, 0xFF, 0xFF, 0xFF, 0xFF, 0xFF};

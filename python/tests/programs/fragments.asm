@@ -1,4 +1,5 @@
-; Allocates sixteen blocks of growing size, frees every second one, and cannot get a large block then, although enough is free.
+; Allocates sixteen blocks of growing size, frees every second one, and cannot get a large block then, although enough
+; is free.
         MOV SP,400h
         MOV AH,4Ah              ; the program keeps 40h paragraphs
         MOV BX,40h

@@ -1,4 +1,5 @@
-; Keeps six pages of expanded memory under two handles, and calls one after the other in the windows, as a program with overlays does.
+; Keeps six pages of expanded memory under two handles, and calls one after the other in the windows, as a program with
+; overlays does.
         MOV AH,43h
         MOV BX,4
         INT 67h

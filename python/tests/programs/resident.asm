@@ -1,4 +1,5 @@
-; Starts TSR.COM, which moves itself to upper memory and stays resident there; then allocates in both parts of memory. For --upper.
+; Starts TSR.COM, which moves itself to upper memory and stays resident there; then allocates in both parts of memory.
+; For --upper.
         MOV SP,400h
         MOV AH,4Ah
         MOV BX,50h
