@@ -1,8 +1,10 @@
 """The command lines of the scripts that a person calls: `--help` says what a script does, its arguments and an example; a wrong line is refused with one
 sentence and status 2."""
 import argparse
+import contextlib
 import os
 import re
+import subprocess
 import sys
 
 ROOT = os.path.dirname(os.path.dirname(os.path.abspath(__file__)))
@@ -21,18 +23,35 @@ class Parser(argparse.ArgumentParser):
         self.exit(2, f"{self.prog}: {message}; {self.prog} --help tells more\n")
 
 
+# The seconds that a program has to tell its version.
+SECONDS = 10
+
+
+def named(path):
+    """A path that is not empty, as an argument."""
+    if not path:
+        raise argparse.ArgumentTypeError("the path is empty")
+    return path
+
+
 def program(path):
-    """The path of a program, as an argument."""
-    if not os.path.exists(path):
+    """The path of a program, as an argument. It is called once, with `--version`, since a file that may be executed need not be a program."""
+    if not os.path.exists(named(path)):
         raise argparse.ArgumentTypeError(f"there is no file {path}")
     if os.path.isdir(path) or not os.access(path, os.X_OK):
         raise argparse.ArgumentTypeError(f"{path} is no program")
-    return os.path.abspath(path)
+    whole = os.path.abspath(path)
+    try:
+        with contextlib.suppress(subprocess.TimeoutExpired):
+            subprocess.run([whole, "--version"], stdin=subprocess.DEVNULL, capture_output=True, timeout=SECONDS, check=False)
+    except OSError as error:
+        raise argparse.ArgumentTypeError(f"{path} is no program: {error.strerror}") from error
+    return whole
 
 
 def file(path):
     """The path of a file that exists, as an argument."""
-    if not os.path.exists(path):
+    if not os.path.exists(named(path)):
         raise argparse.ArgumentTypeError(f"there is no file {path}")
     if os.path.isdir(path):
         raise argparse.ArgumentTypeError(f"{path} is a folder")
@@ -43,7 +62,7 @@ def file(path):
 
 def new_file(path):
     """The path of a file that is to be written, as an argument."""
-    folder = os.path.dirname(os.path.abspath(path))
+    folder = os.path.dirname(os.path.abspath(named(path)))
     if not os.path.isdir(folder):
         raise argparse.ArgumentTypeError(f"there is no folder {folder}")
     if os.path.isdir(path):
@@ -55,7 +74,7 @@ def new_file(path):
 
 def new_folder(path):
     """The path of a folder, or of one that is to be made, as an argument."""
-    whole = os.path.abspath(path)
+    whole = os.path.abspath(named(path))
     if os.path.lexists(whole) and not os.path.isdir(whole):
         raise argparse.ArgumentTypeError(f"{path} is no folder")
     above = whole if os.path.isdir(whole) else os.path.dirname(whole)

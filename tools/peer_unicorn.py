@@ -354,6 +354,8 @@ def main():
     places = [place for place, entry in enumerate(opcodes.ENTRIES) if is_named(entry, sys.argv[4:])]
     if not places:
         sys.exit("tools/peers: no entry of the table has this first byte")
+    # (A process of the pool that cannot load the library would be replaced for ever.)
+    stage.library()
     made, known, wrong = 0, collections.Counter(), 0
     # (Unicorn keeps memory that it has had: so each entry has a process of its own.)
     with multiprocessing.Pool(jobs, maxtasksperchild=1) as pool:
