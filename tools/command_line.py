@@ -1,6 +1,7 @@
 """The command lines of the scripts that a person calls: `--help` says what a script does, its arguments and an example; a wrong line is refused with one
-sentence and status 2."""
+sentence and status 2. What the operating system refuses later, as output into a pipe that nobody reads, is one sentence and status 1."""
 import argparse
+import atexit
 import contextlib
 import os
 import re
@@ -10,12 +11,46 @@ import sys
 ROOT = os.path.dirname(os.path.dirname(os.path.abspath(__file__)))
 
 
+def name_of_script():
+    """The script's path from the top."""
+    return os.path.relpath(os.path.realpath(sys.argv[0]), ROOT)
+
+
+def give_up(error):
+    """Says in one sentence what the operating system has refused. Nothing is written to standard output from then on: what is left in its buffer is lost."""
+    with contextlib.suppress(OSError, ValueError):
+        os.dup2(os.open(os.devnull, os.O_WRONLY), 1)
+    with contextlib.suppress(OSError, ValueError, AttributeError):
+        print(f"{name_of_script()}: {error}", file=sys.stderr, flush=True)
+
+
+def uncaught(kind, error, trace):
+    """Takes the place of Python's report of an exception that nobody has caught."""
+    if issubclass(kind, (OSError, KeyboardInterrupt)):
+        give_up("interrupted" if kind is KeyboardInterrupt else error)
+    else:
+        sys.__excepthook__(kind, error, trace)
+
+
+def flush_at_the_end():
+    """Writes what is left in the buffer of standard output, before Python would."""
+    try:
+        if sys.stdout is not None:
+            sys.stdout.flush()
+    except (OSError, ValueError) as error:
+        give_up(error)
+        os._exit(1)
+
+
 class Parser(argparse.ArgumentParser):
     """A parser of a script's command line, by the script's own comment and an example."""
 
     def __init__(self, about, example, **more):
+        if sys.excepthook is not uncaught:
+            sys.excepthook = uncaught
+            atexit.register(flush_at_the_end)
         super().__init__(
-            prog=more.pop("prog", os.path.relpath(os.path.realpath(sys.argv[0]), ROOT)), description=about.strip(), epilog=f"example: {example}",
+            prog=more.pop("prog", name_of_script()), description=about.strip(), epilog=f"example: {example}",
             formatter_class=argparse.RawDescriptionHelpFormatter, allow_abbrev=False, **more,
         )
 
