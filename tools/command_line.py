@@ -26,7 +26,7 @@ def give_up(error):
 
 def uncaught(kind, error, trace):
     """Takes the place of Python's report of an exception that nobody has caught."""
-    if issubclass(kind, (OSError, KeyboardInterrupt)):
+    if issubclass(kind, (OSError, subprocess.SubprocessError, KeyboardInterrupt)):
         give_up("interrupted" if kind is KeyboardInterrupt else error)
     else:
         sys.__excepthook__(kind, error, trace)
