@@ -11,7 +11,7 @@ use Rattle.dm_history.specs.declared.change.Change.TheVariants.{Registers, Writt
 use Rattle.dm_history.specs.declared.change.TimedChange.{TimedChange}
 use Rattle.dm_history.specs.Edits.{changed}
 use Rattle.dm_history.specs.Becomes.{BecomesBy, start, edited, stepped}
-use Rattle.dm_history.specs.inner.Replays.{RunsTo, LeadsBeyond, IsReplayed}
+use Rattle.dm_history.specs.inner.Replays.{RunsUpTo, LeadsBeyond, IsReplayed}
 use Rattle.dm_history.proofs.Leading.{changed-steps, changed-exited}
 use Rattle.dm_history.proofs.OneState.{edit_of, rises}
 use Rattle.dm_history.proofs.Runs.{run-becomes}
@@ -27,7 +27,7 @@ steps-no-memory : AllSteps ≢ NoMemory
 steps-no-memory e = cc
 
 -- a run to a count of steps leads where the steps had led
-pub run-there : (s t w : State) (step : ℕ) → Gone s w → w.steps ≡ step → RunsTo s step t → t ≡ w
+pub run-there : (s t w : State) (step : ℕ) → Gone s w → w.steps ≡ step → RunsUpTo s step t → t ≡ w
 run-there s t w step g e r =
     let count = g.steps in
     let same : step - s.steps ≡ g.made = omega (arith, count, e) in
@@ -48,7 +48,7 @@ pub record ToEdit (s : State) (e : TimedChange) (es : List TimedChange) (step : 
   pub steps : t.steps ≡ e.step
   pub beyond : LeadsBeyond (changed e.change t) es step
 
-pub to-edit : (s t : State) (e : TimedChange) (es : List TimedChange) (step : ℕ) → LeadsBeyond s (e ∷ es) step → step < 2 ^ 64 - 1 → RunsTo s e.step t → ToEdit s e es step t
+pub to-edit : (s t : State) (e : TimedChange) (es : List TimedChange) (step : ℕ) → LeadsBeyond s (e ∷ es) step → step < 2 ^ 64 - 1 → RunsUpTo s e.step t → ToEdit s e es step t
 to-edit s t e es step k l r =
     let f = front s k.present (e ∷ (es ++ k.others)) e (es ++ k.others) k.becomes refl in
     let within : e.step ≤ step = All-head (λ z. z.step ≤ step) e es k.within in
@@ -72,15 +72,15 @@ to-edit s t e es step k l r =
 
 -- up to the last step
 
-pub to-step : (s t : State) (step : ℕ) → LeadsBeyond s [] step → step < 2 ^ 64 - 1 → s.steps ≤ step → RunsTo s step t → t.steps ≡ step
+pub to-step : (s t : State) (step : ℕ) → LeadsBeyond s [] step → step < 2 ^ 64 - 1 → s.steps ≤ step → RunsUpTo s step t → t.steps ≡ step
 to-step s t step k l b r =
     let m = midway s k.present k.others step k.becomes l b k.later k.after in
     let same = m.steps in
     let gone = all-goes s m.at [] m.becomes refl m.alive (omega (arith, same, l)) in
     ap (λ (u : State). u.steps) (run-there s t m.at step gone same r) ∙ same
 
-pub runs-to : (o s t : State) (es : List TimedChange) (step : ℕ) → BecomesBy o es s → RunsTo s step t → BecomesBy o es t
-runs-to o s t es step b r = run-becomes o s t es (step - s.steps) r.stop b r.run
+pub runs-up-to : (o s t : State) (es : List TimedChange) (step : ℕ) → BecomesBy o es s → RunsUpTo s step t → BecomesBy o es t
+runs-up-to o s t es step b r = run-becomes o s t es (step - s.steps) r.stop b r.run
 
 -- ---- one edit after another
 
@@ -101,7 +101,7 @@ pub record Next (o : State) (es : List TimedChange) (i step : ℕ) (t : State) :
   pub becomes : BecomesBy o (take (i + 1) es) t
   pub known : LeadsBeyond t (drop (i + 1) es) step
 
-next-edit : (o s t : State) (es : List TimedChange) (i step : ℕ) (e : TimedChange) → i < length es → e ≡ get_or es i e → step < 2 ^ 64 - 1 → BecomesBy o (take i es) s → LeadsBeyond s (drop i es) step → RunsTo s e.step t → HasProgram t →
+next-edit : (o s t : State) (es : List TimedChange) (i step : ℕ) (e : TimedChange) → i < length es → e ≡ get_or es i e → step < 2 ^ 64 - 1 → BecomesBy o (take i es) s → LeadsBeyond s (drop i es) step → RunsUpTo s e.step t → HasProgram t →
     Next o es i step (changed e.change t)
 next-edit o s t es i step e l is m b k r h =
     let known = known-item s es i step e l is k in
@@ -114,17 +114,17 @@ next-edit o s t es i step e l is m b k r h =
     record {
       loaded = changed-loaded e.change t h;
       before = omega (arith, now, count, within);
-      becomes = subst (λ xs. BecomesBy o xs (changed e.change t)) whole (edited (take i es) t e.change (runs-to o s t (take i es) e.step b r));
+      becomes = subst (λ xs. BecomesBy o xs (changed e.change t)) whole (edited (take i es) t e.change (runs-up-to o s t (take i es) e.step b r));
       known = x.beyond;
     }
 
 pub next-state : (o s t u : State) (es : List TimedChange) (i step : ℕ) (e : TimedChange) → u ≡ changed e.change t → i < length es → e ≡ get_or es i e → step < 2 ^ 64 - 1 → BecomesBy o (take i es) s → LeadsBeyond s (drop i es) step →
-    RunsTo s e.step t → HasProgram t → Next o es i step u
+    RunsUpTo s e.step t → HasProgram t → Next o es i step u
 next-state o s t u es i step e q l is m b k r h = subst (Next o es i step) (sym q) (next-edit o s t es i step e l is m b k r h)
 
-pub replayed : (o s t : State) (es : List TimedChange) (i step : ℕ) → length es ≤ i → step < 2 ^ 64 - 1 → s.steps ≤ step → BecomesBy o (take i es) s → LeadsBeyond s (drop i es) step → RunsTo s step t → IsReplayed o es step t
+pub replayed : (o s t : State) (es : List TimedChange) (i step : ℕ) → length es ≤ i → step < 2 ^ 64 - 1 → s.steps ≤ step → BecomesBy o (take i es) s → LeadsBeyond s (drop i es) step → RunsUpTo s step t → IsReplayed o es step t
 replayed o s t es i step l m a b k r = record {
-  becomes = runs-to o s t es step (subst (λ xs. BecomesBy o xs s) (take_all i es l) b) r;
+  becomes = runs-up-to o s t es step (subst (λ xs. BecomesBy o xs s) (take_all i es l) b) r;
   steps = to-step s t step (subst (λ xs. LeadsBeyond s xs step) (drop_all i es l) k) m a r;
 }
 

@@ -3,7 +3,7 @@
 ghost use Rattle.std.specs.Prelude.{◌≡◌, ◌-◌, ◌^◌, ◌<◌, ◌≤◌, ℕ, All, OnOk, length};
 ghost use Rattle.dm_services.specs.state.State.{HasProgram};
 ghost use Rattle.dm_history.specs.Edits.{edits_to};
-ghost use Rattle.dm_history.specs.inner.Replays.{RunsTo, LeadsBeyond, IsReplayed};
+ghost use Rattle.dm_history.specs.inner.Replays.{RunsUpTo, LeadsBeyond, IsReplayed};
 
 use crate::change::{TimedChange, apply};
 use dm_machine::{Machine, Stop};
@@ -31,10 +31,10 @@ pub(crate) fn latest(edits: &[TimedChange], step: u64) -> u64
 
 /// Makes steps up to a count of steps, or fewer if the machine stops. An `Err` is a failed allocation; some of the
 /// steps may have been made.
-pub(crate) fn run_to(machine: &mut Machine, step: u64) -> Result<(), AllocError>
+pub(crate) fn run_up_to(machine: &mut Machine, step: u64) -> Result<(), AllocError>
     requires loaded { HasProgram machine.old }
     requires before { machine.old.steps ≤ step }
-    ensures ok { OnOk result (RunsTo machine.old step machine.new) }
+    ensures ok { OnOk result (RunsUpTo machine.old step machine.new) }
     ensures loaded { HasProgram machine.new }
 {
     match machine.run(step - machine.steps()) {
@@ -59,8 +59,8 @@ pub(crate) fn replay(
     ensures loaded { HasProgram machine.new }
 {
     for edit in edits {
-        run_to(machine, edit.step)?;
+        run_up_to(machine, edit.step)?;
         apply(machine, &edit.change);
     }
-    run_to(machine, step)
+    run_up_to(machine, step)
 }

@@ -10,7 +10,7 @@ use Rattle.dm_history.specs.Becomes.{BecomesBy}
 use Rattle.dm_history.specs.Pasts.{Past}
 
 -- a run from s up to a count of steps, in which no allocation fails, leaves t
-pub record RunsTo (s : State) (step : ℕ) (t : State) : Type 0 where
+pub record RunsUpTo (s : State) (step : ℕ) (t : State) : Type 0 where
   pub stop : Stop
   pub run : IsRun s (step - s.steps) stop t
   pub memory : stop ≢ NoMemory
