@@ -349,7 +349,7 @@ MEZGULD_CALL mezguld_status mezguld_run_until(mezguld *machine, uint64_t steps, 
                                               size_t points_count, mezguld_stopped *stopped);
 
 /* Makes at most so many steps, but none after the first that leads to one of these events: then the stop is EVENT,
- * and the place in the list of the first event that came, from 0, is written into `*place`, which stays otherwise.
+ * and the index in the list, from 0, of the first event that came is written into `*place`, which stays otherwise.
  * Where the run begins is no event to it, so that the next run goes on; bytes are compared with those at its
  * beginning. An INT with a prefix before it, INT 3 (CCh), INTO and a jump to where a vector leads are no calls to
  * it: MEZGULD_AT_ADDRESS sees where they lead. Steps are as fast as with breakpoints, but for those that touch the
