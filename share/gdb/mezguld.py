@@ -10,7 +10,10 @@ import struct
 import subprocess
 import sys
 
-import gdb
+try:
+    import gdb
+except ImportError:
+    sys.exit("mezguld.py: GDB reads this file: gdb -x mezguld.py")
 
 # The other files stand beside this one. Their folder leaves the path again, since a package of Python has this file's name; and there is no need to keep
 # them compiled.
@@ -91,8 +94,12 @@ class Linear(gdb.Function):
     def __init__(self):
         super().__init__("linear")
 
-    def invoke(self, segment, offset):
-        return linear_of(int(segment) & 0xFFFF, int(offset) & 0xFFFF)
+    def invoke(self, *given):
+        try:
+            segment, offset = (int(it) & 0xFFFF for it in given)
+        except (ValueError, TypeError, gdb.error) as error:
+            raise gdb.GdbError(self.__doc__) from error
+        return linear_of(segment, offset)
 
 
 class Group(gdb.Command):

@@ -3,7 +3,12 @@
 `bt`, `up`, `finish`, `next`, `until`, `advance` and others of GDB's commands use the unwinder. `reverse-next`, `reverse-nexti` and `reverse-finish` are made anew:
 GDB's own go back to where a function's symbol is, but a program in assembly has symbols inside of procedures, and procedures without one.
 """
-import gdb
+import sys
+
+try:
+    import gdb
+except ImportError:
+    sys.exit("mezguld_frames.py: mezguld.py reads this file, in GDB: gdb -x mezguld.py")
 import mezguld_calls
 from gdb.FrameDecorator import FrameDecorator
 from gdb.unwinder import Unwinder, register_unwinder
