@@ -1,10 +1,12 @@
 """The programs of bench/measure: what is repeated in them, by mnemonic and by the kind of the operands.
 
-A row has a body, which is measured, and what stands before it in each repetition but is not: the cost of a loop of the latter alone is subtracted. In each text
-`{i}` is the number of the repetition. The registers are as START leaves them, the flags are those of the row's `setup`.
+A row has a body, which is measured, and what stands before it in each repetition but is not: the cost of a loop of
+the latter alone is subtracted. In each text `{i}` is the number of the repetition. The registers are as START leaves
+them, the flags are those of the row's `setup`.
 """
 COPIES, STRING_COPIES, REPEATS = 32, 4, 64
-# BX, BP, SI and DI point to zeros, AX, CX and DX hold small numbers, the stack is FFF0h, and a far address of the row's own code stands above it.
+# BX, BP, SI and DI point to zeros, AX, CX and DX hold small numbers, the stack is FFF0h, and a far address of the row's
+# own code stands above it.
 START = (
     "MOV SP,0FFF0h", "MOV BX,2000h", "MOV BP,2100h", "MOV SI,3000h", "MOV DI,5000h", "MOV AX,5", "MOV DX,2", "MOV CX,3",
     "MOV WORD [0FFF2h],CS", "MOV WORD [0FFF4h],0F202h", "MOV WORD [2402h],CS", "CLD",
@@ -52,7 +54,8 @@ def lines_of(text):
 
 
 def steps_of(line):
-    """The steps of a line that stands before a body: a call of a service has two, and a far transfer to a number is written as its bytes, DB and DW."""
+    """The steps of a line that stands before a body: a call of a service has two, and a far transfer to a number is
+    written as its bytes, DB and DW."""
     return 2 if line.startswith("INT ") else 0 if line.startswith("DW") else 1
 
 
@@ -231,7 +234,8 @@ def elsewhere():
 
 
 def in_a_window():
-    """What else is measured of a window: bytes, the stack, single string instructions, and repetitions of the other kinds."""
+    """What else is measured of a window: bytes, the stack, single string instructions, and repetitions of the other
+    kinds."""
     full, at = (*PAGE, "MOV AX,0E000h", "MOV DS,AX", "MOV ES,AX", *REGISTERS), ("MOV SI,1000h", "MOV DI,2000h")
     for what, body in (("reads a byte", "MOV AL,[BX]"), ("writes a byte", "MOV [BX],AL"), ("adds a word to one", "ADD AX,[BX]"), ("adds to a word", "ADD [BX],AX")):
         yield f"a step that {what} in a window", Row(body[:3], "a window", body, setup=full)

@@ -202,7 +202,8 @@ def with_tables(text, found):
 
 
 def with_sentences(text, found):
-    """The page with its sentences anew. (A sentence may go over lines; then its lines stay as they are, but for the figures.)"""
+    """The page with its sentences anew. (A sentence may go over lines; then its lines stay as they are, but for the
+    figures.)"""
     faults, made = [], said(found)
     for sentence in SENTENCES:
         pattern = re.escape(sentence).replace(r"\ ", r"\s+")

@@ -1,5 +1,6 @@
-"""The command lines of the scripts that a person calls: `--help` says what a script does, its arguments and an example; a wrong line is refused with one
-sentence and status 2. What the operating system refuses later, as output into a pipe that nobody reads, is one sentence and status 1."""
+"""The command lines of the scripts that a person calls: `--help` says what a script does, its arguments and an
+example; a wrong line is refused with one sentence and status 2. What the operating system refuses later, as output
+into a pipe that nobody reads, is one sentence and status 1."""
 import argparse
 import atexit
 import contextlib
@@ -17,7 +18,8 @@ def name_of_script():
 
 
 def give_up(error):
-    """Says in one sentence what the operating system has refused. Nothing is written to standard output from then on: what is left in its buffer is lost."""
+    """Says in one sentence what the operating system has refused. Nothing is written to standard output from then
+    on: what is left in its buffer is lost."""
     with contextlib.suppress(OSError, ValueError):
         os.dup2(os.open(os.devnull, os.O_WRONLY), 1)
     with contextlib.suppress(OSError, ValueError, AttributeError):
@@ -70,7 +72,8 @@ def named(path):
 
 
 def program(path):
-    """The path of a program, as an argument. It is called once, with `--version`, since a file that may be executed need not be a program."""
+    """The path of a program, as an argument. It is called once, with `--version`, since a file that may be executed
+    need not be a program."""
     if not os.path.exists(named(path)):
         raise argparse.ArgumentTypeError(f"there is no file {path}")
     if os.path.isdir(path) or not os.access(path, os.X_OK):

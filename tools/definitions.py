@@ -1,4 +1,5 @@
-"""The page of definitions: those that public contracts rest on, from the sources, each with what names it and what tries it. `tools/book` writes it."""
+"""The page of definitions: those that public contracts rest on, from the sources, each with what names it and what
+tries it. `tools/book` writes it."""
 import believed
 import specs
 
@@ -77,7 +78,8 @@ class Page:
         return "\n".join(self.lines()) + "\n"
 
     def faults(self):
-        """The definitions that public contracts reach but only proofs may name, and those that rows name but do not exist."""
+        """The definitions that public contracts reach but only proofs may name, and those that rows name but do not
+        exist."""
         for it in self.reached.values():
             if it.is_inner:
                 yield f"{it.path}:{it.line}: a public contract reaches `{it.name}`, which stands in inner/"

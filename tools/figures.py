@@ -10,8 +10,8 @@ import header
 import served
 import specs
 
-# The sentences of each page, by the names of the figures in `counted`; a blank stands for any space. The figures of a page's second list are those of the
-# kit's files, and hold for one kit.
+# The sentences of each page, by the names of the figures in `counted`; a blank stands for any space. The figures of a
+# page's second list are those of the kit's files, and hold for one kit.
 SENTENCES = {
     "README.md": (["{machine_definitions} definitions on {machine_lines} lines", "{axioms} contracts of C functions"], []),
     "CONTRIBUTING.md": (

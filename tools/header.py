@@ -1,7 +1,8 @@
-"""Compares lib/exports.h with the exports of crates/dm_c, include/mezguld.h with both and with the records of the crates below, and
-python/mezguld/__init__.py with that header.
+"""Compares lib/exports.h with the exports of crates/dm_c, include/mezguld.h with both and with the records of the
+crates below, and python/mezguld/__init__.py with that header.
 
-(That lib/mezguld.c has the functions of include/mezguld.h, and calls the exports as lib/exports.h declares them, is the C compiler's to see.)"""
+(That lib/mezguld.c has the functions of include/mezguld.h, and calls the exports as lib/exports.h declares them, is
+the C compiler's to see.)"""
 import ast
 import glob
 import os
@@ -21,21 +22,24 @@ LETTERS = {
     "m": "mezguld *", "h": "mezguld **", "s": "mezguld_stopped *", "r": "mezguld_cpu *", "c": "const mezguld_cpu *", "w": "size_t *", "q": "uint64_t *",
     "n": "size_t", "I": "uint32_t", "B": "uint32_t", "Q": "uint64_t", "H": "uint16_t", "e": "mezguld_list_end *", "d": "uint32_t *",
 }
-# What C calls a status and a reason to stop, which are numbers of the exports; an export that returns a number that is no status; and the type that C has
-# for bytes, `void` for data and `char` for texts.
+# What C calls a status and a reason to stop, which are numbers of the exports; an export that returns a number that is
+# no status; and the type that C has for bytes, `void` for data and `char` for texts.
 STATUS_TYPE, STOP_TYPE, KIND_TYPE, NO_STATUS, BYTES = "mezguld_status", "mezguld_stop", "mezguld_kind", ("dm_c_version",), re.compile(r"\b(?:void|char) \*")
 # The fields that are numbers in the crates and enumerations in C: the enumeration of each, by the struct.
 NAMED = {
     ("Stopped", "why"): STOP_TYPE, ("Awaited", "kind"): KIND_TYPE, ("FoundRecord", "kind"): "mezguld_finding_kind", ("Act", "how"): "mezguld_how",
 }
-# The exceptions of the Python module whose status has another name in the header, and the statuses that it raises nothing for: its own calls meet neither
-# an event of no kind, NULL, bad variables, a finding that is not listed nor, at last, a buffer that is too small.
+# The exceptions of the Python module whose status has another name in the header, and the statuses that it raises
+# nothing for: its own calls meet neither an event of no kind, NULL, bad variables, a finding that is not listed nor, at
+# last, a buffer that is too small.
 RENAMED, UNRAISED = {"COMMAND_SYNTAX": "SYNTAX", "BREAKPOINTS_FULL": "FULL"}, ("OK", "TOO_SMALL", "BAD_EVENT", "NULL_POINTER", "BAD_VARIABLES", "NO_FINDING")
-# The status of the exports that C never sees, since lib/mezguld.c makes each handle; and those that lib/mezguld.c returns by itself.
+# The status of the exports that C never sees, since lib/mezguld.c makes each handle; and those that lib/mezguld.c
+# returns by itself.
 INNER, OUTER = ("IN_USE",), ("NULL_POINTER", "BAD_VARIABLES")
 # The structs that the Python module has as classes of its own, not as a table's records.
 WRITTEN_OUT = ("mezguld", "mezguld_stopped", "mezguld_cpu", "mezguld_point", "mezguld_event")
-# The functions that take a `const mezguld *`; and those of the header whose parameters are not those of the export but for `const`: they make or free a machine.
+# The functions that take a `const mezguld *`; and those of the header whose parameters are not those of the export but
+# for `const`: they make or free a machine.
 READERS = (
     "steps", "registers", "read", "read_linear", "output", "output_count", "input_left", "answer", "copy", "blocks", "page_handles", "windows", "extended_blocks",
     "upper_blocks", "high_memory", "read_page", "read_block", "findings", "finding_counts", "finding_line",
@@ -244,7 +248,8 @@ def record_fields(text):
 
 
 def python_faults(header):
-    """The faults of the Python module's tables of parameters and of exceptions, of its stops and of the fields of its registers."""
+    """The faults of the Python module's tables of parameters and of exceptions, of its stops and of the fields of
+    its registers."""
     tables, classes, numbers = {}, {}, {}
     for node in ast.parse(text_of("python/mezguld/__init__.py")).body:
         if isinstance(node, ast.Assign) and isinstance(node.targets[0], ast.Name) and isinstance(node.value, ast.Dict):
@@ -287,6 +292,7 @@ def faults():
 
 
 def words():
-    """The words of the header and of the Python module, the header's names also without their prefix; and those of C and Python in documents."""
+    """The words of the header and of the Python module, the header's names also without their prefix; and those of C
+    and Python in documents."""
     names = re.findall(r"[A-Za-z_]\w*", text_of("include/mezguld.h") + text_of("lib/exports.h") + text_of("python/mezguld/__init__.py"))
     return {*names, *[re.sub(r"^MEZGULD_", "", name) for name in names], "MEZGULD_", "malloc", "realloc", "free", "unittest"}

@@ -1,4 +1,5 @@
-"""What tools/build, tools/mutants and tools/static_library share: the kit's own modules, and proofs of crates in parallel."""
+"""What tools/build, tools/mutants and tools/static_library share: the kit's own modules, and proofs of crates in
+parallel."""
 import contextlib
 import functools
 import importlib.machinery
@@ -53,7 +54,8 @@ def load(file):
 
 
 def quick_stamps(made):
-    # The stamp of a crate, a checksum of all its sources, includes those of the crates below, which are reached in many ways.
+    # The stamp of a crate, a checksum of all its sources, includes those of the crates below, which are reached in many
+    # ways.
     made.Crate.stamp = functools.lru_cache(maxsize=None)(made.Crate.stamp)
 
 
@@ -89,7 +91,8 @@ def stamp_file(library):
 
 
 def is_newer(library, sources):
-    """Whether a source was written after the library was put in its place. (Its files may be older: the kit keeps what it proved.)"""
+    """Whether a source was written after the library was put in its place. (Its files may be older: the kit keeps
+    what it proved.)"""
     return max(map(os.path.getmtime, sources)) > os.path.getmtime(library.rlib)
 
 
@@ -97,10 +100,11 @@ def is_newer(library, sources):
 def proved_below(name):
     """Has the kit take the libraries below a crate as proved, for a while, if `rt ci` has proved them.
 
-    A command of the kit proves a library again unless crates/NAME/out/rlib holds one with a stamp, a checksum of its sources. The libraries that `rt ci` leaves
-    there have no stamp, because they hold only statements, which fit only the libraries that they were built on. Those of one run get their stamps here, and
-    lose them afterwards. A library gets none if a source of it is newer, if it has one already, because another command built it, or if it uses such a library:
-    the kit then proves it again if it must.
+    A command of the kit proves a library again unless crates/NAME/out/rlib holds one with a stamp, a checksum of its
+    sources. The libraries that `rt ci` leaves there have no stamp, because they hold only statements, which fit only
+    the libraries that they were built on. Those of one run get their stamps here, and lose them afterwards. A
+    library gets none if a source of it is newer, if it has one already, because another command built it, or if it
+    uses such a library: the kit then proves it again if it must.
     """
     made, script = module(), os.path.relpath(os.path.realpath(sys.argv[0]), ROOT)
     libraries = made.Crate(f"{ROOT}/crates/{name}", ROOT, {}).below()
@@ -139,7 +143,8 @@ def chains(made, crates):
 
 
 def prove(made, crate, jobs):
-    """Proves a crate and builds its library, if that is missing. Returns whether it is proved; if it is not, prints what the prover says."""
+    """Proves a crate and builds its library, if that is missing. Returns whether it is proved; if it is not, prints
+    what the prover says."""
     if crate.is_built():
         return True
     before = stamp(made, crate)
@@ -163,7 +168,8 @@ def prove(made, crate, jobs):
 
 
 def prove_all(made, crates):
-    """Proves the crates, each after those below it. Returns whether all are proved; nothing is tried above one that is not."""
+    """Proves the crates, each after those below it. Returns whether all are proved; nothing is tried above one that
+    is not."""
     longest, lanes = chains(made, crates), made.cores()
     left = sorted(crates, key=longest.get, reverse=True)
     proved, failed, running = set(), set(), {}

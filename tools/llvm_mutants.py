@@ -1,6 +1,8 @@
-"""Changes of functions in LLVM's text, as the kit's unproved build writes it: each in one place that has a meaning. `tools/definition_mutants` uses this.
+"""Changes of functions in LLVM's text, as the kit's unproved build writes it: each in one place that has a meaning.
+`tools/definition_mutants` uses this.
 
-What has no meaning is not changed: checks of the unproved build, flags of what is still to be dropped, sizes and places in memory, and what nothing uses.
+What has no meaning is not changed: checks of the unproved build, flags of what is still to be dropped, sizes and
+places in memory, and what nothing uses.
 """
 import collections
 import random
@@ -83,7 +85,8 @@ def flags(lines):
 
 
 def sites(lines):
-    """Where a function may be changed, and how: the place of the line, the kind of change, and of a match its number of cases."""
+    """Where a function may be changed, and how: the place of the line, the kind of change, and of a match its number
+    of cases."""
     left, found = unused(lines) | flags(lines), []
     for place, line in enumerate(lines):
         if place in left or OF_FLAGS.search(line):
@@ -142,7 +145,8 @@ def changed(lines, site, draw):
 
 
 def sample(crate, bodies, count, seed):
-    """At most so many changes of the functions of a crate, at most one of each function: its name, the kind, the lines that differ, and all lines."""
+    """At most so many changes of the functions of a crate, at most one of each function: its name, the kind, the
+    lines that differ, and all lines."""
     draw, chosen, seen = random.Random(f"{seed} {crate}"), [], set()
     places = [(name, lines, site) for name, lines in bodies for site in sites(lines)]
     draw.shuffle(places)

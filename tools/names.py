@@ -1,5 +1,6 @@
-"""Public names that stand in several crates or modules: of functions, of methods, of types, and of definitions that public contracts reach. A page lists them,
-each with the meaning that it has in all, but where a rule says that they mean one thing."""
+"""Public names that stand in several crates or modules: of functions, of methods, of types, and of definitions that
+public contracts reach. A page lists them, each with the meaning that it has in all, but where a rule says that they
+mean one thing."""
 import functools
 import glob
 import os
@@ -8,7 +9,8 @@ import re
 import specs
 
 PAGE = "docs/names.md"
-# The crates of the drivers: a function of a driver and the call below it have one name, and so have the parts that both drivers have.
+# The crates of the drivers: a function of a driver and the call below it have one name, and so have the parts that both
+# drivers have.
 OF_DRIVERS = ("dm_ems", "dm_ems_move", "dm_xms", "dm_drivers")
 # Methods whose names Rust and its library give to every type.
 OF_RUST = ("new", "of", "default", "as_slice", "from_number")
@@ -18,7 +20,8 @@ ROW = re.compile(r"^\| `([^`]+)` \| (.*) \|$", re.M)
 
 
 class Thing:
-    """What a name stands for in a module; of a method, its type or trait; of a function or method that calls what has its own name, the words of its crate."""
+    """What a name stands for in a module; of a method, its type or trait; of a function or method that calls what
+    has its own name, the words of its crate."""
 
     def __init__(self, crate, module, kind, key, refs, owner="", passed=()):
         self.crate, self.module, self.kind, self.key, self.refs, self.owner, self.passed = crate, module, kind, key, refs, owner, passed
@@ -69,8 +72,9 @@ def words_of(crate):
 
 
 def is_one(known, first, second):
-    """Whether a rule says that two things of one name are one: a function and the definition that its contract names, a type and what contracts see of it,
-    methods of types with one name or of one trait, a method and the one that it passes on, parts of the drivers, or a listing as text and as records."""
+    """Whether a rule says that two things of one name are one: a function and the definition that its contract
+    names, a type and what contracts see of it, methods of types with one name or of one trait, a method and the one
+    that it passes on, parts of the drivers, or a listing as text and as records."""
     if first.owner and (first.owner == second.owner or {first.owner, second.owner} in FORMS):
         return True
     if first.passes_on(second) or second.passes_on(first):

@@ -1,6 +1,8 @@
-"""The instruction table of the 8086 (Intel 8086 Family User's Manual, section 4, tables 4-13 and 4-14), and random instructions of each of its entries.
+"""The instruction table of the 8086 (Intel 8086 Family User's Manual, section 4, tables 4-13 and 4-14), and random
+instructions of each of its entries.
 
-An entry is a first byte, and in a group the reg field. `ENTRIES` is written by hand from the manual, apart from crates/dm_ins, so that both can be compared.
+An entry is a first byte, and in a group the reg field. `ENTRIES` is written by hand from the manual, apart from
+crates/dm_ins, so that both can be compared.
 """
 from typing import NamedTuple
 
@@ -17,8 +19,9 @@ LOCK, REPNE, REP = 0xF0, 0xF2, 0xF3
 
 
 class Entry(NamedTuple):
-    """An entry of the table: the first byte, the reg field (None where the entry is for all or has no such field), the mnemonic, whether a byte with the mod and
-    r/m fields follows, whether it must name memory, how many bytes of immediates or displacements follow, and the second byte that AAM and AAD have."""
+    """An entry of the table: the first byte, the reg field (None where the entry is for all or has no such field),
+    the mnemonic, whether a byte with the mod and r/m fields follows, whether it must name memory, how many bytes of
+    immediates or displacements follow, and the second byte that AAM and AAD have."""
 
     first: int
     reg: int | None

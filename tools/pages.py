@@ -1,4 +1,5 @@
-"""The man pages dm(1) and mezguld(3), and the completions of bash and zsh, made from the help of the built `dm`, from docs/manual.md and from mezguld.h."""
+"""The man pages dm(1) and mezguld(3), and the completions of bash and zsh, made from the help of the built `dm`,
+from docs/manual.md and from mezguld.h."""
 import re
 import textwrap
 
@@ -7,7 +8,8 @@ import versions
 
 COLUMNS = 78
 HEADER = "include/mezguld.h"
-# The files that an argument or an option's value takes, by its name in help, as endings; no ending: any file. Others are numbers and texts.
+# The files that an argument or an option's value takes, by its name in help, as endings; no ending: any file. Others
+# are numbers and texts.
 FILES = {"FILES": ("com", "exe"), "IN": (), "OUT": (), "FILE": ()}
 ENDINGS = {("asm", "IN"): ("asm",), ("disasm", "IN"): ("com",)}
 # A function of the header, and its declaration's parts.
@@ -30,14 +32,16 @@ def escaped(text):
 
 
 def marked(cell):
-    """A cell of a table of the manual as roff: code in bold, links as their text, without those in parentheses, which only point elsewhere."""
+    """A cell of a table of the manual as roff: code in bold, links as their text, without those in parentheses,
+    which only point elsewhere."""
     cell = re.sub(r" \(\[[^\]]*\]\([^)]*\)\)", "", cell)
     cell = re.sub(r"\[([^\]]*)\]\([^)]*\)", r"\1", cell)
     return "".join(f"\\fB{escaped(part.strip())}\\fR" if at % 2 else escaped(part) for at, part in enumerate(cell.split("`")))
 
 
 def lines(text):
-    """Roff text, a sentence to a line where that fits, cut into short lines at spaces. (roff reads a line that begins with a dot as a request.)"""
+    """Roff text, a sentence to a line where that fits, cut into short lines at spaces. (roff reads a line that
+    begins with a dot as a request.)"""
     sentences = re.split(r"(?<=[a-z\d)R][.:?]) (?=[A-Z(\\])", " ".join(text.split()))
     cut = [line for sentence in sentences for line in textwrap.wrap(sentence, COLUMNS, break_long_words=False, break_on_hyphens=False)]
     return [f"\\&{line}" if line.startswith((".", "'")) else line for line in cut]

@@ -1,8 +1,10 @@
 """Byte instructions and calls of the arena against DOSBox: `tools/peers dosbox` calls this.
 
-Both run the same COM programs. A program of the first kind makes one byte instruction with every pair of bytes (shifts with counts below 32, divisions where
-there is a quotient), with carry and adjust flag set and clear, and prints for each first byte two sums over the registers and defined flags that result. One of the second kind makes a random script of functions 48h, 49h, 4Ah
-and 5801h, and prints what each call returns; both arenas are made alike before.
+Both run the same COM programs. A program of the first kind makes one byte instruction with every pair of bytes
+(shifts with counts below 32, divisions where there is a quotient), with carry and adjust flag set and clear, and
+prints for each first byte two sums over the registers and defined flags that result. One of the second kind makes a
+random script of functions 48h, 49h, 4Ah and 5801h, and prints what each call returns; both arenas are made alike
+before.
 """
 import os
 import random
@@ -16,8 +18,9 @@ import stage
 CARRY, PARITY, ADJUST, ZERO, SIGN, OVERFLOW = 0x001, 0x004, 0x010, 0x040, 0x080, 0x800
 ALL = CARRY | PARITY | ADJUST | ZERO | SIGN | OVERFLOW
 SHOWN = PARITY | ZERO | SIGN
-# Each instruction with the flags that the manual leaves defined, and what stands before it. AL has the first byte, AH and BL the second, CL the second modulo
-# 32. `DIVIDE` leaves out what has no quotient: for IDIV also -128 by 1, which only newer processors have.
+# Each instruction with the flags that the manual leaves defined, and what stands before it. AL has the first byte, AH
+# and BL the second, CL the second modulo 32. `DIVIDE` leaves out what has no quotient: for IDIV also -128 by 1, which
+# only newer processors have.
 DIVIDE = ("TEST BL,BL\nJZ next\n", "CBW\nTEST BL,BL\nJZ next\nCMP AL,80h\nJZ next\n")
 NOTHING = ""
 INSTRUCTIONS = {
@@ -135,9 +138,10 @@ line:   PUSH AX
         POP AX
         RET
 """
-# A script first makes both arenas alike: the program has 1000h paragraphs, all holes below it are filled, and of what is free behind it 8000h paragraphs are
-# left. Then each call prints AX and BX: AX is the error, or 0, or the block's distance from the program's segment; BX is the size of the largest block, with
-# error 8. A slot with no block has FFF0h in it, and is neither freed nor resized. A block that could not be resized is freed: DOSBox, as DOS itself, has made
+# A script first makes both arenas alike: the program has 1000h paragraphs, all holes below it are filled, and of what
+# is free behind it 8000h paragraphs are left. Then each call prints AX and BX: AX is the error, or 0, or the block's
+# distance from the program's segment; BX is the size of the largest block, with error 8. A slot with no block has FFF0h
+# in it, and is neither freed nor resized. A block that could not be resized is freed: DOSBox, as DOS itself, has made
 # it as large as it could be, and here it stays.
 SCRIPT = """
         MOV SP,0FFFEh

@@ -1,8 +1,9 @@
 """Each encoding against nasm and ndisasm: `tools/peers nasm` calls this.
 
-For each entry of the table, each mod and r/m, and each prefix that it can have, the bytes are shown by the debugger's command `U`. The text is assembled by nasm; so is
-what ndisasm prints for the bytes. A case is right where both give one sequence of bytes, and these bytes are shown by `U` as the same text again. What nasm
-does not take, and what differs, is listed by its entry.
+For each entry of the table, each mod and r/m, and each prefix that it can have, the bytes are shown by the
+debugger's command `U`. The text is assembled by nasm; so is what ndisasm prints for the bytes. A case is right where
+both give one sequence of bytes, and these bytes are shown by `U` as the same text again. What nasm does not take,
+and what differs, is listed by its entry.
 """
 import collections
 import random
@@ -89,7 +90,8 @@ def assembled(lines):
 
 
 def listed(codes):
-    """What ndisasm prints for each of some sequences of bytes, each at its slot; None where it prints no one instruction."""
+    """What ndisasm prints for each of some sequences of bytes, each at its slot; None where it prints no one
+    instruction."""
     lines = [None] * len(codes)
     image = b"".join(code.ljust(SLOT, b"\x90") for code in codes)
     with tempfile.NamedTemporaryFile() as file:

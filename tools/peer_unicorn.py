@@ -1,4 +1,5 @@
-"""Each entry of the instruction table in random states against Unicorn. `tools/peers unicorn` calls this with Debian's Python: CASES SEED JOBS ENTRY.."""
+"""Each entry of the instruction table in random states against Unicorn. `tools/peers unicorn` calls this with
+Debian's Python: CASES SEED JOBS ENTRY.."""
 import collections
 import multiprocessing
 import random
@@ -11,7 +12,8 @@ from stage import AUXILIARY, CARRY, FLAGS, INTERRUPT, MEMORY, OVERFLOW, PARITY, 
 # So many cases stand between two comparisons of all memory.
 BATCH = 100
 ARITHMETIC = CARRY | PARITY | AUXILIARY | ZERO | SIGN | OVERFLOW
-# The flags that an instruction leaves undefined (Intel 8086 Family User's Manual, table 2-21, "Instruction set reference data").
+# The flags that an instruction leaves undefined (Intel 8086 Family User's Manual, table 2-21, "Instruction set
+# reference data").
 UNDEFINED = {
     "AAA": OVERFLOW | SIGN | ZERO | PARITY, "AAS": OVERFLOW | SIGN | ZERO | PARITY, "AAD": OVERFLOW | AUXILIARY | CARRY, "AAM": OVERFLOW | AUXILIARY | CARRY,
     "DAA": OVERFLOW, "DAS": OVERFLOW, "AND": AUXILIARY, "OR": AUXILIARY, "XOR": AUXILIARY, "TEST": AUXILIARY,
@@ -19,7 +21,8 @@ UNDEFINED = {
     "SHL": AUXILIARY, "SHR": AUXILIARY, "SAR": AUXILIARY,
 }
 SHIFTS = (0xD2, 0xD3)
-# The segments of a case: with any offset the address stays in conventional memory, above the code that sets the registers.
+# The segments of a case: with any offset the address stays in conventional memory, above the code that sets the
+# registers.
 LOWEST, HIGHEST = 0x1000, 0x8FFF
 BASE = 16 * LOWEST
 # Each interrupt leads to a place of its own below the cases.
@@ -187,8 +190,8 @@ class Comparison:
         return True
 
     def wanted(self, case, found):
-        """The state that ours should have: by Unicorn, or by the manual's rule where Unicorn is a newer processor. The name of such a difference comes first,
-        and last the flags that are not compared."""
+        """The state that ours should have: by Unicorn, or by the manual's rule where Unicorn is a newer processor.
+        The name of such a difference comes first, and last the flags that are not compared."""
         mnemonic = case.entry.mnemonic
         if mnemonic == "INT" and case.code[-1] == INVALID:
             # (Unicorn takes the call of this interrupt for an instruction that it does not know.)
@@ -210,7 +213,8 @@ class Comparison:
         return self.pushed(case), theirs, case.undefined
 
     def by_interrupt(self, case, number, known):
-        """The state after an interrupt by the manual's rule; what is pushed is compared, and written to Unicorn's memory."""
+        """The state after an interrupt by the manual's rule; what is pushed is compared, and written to Unicorn's
+        memory."""
         state, words = interrupted(case, number, self.ours.read)
         for at, value in enumerate(words):
             self.push(case, (state["sp"] + 2 * at) & 0xFFFF, value)
@@ -267,7 +271,8 @@ class Comparison:
         return after, interrupt
 
     def reason(self, case, found):
-        """Why Unicorn may differ: it does not bear that an instruction changes its own bytes, and its operands may cross the end of a segment."""
+        """Why Unicorn may differ: it does not bear that an instruction changes its own bytes, and its operands may
+        cross the end of a segment."""
         if self.ours.read(case.place, len(case.code)) != case.code:
             return "an instruction that changes its own bytes"
         return "an operand across the end of its segment" if self.crosses(case, found) else ""
@@ -327,7 +332,8 @@ class Comparison:
 
 
 def compare(given):
-    """The cases of one entry: what is known to differ, and the faults. An instruction at which Unicorn stops is a fault, and the last case."""
+    """The cases of one entry: what is known to differ, and the faults. An instruction at which Unicorn stops is a
+    fault, and the last case."""
     place, cases, seed = given
     entry = opcodes.ENTRIES[place]
     numbers = random.Random(f"{seed} {entry.name}")

@@ -1,7 +1,8 @@
 """Single steps that were captured from a real 8088, in the public JSON format: `tools/peers vectors FILE..` calls this.
 
-A file has a list of tests. Each has `bytes`, the instruction; `initial` and `final`, each with `regs` (of `final` those that changed are enough) and `ram`, pairs of
-a linear address and a byte; and `name`. What else is there (cycles, the queue) is not read. A file may be compressed by gzip.
+A file has a list of tests. Each has `bytes`, the instruction; `initial` and `final`, each with `regs` (of `final`
+those that changed are enough) and `ram`, pairs of a linear address and a byte; and `name`. What else is there
+(cycles, the queue) is not read. A file may be compressed by gzip.
 """
 import collections
 import gzip

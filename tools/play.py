@@ -17,7 +17,8 @@ class Differs(Exception):
 
 
 class Played:
-    """What a call of a program left: its status, what it printed on standard error, and what it wrote on standard output."""
+    """What a call of a program left: its status, what it printed on standard error, and what it wrote on standard
+    output."""
 
     def __init__(self, words, folder, given=b"", environment=None, kept=()):
         try:
@@ -31,8 +32,8 @@ class Played:
 
 
 def stops_with_a_name(run):
-    """Whether a call of `dm run` ended with the program's code and no message, or at a stop with a name. (The stop `memory` is not
-    among these: there is enough memory.)"""
+    """Whether a call of `dm run` ended with the program's code and no message, or at a stop with a name. (The stop
+    `memory` is not among these: there is enough memory.)"""
     if run.status == 125 and STOP.fullmatch(run.told):
         return True
     return 0 <= run.status <= 255 and run.told == ""

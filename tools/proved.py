@@ -1,5 +1,6 @@
-"""The names in the tables of docs/proved.md, and the files that docs/architecture.md has for each crate. A row of docs/proved.md lists calls of one crate, or of
-one module of it, whose contracts prove what the row says; a row of its first table lists calls of any crate, or of the one that it names."""
+"""The names in the tables of docs/proved.md, and the files that docs/architecture.md has for each crate. A row of
+docs/proved.md lists calls of one crate, or of one module of it, whose contracts prove what the row says; a row of
+its first table lists calls of any crate, or of the one that it names."""
 import os
 import re
 
@@ -8,7 +9,8 @@ import specs
 PAGE = "docs/proved.md"
 ROW = re.compile(r"^\| `(dm(?:_\w+)?)(?:::(\w+))?`(?:, \w+)? \|.*\| ([^|]+) \|$", re.M)
 NAME = re.compile(r"`([A-Za-z_][\w:]*)`")
-# The crate of the library's exports, and a row of their table: the exports, and the definitions that their contracts name.
+# The crate of the library's exports, and a row of their table: the exports, and the definitions that their contracts
+# name.
 EXPORTS = "dm_c"
 EXPORT = re.compile(r"^\| (`dm_c_[^|]*) \| ([^|]*) \|", re.M)
 # The first table: the calls of a row, maybe with their crate, and the definitions that their contracts name.
@@ -29,7 +31,8 @@ def is_below(path, crate, module):
 
 
 def paths_of(it):
-    """The paths by which a row may name a function: its name, and before it its type, its trait or the modules around it."""
+    """The paths by which a row may name a function: its name, and before it its type, its trait or the modules
+    around it."""
     *owner, name = it.name.split("::")
     modules = it.path.split("/src/")[1][: -len(".rt")].split("/")
     return {name, *(f"{one}::{name}" for one in (*owner, *modules, it.trait) if one)}
@@ -59,7 +62,8 @@ def faults_of_main(known, text, crates, defined):
 
 
 def faults_of_files():
-    """The files of an item of the page of crates that its crate does not have. (The first item of a crate is the one that describes it.)"""
+    """The files of an item of the page of crates that its crate does not have. (The first item of a crate is the one
+    that describes it.)"""
     for crate, said in ITEM_OF_CRATE.findall(specs.text_of(CRATES)):
         for path in FILE_OF_CRATE.findall(said):
             if not os.path.exists(f"{specs.ROOT}/crates/{crate}/{path}"):
@@ -67,8 +71,9 @@ def faults_of_files():
 
 
 def faults(known):
-    """Each name of a row that its crate, or its module, does not have. Behind the word `definitions` definitions are named, behind `private` functions that are
-    not public, and in the table of exports definitions of the crate of exports."""
+    """Each name of a row that its crate, or its module, does not have. Behind the word `definitions` definitions are
+    named, behind `private` functions that are not public, and in the table of exports definitions of the crate of
+    exports."""
     text, defined, crates = specs.text_of(PAGE), {it.name for it in known.definitions.values()}, dict(specs.crate_names())
     for crate, module, cell in (row for row in ROW.findall(text) if row[0] in crates):
         calls, _, definitions = cell.partition("definition")

@@ -1,4 +1,5 @@
-"""The functions that are served, by their numbers, as the tables of definitions have them: `function_of` of INT 21h and of each driver."""
+"""The functions that are served, by their numbers, as the tables of definitions have them: `function_of` of INT 21h
+and of each driver."""
 import re
 
 import specs

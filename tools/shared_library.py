@@ -1,8 +1,9 @@
-"""The libraries build/libmezguld.so and build/libmezguld.a: the proved static library, lib/mezguld.c, and the kit's calls of malloc, realloc and free.
+"""The libraries build/libmezguld.so and build/libmezguld.a: the proved static library, lib/mezguld.c, and the kit's
+calls of malloc, realloc and free.
 
-The kit's own compiler and linker make them. The shared library exports the functions that include/mezguld.h declares, and nothing else. Its soname has the
-first number of the version, since a library with another one has other functions. The same archive gives the same bytes on every machine, since no tool of the
-machine takes part.
+The kit's own compiler and linker make them. The shared library exports the functions that include/mezguld.h
+declares, and nothing else. Its soname has the first number of the version, since a library with another one has
+other functions. The same archive gives the same bytes on every machine, since no tool of the machine takes part.
 """
 import os
 import subprocess

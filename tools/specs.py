@@ -77,8 +77,8 @@ class Contract:
 
 
 class Specs:
-    """The definitions by their keys, the contracts, and the head comment of each file. With the path of the kit's crates, also the definitions of those of them
-    that definitions here name."""
+    """The definitions by their keys, the contracts, and the head comment of each file. With the path of the kit's
+    crates, also the definitions of those of them that definitions here name."""
 
     def __init__(self, kit=None):
         self.places = {crate: f"{kit}/{crate}" for crate in OF_KIT} if kit else {}
@@ -303,8 +303,8 @@ class Specs:
         return [key for it in self.public(crate) for key in it.refs]
 
     def rows(self):
-        """For the key of a definition, the rows and tests that name it: a line `Definitions: CRATE FILE NAME..; ..` at a row's head, or in the
-        comment of a test."""
+        """For the key of a definition, the rows and tests that name it: a line `Definitions: CRATE FILE NAME..; ..`
+        at a row's head, or in the comment of a test."""
         found = {}
         for path in sorted(glob.glob(f"{ROOT}/rows/*/*.row") + glob.glob(f"{ROOT}/examples/*.row")):
             path = os.path.relpath(path, ROOT)

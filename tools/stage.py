@@ -1,6 +1,7 @@
 """Machines whose registers, flags and memory are set, and which then make single steps: this project's, and Unicorn's.
 
-Both have the low 640 KiB of memory alike. A state is a dictionary of the fourteen registers, `flags` being the word that PUSHF stores.
+Both have the low 640 KiB of memory alike. A state is a dictionary of the fourteen registers, `flags` being the word
+that PUSHF stores.
 """
 import struct
 import sys
@@ -124,8 +125,9 @@ class Unicorn:
             self.machine.reg_write(number, state[name] & FLAGS | 2 if name == "flags" else state[name])
 
     def step(self, state, until, count=1):
-        """Makes an instruction, whose registers were set, with its repetitions where `count` is 0. It should lead to the linear address `until`, from which on
-        nothing is translated: Unicorn does not bear all bytes. Returns the interrupt that it raised."""
+        """Makes an instruction, whose registers were set, with its repetitions where `count` is 0. It should lead to
+        the linear address `until`, from which on nothing is translated: Unicorn does not bear all bytes. Returns the
+        interrupt that it raised."""
         if self.interrupt is not None:
             self.machine.context_restore(self.fresh)
             self.set(state)

@@ -1,4 +1,5 @@
-"""The files that an installation of Mezguld has, as `tools/install` writes them and `tools/package` packs them: made from what the gate has built."""
+"""The files that an installation of Mezguld has, as `tools/install` writes them and `tools/package` packs them: made
+from what the gate has built."""
 import gzip
 import os
 import re
@@ -13,7 +14,8 @@ import usage
 import versions
 
 PROGRAM = "crates/dm/out/dm"
-# The pages for users, besides those of the examples; what they show and run; and a link: its text, its file and the heading.
+# The pages for users, besides those of the examples; what they show and run; and a link: its text, its file and the
+# heading.
 PAGES = ("README.md", "docs/manual.md", "docs/install.md", "docs/picture.md", "docs/proved.md", "bench/README.md")
 SHOWN = ("docs/pictures", "examples", "python/tests/programs/fragments.asm", "python/tests/programs/leak.asm")
 PAGE_LINK = re.compile(r"(?<!!)\[([^\[\]]+)\]\(([^)#\s]+)(?:#[^)\s]*)?\)")
@@ -141,7 +143,8 @@ def library(layout):
 
 
 def page(path, names):
-    """A page's bytes with the links that lead to files of these names; a link to another file of the tree is its text alone."""
+    """A page's bytes with the links that lead to files of these names; a link to another file of the tree is its
+    text alone."""
 
     def kept(link):
         target = os.path.normpath(f"{os.path.dirname(path)}/{link[2]}") if os.path.dirname(path) else link[2]
@@ -151,8 +154,8 @@ def page(path, names):
 
 
 def documents(layout):
-    """The pages for users, as they lie in the tree, with their pictures and the programs that they run, and the gdb scripts, where there are any. (In the Debian
-    package they are not compressed: no link would lead to them.)"""
+    """The pages for users, as they lie in the tree, with their pictures and the programs that they run, and the gdb
+    scripts, where there are any. (In the Debian package they are not compressed: no link would lead to them.)"""
     paths = [*PAGES, *tracked(*SHOWN)]
     for path in paths:
         data = page(path, paths) if path.endswith(".md") else bytes_of(path)
@@ -162,7 +165,8 @@ def documents(layout):
 
 
 def files(layout):
-    """The files below the root, each path with its bytes or `Link`, and its mode. The library is linked anew, which takes a second."""
+    """The files below the root, each path with its bytes or `Link`, and its mode. The library is linked anew, which
+    takes a second."""
     os.chdir(kit.ROOT)
     check_built()
     shared_library.link()

@@ -1,7 +1,9 @@
-"""The commands and options of `dm` as its own help gives them, and the tables of docs/manual.md: what man pages and completions are made from.
+"""The commands and options of `dm` as its own help gives them, and the tables of docs/manual.md: what man pages and
+completions are made from.
 
-`dm --help` and `dm COMMAND --help` are the one table of commands, arguments, options, defaults and limits; the manual's tables have what help does not say:
-exit statuses, stops, faults, the debugger's commands. `faults` compares the two where both say the same thing.
+`dm --help` and `dm COMMAND --help` are the one table of commands, arguments, options, defaults and limits; the
+manual's tables have what help does not say: exit statuses, stops, faults, the debugger's commands. `faults` compares
+the two where both say the same thing.
 """
 import os
 import re
@@ -41,7 +43,8 @@ class Argument:
 
 
 class Command:
-    """A command, or `dm` itself: what it does, its arguments and options, an example, and the commands below it with a line about each."""
+    """A command, or `dm` itself: what it does, its arguments and options, an example, and the commands below it with
+    a line about each."""
 
     def __init__(self, name, text):
         self.name, self.commands, self.arguments, self.options = name, {}, [], []
@@ -157,7 +160,8 @@ def option_faults(usage):
 
 
 def usage_faults(usage):
-    """The faults of the manual's lines of usage against help. (The line of `dm debug` leaves out `--steps`, which has no effect there.)"""
+    """The faults of the manual's lines of usage against help. (The line of `dm debug` leaves out `--steps`, which
+    has no effect there.)"""
     lines = re.findall(r"^    (dm .*)$", section("Commands and options"), re.M)
     for name, command in usage.commands.items():
         wanted = {word for word, _ in command.synopsis()}

@@ -1,7 +1,9 @@
 """The version of Mezguld, and each place that states it: docs/check compares them, and packages take theirs from here.
 
-`dm --version` prints the constant `VERSION` of crates/dm_options. include/mezguld.h, python/mezguld and the top of CHANGELOG.md, a release with its date, must
-have the same, as have the names of packages in README.md; include/mezguld.h and the export `mezguld_version` of crates/dm_c have it as one number, too. Pages of manuals, packages and file names are made from it.
+`dm --version` prints the constant `VERSION` of crates/dm_options. include/mezguld.h, python/mezguld and the top of
+CHANGELOG.md, a release with its date, must have the same, as have the names of packages in README.md;
+include/mezguld.h and the export `mezguld_version` of crates/dm_c have it as one number, too. Pages of manuals,
+packages and file names are made from it.
 """
 import datetime
 import os

@@ -1,6 +1,8 @@
-"""A conversation with a guest program, from Python: it is run up to its question, looked at, changed, answered, and run again from a snapshot.
+"""A conversation with a guest program, from Python: it is run up to its question, looked at, changed, answered, and
+run again from a snapshot.
 
-The guest prints "Your name? ", reads a line by function 0Ah, and says "Hello, " with the name; its exit code is the length of the name.
+The guest prints "Your name? ", reads a line by function 0Ah, and says "Hello, " with the name; its exit code is the
+length of the name.
 
     python3 examples/hosts/talk.py
 """
@@ -38,7 +40,8 @@ buffer: DB 32
 
 
 def answer(snapshot: Machine, name: bytes) -> int:
-    """Answers the question in a copy of the machine, stops it when the line is in memory, and returns the exit code of the program there."""
+    """Answers the question in a copy of the machine, stops it when the line is in memory, and returns the exit code
+    of the program there."""
     with copy.copy(snapshot) as machine:
         shown = len(machine.output())
         machine.supply(name + b"\r")

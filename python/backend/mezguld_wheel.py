@@ -1,7 +1,9 @@
-"""Makes the wheel of the package `mezguld`: the build backend that pyproject.toml names, and what `tools/package` calls.
+"""Makes the wheel of the package `mezguld`: the build backend that pyproject.toml names, and what `tools/package`
+calls.
 
-The wheel holds the shared library build/libmezguld.so, which `tools/library` makes. Nothing is downloaded: `pip install ./python` needs no network.
-The same files give the same bytes: entries are sorted and not compressed, and have the time that the environment variable SOURCE_DATE_EPOCH gives.
+The wheel holds the shared library build/libmezguld.so, which `tools/library` makes. Nothing is downloaded: `pip
+install ./python` needs no network. The same files give the same bytes: entries are sorted and not compressed, and
+have the time that the environment variable SOURCE_DATE_EPOCH gives.
 """
 import base64
 import hashlib
@@ -48,7 +50,8 @@ def metadata():
 
 
 def tag(library):
-    """The tag of a wheel with this library: the oldest C library (glibc) that has all that it calls, but none before 2.17."""
+    """The tag of a wheel with this library: the oldest C library (glibc) that has all that it calls, but none before
+    2.17."""
     minor = max([17, *map(int, re.findall(rb"GLIBC_2\.(\d+)", library))])
     old = "manylinux2014_x86_64." if minor == 17 else ""
     return f"py3-none-{old}manylinux_2_{minor}_x86_64"

@@ -8,13 +8,14 @@ r"""The proved MS-DOS machine of Mezguld, from Python.
         stopped = machine.run(1000)
         print(machine.output())
 
-The package stands over the C library libmezguld.so (mezguld.h), which its wheel holds. It loads the file that the environment variable MEZGULD_LIBRARY
-names, else the one in its own folder, else that in build/ of its repository, else what the system's loader finds. It needs nothing but the standard library.
-`__version__` is the version of Mezguld, as `dm --version` prints it.
+The package stands over the C library libmezguld.so (mezguld.h), which its wheel holds. It loads the file that the
+environment variable MEZGULD_LIBRARY names, else the one in its own folder, else that in build/ of its repository,
+else what the system's loader finds. It needs nothing but the standard library. `__version__` is the version of
+Mezguld, as `dm --version` prints it.
 
-Bytes are given as `bytes` or any other object with a buffer (`bytearray`, `memoryview`). A number or a list is a `TypeError`; a number out of its
-range is a `ValueError`. Names, tails, lines of the debugger and variables may be a `str`, whose characters are bytes (Latin-1). What the library
-refuses is an `Error`.
+Bytes are given as `bytes` or any other object with a buffer (`bytearray`, `memoryview`). A number or a list is a
+`TypeError`; a number out of its range is a `ValueError`. Names, tails, lines of the debugger and variables may be a
+`str`, whose characters are bytes (Latin-1). What the library refuses is an `Error`.
 """
 from __future__ import annotations
 
@@ -42,7 +43,8 @@ __all__ = [
 
 __version__ = "2.0.0"
 
-# What the module `records` has: data classes, which take longer to make than all else here, and are loaded with the first call that wants one.
+# What the module `records` has: data classes, which take longer to make than all else here, and are loaded with the
+# first call that wants one.
 _OF_RECORDS = frozenset((
     "Act", "Block", "Blocks", "Contents", "Details", "Expanded", "Extended", "ExtendedBlock", "Finding", "Findings", "Instruction", "Origin", "PageHandle", "Place",
     "UpperBlock", "Window",
@@ -85,7 +87,8 @@ class NoMachine(Error):
 
 
 class OutOfMemory(Error, MemoryError):
-    """The host's memory was refused. A command may be done, whole or in part; a load has used the machine up; else nothing has changed."""
+    """The host's memory was refused. A command may be done, whole or in part; a load has used the machine up; else
+    nothing has changed."""
 
     text = "an allocation failed"
 
@@ -286,8 +289,8 @@ class Kind(enum.Enum):
 
 
 class Event(NamedTuple):
-    """What ends a run of `Machine.run_to` after a step. `at`, `at_address`, `at_change`, `at_call` and `at_function` make one; the fields that its kind does
-    not use are 0."""
+    """What ends a run of `Machine.run_to` after a step. `at`, `at_address`, `at_change`, `at_call` and `at_function`
+    make one; the fields that its kind does not use are 0."""
 
     kind: Kind
     address: int = 0
@@ -309,8 +312,8 @@ class Event(NamedTuple):
 
     @staticmethod
     def at_change(address: int, length: int = 1) -> Event:
-        """One of so many bytes from a linear address up reads otherwise than before the run, whoever wrote it: the program, a service, another page in a
-        window. No byte is past 10FFEFh."""
+        """One of so many bytes from a linear address up reads otherwise than before the run, whoever wrote it: the
+        program, a service, another page in a window. No byte is past 10FFEFh."""
         return Event(Kind.AT_CHANGE, address=address, length=length)
 
     @staticmethod
@@ -325,7 +328,8 @@ class Event(NamedTuple):
 
 
 class Ended(NamedTuple):
-    """How a run up to events ended: why, the program's exit code where it has ended (else 0), and the event that came, the first in the list (else None)."""
+    """How a run up to events ended: why, the program's exit code where it has ended (else 0), and the event that
+    came, the first in the list (else None)."""
 
     why: Stop
     code: int
@@ -385,8 +389,8 @@ class FindingKind(enum.Enum):
 
 
 class How(enum.Enum):
-    """How a step was performed: as an instruction, as a call by an interrupt, by an interrupt with the number of a function in AH, or by a far call of the
-    extended memory driver with that of a function."""
+    """How a step was performed: as an instruction, as a call by an interrupt, by an interrupt with the number of a
+    function in AH, or by a far call of the extended memory driver with that of a function."""
 
     INSTRUCTION = 0
     INTERRUPT = 1
@@ -447,7 +451,8 @@ _NAME = "libmezguld.so"
 
 
 def _path() -> str:
-    """The library's file, or a name that the system's loader looks for: libraries with another first number of the version have other functions."""
+    """The library's file, or a name that the system's loader looks for: libraries with another first number of the
+    version have other functions."""
     named = os.environ.get("MEZGULD_LIBRARY")
     if named:
         return named
@@ -639,8 +644,9 @@ def _first_slice(events: list[Event]) -> int:
 
 
 def _sliced(steps: int, run: Callable[[int], tuple[Any, bool]], is_over: Callable[[], bool], first: int = _FIRST_SLICE) -> Any:
-    """Makes a run in slices, until `is_over`: `run(count)` returns its result, and whether nothing has stopped it. A run of a steps and then one of b
-    steps are the run of a + b steps; so are runs up to breakpoints, where the first has reached none."""
+    """Makes a run in slices, until `is_over`: `run(count)` returns its result, and whether nothing has stopped it. A
+    run of a steps and then one of b steps are the run of a + b steps; so are runs up to breakpoints, where the first
+    has reached none."""
     size = first
     while True:
         count, begin = min(size, steps), time.monotonic()
@@ -656,9 +662,10 @@ def _sliced(steps: int, run: Callable[[int], tuple[Any, bool]], is_over: Callabl
 
 
 def _served(work: Callable[[Callable[[], bool]], Any], steps: int, left: list[threading.Event] | None = None) -> Any:
-    """What `work` returns, which may take long. Signals, as that of Ctrl-C, reach the main thread, and Python serves them between calls of C. So there the
-    work is done on another thread. Where a signal's handler raises an exception, the work is told that it is over, and ends after its slice; work without
-    slices goes on, and `left` gets the event of its end."""
+    """What `work` returns, which may take long. Signals, as that of Ctrl-C, reach the main thread, and Python serves
+    them between calls of C. So there the work is done on another thread. Where a signal's handler raises an
+    exception, the work is told that it is over, and ends after its slice; work without slices goes on, and `left`
+    gets the event of its end."""
     if steps <= _FEW or threading.current_thread() is not threading.main_thread():
         return work(lambda: False)
     over, ended, results = threading.Event(), threading.Event(), []
@@ -699,21 +706,24 @@ def _served(work: Callable[[Callable[[], bool]], Any], steps: int, left: list[th
 class Machine:
     """A machine: programs are added, one of them is loaded and run, and what the machine holds is read and changed.
 
-    After `add` and `load` it runs by `run`, or up to breakpoints by `run_until`, as often as you like. Between two runs `registers`, `read`, `output`, `blocks`
-    and others tell its state; `registers` can be set, `write` changes memory, and `supply` adds input where `load(.., more=True)` has left it open.
-    `copy.copy(machine)` is a snapshot. `check` runs under the memory checker, and `command` does what a line of the debugger says.
+    After `add` and `load` it runs by `run`, or up to breakpoints by `run_until`, as often as you like. Between two
+    runs `registers`, `read`, `output`, `blocks` and others tell its state; `registers` can be set, `write` changes
+    memory, and `supply` adds input where `load(.., more=True)` has left it open. `copy.copy(machine)` is a snapshot.
+    `check` runs under the memory checker, and `command` does what a line of the debugger says.
 
-    Threads may share it: a call waits until the one before it has ended. `close` frees it, and waits too; so does the end of a `with` block. After
-    Ctrl-C in a run the machine is as after some of its steps, and can go on. `copy.copy` makes a second machine in the same state, as a snapshot.
+    Threads may share it: a call waits until the one before it has ended. `close` frees it, and waits too; so does
+    the end of a `with` block. After Ctrl-C in a run the machine is as after some of its steps, and can go on.
+    `copy.copy` makes a second machine in the same state, as a snapshot.
     """
 
     def __init__(
         self, *, ems_pages: int = 64, xms_kib: int = 1024, variables: Iterable[str | bytes] = (), upper: bool = False
     ) -> None:
-        """A machine with so many pages of expanded memory (of 16 KiB, at most 512) and so many KiB of extended memory (at most 15,360).
+        """A machine with so many pages of expanded memory (of 16 KiB, at most 512) and so many KiB of extended
+        memory (at most 15,360).
 
-        `variables` is the environment of the first program, as `["PATH=C:"]`. With `upper` the DOS memory arena goes on in upper memory.
-        `TooLarge`, `VariablesTooLong` and `OutOfMemory` are raised where no machine is made.
+        `variables` is the environment of the first program, as `["PATH=C:"]`. With `upper` the DOS memory arena goes
+        on in upper memory. `TooLarge`, `VariablesTooLong` and `OutOfMemory` are raised where no machine is made.
         """
         ems_pages, xms_kib = operator.index(ems_pages), operator.index(xms_kib)
         for what, size in (("ems_pages", ems_pages), ("xms_kib", xms_kib)):
@@ -751,7 +761,8 @@ class Machine:
         self.close()
 
     def __del__(self) -> None:
-        # Nobody else has the machine any more, so its lock is free: but in a forked child, whose parent was in a call. It is not freed there.
+        # Nobody else has the machine any more, so its lock is free: but in a forked child, whose parent was in a call.
+        # It is not freed there.
         lock = self.__dict__.get("_lock")
         if "_handle" in self.__dict__ and lock.acquire(blocking=False):
             try:
@@ -760,8 +771,8 @@ class Machine:
                 lock.release()
 
     def __copy__(self) -> Machine:
-        """A second machine in the same state: `copy.copy(machine)`. It has the same programs and breakpoints, and the two share nothing: what one does, the
-        other does not see. `OutOfMemory`."""
+        """A second machine in the same state: `copy.copy(machine)`. It has the same programs and breakpoints, and
+        the two share nothing: what one does, the other does not see. `OutOfMemory`."""
         machine = object.__new__(type(self))
         machine.__dict__.update({name: value for name, value in self.__dict__.items() if name != "_handle"})
         machine._lock, machine._left, machine._is_closed = threading.RLock(), [], False
@@ -817,16 +828,18 @@ class Machine:
             return self._kept(wanted.value)
 
     def add(self, name: str | bytes, program: bytes) -> None:
-        """Adds a program, a COM or MZ file's bytes, under a name of 1 to 64 bytes. `BadName`, `NameTwice`, `Started`, `OutOfMemory`."""
+        """Adds a program, a COM or MZ file's bytes, under a name of 1 to 64 bytes. `BadName`, `NameTwice`,
+        `Started`, `OutOfMemory`."""
         self._call(_library.mezguld_add, *_given(_name(name)), *_given(_bytes(program)))
 
     def load(
         self, name: str | bytes, tail: str | bytes = b"", input: bytes = b"", more: bool = False  # pylint: disable=redefined-builtin
     ) -> None:
-        """Loads the program of this name, with a command tail of at most 126 bytes (it begins with a space, as in `" /q"`) and the console's input. With
-        `more`, its input is open: more may come by `supply`.
+        """Loads the program of this name, with a command tail of at most 126 bytes (it begins with a space, as in `"
+        /q"`) and the console's input. With `more`, its input is open: more may come by `supply`.
 
-        `Started`, `BadName`, `TailTooLong`, `NotFound`, `BadFormat`, `OutOfMemory`, `Short`, in this order. The last two use the machine up.
+        `Started`, `BadName`, `TailTooLong`, `NotFound`, `BadFormat`, `OutOfMemory`, `Short`, in this order. The last
+        two use the machine up.
         """
         more = _number(more, 1, "more")
         given = (*_given(_name(name)), *_given(_name(tail)), *_given(_bytes(input)))
@@ -836,19 +849,20 @@ class Machine:
                 self._call(_library.mezguld_open_input)
 
     def open_input(self) -> None:
-        """Opens the console's input: more may come by `supply`. From then on a run stops with `Stop.INPUT_ENDED` before each call of DOS that wants input
-        which is not there (functions 01h, 07h, 08h and 3Fh: a byte; 0Ah: a line, up to 0Dh); after more was supplied, the next run makes the call. Polls
-        (06h, 0Bh) tell what is there, and never stop. `NotLoaded`."""
+        """Opens the console's input: more may come by `supply`. From then on a run stops with `Stop.INPUT_ENDED`
+        before each call of DOS that wants input which is not there (functions 01h, 07h, 08h and 3Fh: a byte; 0Ah: a
+        line, up to 0Dh); after more was supplied, the next run makes the call. Polls (06h, 0Bh) tell what is there,
+        and never stop. `NotLoaded`."""
         self._call(_library.mezguld_open_input)
 
     def close_input(self) -> None:
-        """Closes the console's input: no more comes after what is left. From then on function 3Fh with none left returns a count of 0, the end of a file;
-        for the other calls `Stop.INPUT_ENDED` is the end. `NotLoaded`."""
+        """Closes the console's input: no more comes after what is left. From then on function 3Fh with none left
+        returns a count of 0, the end of a file; for the other calls `Stop.INPUT_ENDED` is the end. `NotLoaded`."""
         self._call(_library.mezguld_close_input)
 
     def supply(self, data: bytes) -> None:
-        """Adds bytes to the end of the console's input, which is open by `load(.., more=True)` or `open_input`. The key Enter is `b"\\r"`. `NotLoaded`,
-        `InputClosed`, `OutOfMemory`."""
+        """Adds bytes to the end of the console's input, which is open by `load(.., more=True)` or `open_input`. The
+        key Enter is `b"\\r"`. `NotLoaded`, `InputClosed`, `OutOfMemory`."""
         self._call(_library.mezguld_supply, *_given(_bytes(data)))
 
     @property
@@ -857,24 +871,29 @@ class Machine:
         return self._count(_library.mezguld_input_left)
 
     def run(self, steps: int) -> Stopped:
-        """Makes at most so many steps, from 0 to 2**64 - 1. A step is an instruction, a repetition of a string instruction, or a service. `NotLoaded`.
+        """Makes at most so many steps, from 0 to 2**64 - 1. A step is an instruction, a repetition of a string
+        instruction, or a service. `NotLoaded`.
 
         Ctrl-C ends the run after some of its steps: `KeyboardInterrupt` comes at once, and the machine can go on.
         """
         return self._run(_library.mezguld_run, _number(steps, _MOST_STEPS, "steps"))
 
     def run_until(self, steps: int, breakpoints: Iterable[tuple[int, int]]) -> Stopped:
-        """Makes at most so many steps, and stops with `Stop.BREAKPOINT` after the first that leads to one of the breakpoints, exact pairs of CS and IP.
-        Where the run begins is no breakpoint to it. `NotLoaded`; `OutOfMemory`, after which some of the steps may be made. Ctrl-C is as in `run`.
+        """Makes at most so many steps, and stops with `Stop.BREAKPOINT` after the first that leads to one of the
+        breakpoints, exact pairs of CS and IP. Where the run begins is no breakpoint to it. `NotLoaded`;
+        `OutOfMemory`, after which some of the steps may be made. Ctrl-C is as in `run`.
 
-        To stop at each call of an interrupt, before it acts, give where its vector leads: `machine.run_until(steps, [machine.vector(0x21)])`."""
+        To stop at each call of an interrupt, before it acts, give where its vector leads: `machine.run_until(steps,
+        [machine.vector(0x21)])`."""
         return self._run(_library.mezguld_run_until, _number(steps, _MOST_STEPS, "steps"), *_points(breakpoints))
 
     def run_to(self, steps: int, events: Iterable[Event]) -> Ended:
-        """Makes at most so many steps, and stops with `Stop.EVENT` after the first that leads to one of the events, as in
-        `machine.run_to(steps, [Event.at_call(0x21), Event.at_change(0xB8000, 4000)])`. Where the run begins is no event to it, so that the next run goes on;
-        bytes are compared with those at its beginning. Steps are as fast as with breakpoints, but for those that touch the paragraphs of a range or of a vector
-        that is called; with a range past BFFFFh each step is looked at. `NotLoaded`; `OutOfMemory`, after which some of the steps may be made. Ctrl-C is as in `run`."""
+        """Makes at most so many steps, and stops with `Stop.EVENT` after the first that leads to one of the events,
+        as in `machine.run_to(steps, [Event.at_call(0x21), Event.at_change(0xB8000, 4000)])`. Where the run begins is
+        no event to it, so that the next run goes on; bytes are compared with those at its beginning. Steps are as
+        fast as with breakpoints, but for those that touch the paragraphs of a range or of a vector that is called;
+        with a range past BFFFFh each step is looked at. `NotLoaded`; `OutOfMemory`, after which some of the steps
+        may be made. Ctrl-C is as in `run`."""
         if isinstance(events, Event):
             raise TypeError("events are a list, as [Event.at_call(0x21)]")
         listed, place = list(events), ctypes.c_size_t()
@@ -891,8 +910,8 @@ class Machine:
 
     @property
     def registers(self) -> Registers:
-        """The registers. All are set at once, as by `machine.registers = machine.registers._replace(ax=0x4C00)`: the next run goes on at the new CS:IP, and of
-        `flags` only the bits of the nine flags count. `NotLoaded`."""
+        """The registers. All are set at once, as by `machine.registers = machine.registers._replace(ax=0x4C00)`: the
+        next run goes on at the new CS:IP, and of `flags` only the bits of the nine flags count. `NotLoaded`."""
         registers = _Registers()
         self._call(_library.mezguld_registers, registers)
         return Registers(*(getattr(registers, name) for name in Registers._fields))
@@ -906,7 +925,8 @@ class Machine:
         self._call(_library.mezguld_set_registers, _Registers(*(_number(word, 0xFFFF, name) for name, word in zip(words._fields, words))))
 
     def read(self, segment: int, offset: int, count: int) -> bytes:
-        """So many bytes of memory, at most 65,536, from segment:offset on; offsets wrap in their segment. FFh where there is no memory. `NotLoaded`."""
+        """So many bytes of memory, at most 65,536, from segment:offset on; offsets wrap in their segment. FFh where
+        there is no memory. `NotLoaded`."""
         segment, offset = _number(segment, 0xFFFF, "the segment"), _number(offset, 0xFFFF, "the offset")
         count = _number(count, _MOST_BYTES, "the count")
         buffer = ctypes.create_string_buffer(count + 1)
@@ -914,8 +934,8 @@ class Machine:
         return buffer.raw[:count]
 
     def read_linear(self, address: int, count: int) -> bytes:
-        """So many bytes of memory from a linear address up, as a program reads them; the last address is 10FFEFh. While the A20 line is off, those from 100000h
-        on are the first ones again. `NotLoaded`."""
+        """So many bytes of memory from a linear address up, as a program reads them; the last address is 10FFEFh.
+        While the A20 line is off, those from 100000h on are the first ones again. `NotLoaded`."""
         count = operator.index(count)
         address = _address(address, count)
         buffer = ctypes.create_string_buffer(count + 1)
@@ -923,7 +943,8 @@ class Machine:
         return buffer.raw[:count]
 
     def write_linear(self, address: int, data: bytes) -> None:
-        """Writes bytes from a linear address up, as `write`; the last address is 10FFEFh, and those from 100000h on are as in `read_linear`. `NotLoaded`."""
+        """Writes bytes from a linear address up, as `write`; the last address is 10FFEFh, and those from 100000h on
+        are as in `read_linear`. `NotLoaded`."""
         given = _bytes(data)
         self._call(_library.mezguld_write_linear, _address(address, len(given)), *_given(given))
 
@@ -933,7 +954,8 @@ class Machine:
         return int.from_bytes(words[2:], "little"), int.from_bytes(words[:2], "little")
 
     def write(self, segment: int, offset: int, data: bytes) -> None:
-        """Writes bytes from segment:offset on; offsets wrap in their segment. Bytes of the ROM, and where there is no memory, stay. `NotLoaded`."""
+        """Writes bytes from segment:offset on; offsets wrap in their segment. Bytes of the ROM, and where there is
+        no memory, stay. `NotLoaded`."""
         segment, offset = _number(segment, 0xFFFF, "the segment"), _number(offset, 0xFFFF, "the offset")
         self._call(_library.mezguld_write, segment, offset, *_given(_bytes(data)))
 
@@ -949,8 +971,8 @@ class Machine:
         return self._count(_library.mezguld_output_count)
 
     def command(self, line: str | bytes) -> bytes:
-        """The answer of the debugger to a line, as `R` or `D 0103:0100`. `NotLoaded`, `CommandSyntax`, `BreakpointsFull`, `OutOfMemory`. Ctrl-C in a command
-        `G` is as in `run`."""
+        """The answer of the debugger to a line, as `R` or `D 0103:0100`. `NotLoaded`, `CommandSyntax`,
+        `BreakpointsFull`, `OutOfMemory`. Ctrl-C in a command `G` is as in `run`."""
         text = _name(line)
         found = _GO.fullmatch(text)
         if found is None:
@@ -968,11 +990,12 @@ class Machine:
         return _served(work, steps)
 
     def check(self, steps: int) -> tuple[Stopped, str]:
-        """Makes at most so many steps, as `run`, under the memory checker, and returns the text of its report, with the line about the stop,
-        beside the stop. `findings` gives what it has found as data classes.
+        """Makes at most so many steps, as `run`, under the memory checker, and returns the text of its report, with
+        the line about the stop, beside the stop. `findings` gives what it has found as data classes.
 
-        `NotLoaded`; `OutOfMemory`, after which any part of the run was made. Ctrl-C comes at once, but the run is made to its end, since a report is of a
-        whole run. Later calls wait for that; `close` does not, and the machine is freed then.
+        `NotLoaded`; `OutOfMemory`, after which any part of the run was made. Ctrl-C comes at once, but the run is
+        made to its end, since a report is of a whole run. Later calls wait for that; `close` does not, and the
+        machine is freed then.
         """
         steps = _number(steps, _MOST_STEPS, "steps")
 
@@ -989,7 +1012,8 @@ class Machine:
         return _served(work, steps, self._left)
 
     def findings(self) -> Findings:
-        """The findings of the last `check`, with the numbers of its errors and notes; none before the first. No other call changes them. `OutOfMemory`."""
+        """The findings of the last `check`, with the numbers of its errors and notes; none before the first. No
+        other call changes them. `OutOfMemory`."""
         counts = [ctypes.c_uint64() for _ in range(3)]
         with self._held():
             self._call(_library.mezguld_finding_counts, *counts)
@@ -1017,8 +1041,9 @@ class Machine:
                 room = wanted.value
 
     def blocks(self) -> Blocks:
-        """The headers of the DOS memory arena, in their order: those of the first list, then those of the list in upper memory, if there is one
-        that is not linked. Of a destroyed list they are those before the bad header, and `destroyed` is its segment. `NotLoaded`."""
+        """The headers of the DOS memory arena, in their order: those of the first list, then those of the list in
+        upper memory, if there is one that is not linked. Of a destroyed list they are those before the bad header,
+        and `destroyed` is its segment. `NotLoaded`."""
         from .records import Block, Blocks  # pylint: disable=import-outside-toplevel
 
         end = _STRUCTURES["mezguld_list_end"]()
@@ -1052,8 +1077,8 @@ class Machine:
         )
 
     def read_page(self, handle: int, page: int, offset: int = 0, count: int | None = None) -> bytes:
-        """Bytes of a logical page of a handle of expanded memory, whether a window shows it or not: so many from byte `offset` of it on, or all up to the end
-        of its 16,384. `NotLoaded`, `NoHandle`, `NoPage`, `PastEnd`."""
+        """Bytes of a logical page of a handle of expanded memory, whether a window shows it or not: so many from
+        byte `offset` of it on, or all up to the end of its 16,384. `NotLoaded`, `NoHandle`, `NoPage`, `PastEnd`."""
         handle, page = _number(handle, 0xFFFF, "the handle"), _number(page, 0xFFFF, "the page")
         offset = _number(offset, _MOST_STEPS, "the offset")
         count = max(_PAGE - offset, 0) if count is None else _number(count, _PAGE, "the count")
@@ -1062,7 +1087,8 @@ class Machine:
         return buffer.raw[:count]
 
     def read_block(self, handle: int, offset: int = 0, count: int | None = None) -> bytes:
-        """Bytes of the block of a handle of extended memory: so many from byte `offset` of it on, or all up to its end. `NotLoaded`, `NoHandle`, `PastEnd`."""
+        """Bytes of the block of a handle of extended memory: so many from byte `offset` of it on, or all up to its
+        end. `NotLoaded`, `NoHandle`, `PastEnd`."""
         handle, offset = _number(handle, 0xFFFF, "the handle"), _number(offset, _MOST_STEPS, "the offset")
         count = None if count is None else _number(count, _MOST_BLOCK, "the count")
         with self._held():
@@ -1090,8 +1116,8 @@ class Machine:
 
 
 def assemble(text: str | bytes) -> bytes:
-    """The bytes of the COM program that a text is. A `str` is encoded in UTF-8. `LineSyntax`, `LineTwice`, `TooLong`, `LineUnknown`, `LineRange`,
-    `OutOfMemory`."""
+    """The bytes of the COM program that a text is. A `str` is encoded in UTF-8. `LineSyntax`, `LineTwice`,
+    `TooLong`, `LineUnknown`, `LineRange`, `OutOfMemory`."""
     given, count = _given(text.encode("utf-8", "surrogatepass") if isinstance(text, str) else _bytes(text))
     line = ctypes.c_size_t()
 
@@ -1105,6 +1131,7 @@ def assemble(text: str | bytes) -> bytes:
 
 
 def disassemble(program: bytes) -> bytes:
-    """The lines of a COM program of at most 65,278 bytes, which `assemble` makes the same bytes of. `TooLong`, `OutOfMemory`."""
+    """The lines of a COM program of at most 65,278 bytes, which `assemble` makes the same bytes of. `TooLong`,
+    `OutOfMemory`."""
     given, count = _given(_bytes(program))
     return _taken(lambda buffer, size, wanted: _library.mezguld_disassemble(given, count, buffer, size, wanted))

@@ -98,7 +98,8 @@ def tell(text: str) -> None:
 
 
 def made(work: Callable[[], Any], progress: object) -> Any:
-    """What `work` returns, which is done on another thread, so that Ctrl-C ends the command at once. Where it takes long, its progress is told."""
+    """What `work` returns, which is done on another thread, so that Ctrl-C ends the command at once. Where it takes
+    long, its progress is told."""
     results: list[Any] = []
 
     def done() -> None:
@@ -123,7 +124,8 @@ def made(work: Callable[[], Any], progress: object) -> Any:
 
 
 def output_of(options: argparse.Namespace) -> str:
-    """The file to write. What can be known before the run is a fault before it: no run takes its time in vain, and none writes over what it reads."""
+    """The file to write. What can be known before the run is a fault before it: no run takes its time in vain, and
+    none writes over what it reads."""
     output = ("memory.json" if options.json else "memory.html") if options.output is None else options.output
     if output == "-":
         return output
@@ -265,7 +267,8 @@ def main() -> int:
 
 
 def leave(status: int) -> None:
-    """Ends the process at once. To free the objects of a long record one by one takes a good part of the time that it took to make them."""
+    """Ends the process at once. To free the objects of a long record one by one takes a good part of the time that
+    it took to make them."""
     for stream in (sys.stdout, sys.stderr):
         with contextlib.suppress(OSError, ValueError, AttributeError):
             stream.flush()

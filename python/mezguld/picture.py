@@ -1,8 +1,9 @@
 """What a program did with memory, as data and as a page: `python -m mezguld picture`.
 
-`record` runs a program twice with the same files, options and input. The first run is under the memory checker and gives the findings. The second one
-stops at the entries of the services and keeps the lists `M`, `P` and `X` of the debugger as they are after each call that may change them, and at
-the steps of the findings. `data` gives all that as the JSON that docs/picture.md describes, and `page` puts it into one HTML file that needs no network.
+`record` runs a program twice with the same files, options and input. The first run is under the memory checker and
+gives the findings. The second one stops at the entries of the services and keeps the lists `M`, `P` and `X` of the
+debugger as they are after each call that may change them, and at the steps of the findings. `data` gives all that as
+the JSON that docs/picture.md describes, and `page` puts it into one HTML file that needs no network.
 """
 from __future__ import annotations
 
@@ -76,8 +77,8 @@ class Program(NamedTuple):
 
 
 class Options(NamedTuple):
-    """The options of a run, as those of `dm check`: the limit of steps, pages of expanded memory, KiB of extended memory, whether DOS has upper
-    memory, the command tail and the console's input."""
+    """The options of a run, as those of `dm check`: the limit of steps, pages of expanded memory, KiB of extended
+    memory, whether DOS has upper memory, the command tail and the console's input."""
 
     steps: int = 100_000_000
     ems: int = 64
@@ -107,8 +108,9 @@ def loaded(programs: list[Program], options: Options) -> Machine:
 
 
 class Report(NamedTuple):
-    """What the checker found: its findings in their order, how many there are in all, and how the run ended. The members are those of `dm check --json`; each
-    finding has besides how often it came again (`more`), and the step of the last time (`last`)."""
+    """What the checker found: its findings in their order, how many there are in all, and how the run ended. The
+    members are those of `dm check --json`; each finding has besides how often it came again (`more`), and the step
+    of the last time (`last`)."""
 
     lines: list[str]
     findings: list[dict[str, Any]]
@@ -150,8 +152,8 @@ def site_of(finding: dict[str, Any]) -> str:
 
 
 def untyped(name: str, *arguments: Any) -> Callable[[], int]:
-    """A call of the library with arguments which ctypes has made, whose types it does not look at: that takes half the time. Other threads run only in
-    a call that may be long."""
+    """A call of the library with arguments which ctypes has made, whose types it does not look at: that takes half
+    the time. Other threads run only in a call that may be long."""
     function = (_library if name == "run_until" else AT_ONCE)[f"mezguld_{name}"]
     function.restype = ctypes.c_uint32
     return functools.partial(function, *arguments)
@@ -163,7 +165,8 @@ NOWHERE: Back = (0, 0, False)
 
 
 def caller_of(back: Back) -> str:
-    """The caller as a text: the instruction of the interrupt, if it was one. (That has two bytes; a far call has others.)"""
+    """The caller as a text: the instruction of the interrupt, if it was one. (That has two bytes; a far call has
+    others.)"""
     segment, offset, is_interrupt = back
     return f"{segment:04X}:{(offset - 2) & 0xFFFF:04X}" if is_interrupt else f"before {segment:04X}:{offset:04X}"
 
@@ -180,8 +183,8 @@ WHY, STEPS, AX, BX, CX, DX, SP, BP, SI, DI, CS, DS, ES, SS, IP, FLAGS = 0, 2, *r
 
 
 class Watched:
-    """A machine, by calls of the library that take little time: what they are given is made once, and calls that follow one another are made together.
-    Only one thread uses it."""
+    """A machine, by calls of the library that take little time: what they are given is made once, and calls that
+    follow one another are made together. Only one thread uses it."""
 
     def __init__(self, machine: Machine) -> None:
         self.machine, self._handle = machine, machine._handle  # pylint: disable=protected-access
@@ -209,7 +212,8 @@ class Watched:
         return VALUES(self._seen)
 
     def run_until(self, steps: int) -> Values:
-        """At most so many steps, up to the entry of a service; why the run stopped, and the steps so far and the registers then."""
+        """At most so many steps, up to the entry of a service; why the run stopped, and the steps so far and the
+        registers then."""
         self._limit.value = steps
         status = self._run_until() or self._ask_steps() or self._ask_registers()
         if status:
@@ -229,7 +233,8 @@ class Watched:
         return cs, ip, is_interrupt
 
     def performed(self, name: str | None) -> tuple[Values, bytes | None]:
-        """A step: why the run stopped, and the registers then (its steps are those before); and the text of a list then, if one is wanted."""
+        """A step: why the run stopped, and the registers then (its steps are those before); and the text of a list
+        then, if one is wanted."""
         status = self._run() or self._ask_registers()
         if status:
             _check(status)
@@ -268,12 +273,13 @@ class Listing:
         self.text = b""
         # The last text that was compared, and its number.
         self.numbered, self.number = b"", 0
-        # The changes of short lists, by the two texts: a program that calls in a loop makes the same ones again and again.
+        # The changes of short lists, by the two texts: a program that calls in a loop makes the same ones again and
+        # again.
         self.known: dict[tuple[bytes, bytes], list[Any]] = {}
 
     def change(self, new: bytes) -> list[Any] | int:
-        """What makes the new list of the old one: the place of a line, how many lines go there, and those that come. 0 if nothing changed. Each line
-        ends with a line feed."""
+        """What makes the new list of the old one: the place of a line, how many lines go there, and those that come.
+        0 if nothing changed. Each line ends with a line feed."""
         old, self.text = self.text, new
         if old == new:
             return 0
@@ -305,7 +311,8 @@ def is_line(text: bytes, at: int, front: int) -> bool:
 
 
 def same_end(old: bytes, new: bytes, front: int) -> tuple[int, int]:
-    """Where the old text, behind the front that both have, begins to go on as the new one ends; and how many lines are between."""
+    """Where the old text, behind the front that both have, begins to go on as the new one ends; and how many lines
+    are between."""
     longer, begin = len(new) - len(old), front
     # (Mostly one or two lines of the old text are not in the new one.)
     for count in range(FEW_LINES):
@@ -377,8 +384,9 @@ def size_of(moment: list[Any]) -> int:
 
 
 class Call(NamedTuple):
-    """What else is known of a call that may start or end a process: why the run stopped at its step, the program that it names, the segment of an overlay,
-    whether it has started the program, and whether it starts or ends a process."""
+    """What else is known of a call that may start or end a process: why the run stopped at its step, the program
+    that it names, the segment of an overlay, whether it has started the program, and whether it starts or ends a
+    process."""
 
     why: Stop
     program: str
@@ -387,8 +395,8 @@ class Call(NamedTuple):
     is_process: bool
 
 
-# A call that waits: the service, the steps after it, the registers before and after it, where it came from, the lists, whether the checker has found
-# something, and more of a call that may start or end a process.
+# A call that waits: the service, the steps after it, the registers before and after it, where it came from, the lists,
+# whether the checker has found something, and more of a call that may start or end a process.
 Waiting = Tuple["Service", int, Values, Values, Back, Sequence[Tuple[int, bytes]], bool, Optional[Call]]
 
 
@@ -415,7 +423,8 @@ class Recorder:
         self.stale: set[str] = set()
         self.processes: list[dict[str, Any]] = []
         self.alive: list[int] = []
-        # What function 48h gave and the program did not free: by segment, where it was called, the step, the paragraphs, and the process.
+        # What function 48h gave and the program did not free: by segment, where it was called, the step, the
+        # paragraphs, and the process.
         self.held: dict[int, tuple[Back, int, int, int]] = {}
         self.kept: dict[tuple[str, str, str], list[int]] = {}
         self.now = 0
@@ -436,7 +445,8 @@ class Recorder:
         self._thin_enough()
 
     def _settle(self) -> None:
-        """The moments of the calls that wait. Many after one another take half the time that each takes between two steps of a program."""
+        """The moments of the calls that wait. Many after one another take half the time that each takes between two
+        steps of a program."""
         waiting, self.waiting, running = self.waiting, [], self.running()
         names, backs, moments, lists = self.names, self.backs, self.moments, self.lists
         for service, now, before, after, back, listed, must, call in waiting:
@@ -493,7 +503,8 @@ class Recorder:
     # -- processes
 
     def _process(self, service: Service, now: int, before: Values, after: Values, call: Call) -> tuple[int, str]:
-        """Notes what a call did that may start or end a process. The code with which it was refused, and what it was asked and gave."""
+        """Notes what a call did that may start or end a process. The code with which it was refused, and what it was
+        asked and gave."""
         if call.is_start:
             self._start(call.program, after[DS], now)
         elif service.is_ending:
@@ -530,7 +541,8 @@ class Recorder:
             group[2], group[3] = min(group[2], step), max(group[3], step)
 
     def drop_processes(self) -> None:
-        """Leaves out the processes that made no call of which there is a moment, and that neither run nor kept anything."""
+        """Leaves out the processes that made no call of which there is a moment, and that neither run nor kept
+        anything."""
         wanted = {0, *self.alive, *(it[3] for it in self.moments), *(it[4] for it in self.kept.values())}
         # (A parent stands before its children.)
         for number in range(len(self.processes) - 1, 0, -1):
@@ -695,7 +707,8 @@ class Service:
         number = function if entry is DOS else None
         self.is_resident, self.is_load, self.is_ending = number == 0x31, number == 0x4B, entry not in NAMES or number in (0x00, 0x31, 0x4C)
         self.is_process = self.is_load or self.is_ending
-        # Whether only calls with an odd AL may change memory's division; whether the caller is wanted where nobody is told of the call.
+        # Whether only calls with an odd AL may change memory's division; whether the caller is wanted where nobody is
+        # told of the call.
         self.is_odd, self.is_followed = number == 0x58, number == 0x48 or self.is_load
         self.hold = {0x48: Recorder.allocated, 0x49: Recorder.freed, 0x4A: Recorder.resized}.get(number)
         self.refused = REFUSED.get(entry)
@@ -761,7 +774,8 @@ class Progress:
 def record(
     programs: list[Program], options: Options = Options(), *, files: list[str] | None = None, input_file: str | None = None, progress: Progress | None = None
 ) -> dict[str, Any]:
-    """Runs the first program, which can start the others, and returns all that docs/picture.md describes. `progress` says meanwhile how far it is.
+    """Runs the first program, which can start the others, and returns all that docs/picture.md describes. `progress`
+    says meanwhile how far it is.
 
     The errors are those of `Machine`, `Machine.add` and `Machine.load`.
     """

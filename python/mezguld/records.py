@@ -1,6 +1,8 @@
-"""What calls tell of memory and of a checked run: data classes, none of which changes. `mezguld` has all of them by their names.
+"""What calls tell of memory and of a checked run: data classes, none of which changes. `mezguld` has all of them by
+their names.
 
-This module is loaded with the first call that wants one of them, since data classes take longer to make than all else of the package.
+This module is loaded with the first call that wants one of them, since data classes take longer to make than all
+else of the package.
 """
 from __future__ import annotations
 
@@ -20,9 +22,9 @@ __all__ = [
 
 @dataclass(frozen=True)
 class Block:
-    """A header of the DOS memory arena: its segment, whether it is signed `Z` as the last of its list, the owner (0: free; 8: DOS; else the segment of a
-    program's prefix), the size in paragraphs of 16 bytes, and its list: 0 for the first one, 1 for that of upper memory where the first does not lead to it.
-    Its segments print in hexadecimal."""
+    """A header of the DOS memory arena: its segment, whether it is signed `Z` as the last of its list, the owner (0:
+    free; 8: DOS; else the segment of a program's prefix), the size in paragraphs of 16 bytes, and its list: 0 for
+    the first one, 1 for that of upper memory where the first does not lead to it. Its segments print in hexadecimal."""
 
     segment: int
     last: bool
@@ -35,7 +37,8 @@ class Block:
 
 
 class Blocks(list):
-    """A list of blocks. `destroyed` is None, or the segment of the first bad header, at which the list breaks: the blocks are those before it."""
+    """A list of blocks. `destroyed` is None, or the segment of the first bad header, at which the list breaks: the
+    blocks are those before it."""
 
     def __init__(self, blocks: Iterable[Block] = (), destroyed: int | None = None) -> None:
         super().__init__(blocks)
@@ -47,8 +50,8 @@ class Blocks(list):
 
 @dataclass(frozen=True)
 class PageHandle:
-    """A handle of expanded memory: its number, how many pages of 16 KiB it has (they are counted from 0), its name of eight bytes, and whether the windows
-    are saved under it."""
+    """A handle of expanded memory: its number, how many pages of 16 KiB it has (they are counted from 0), its name
+    of eight bytes, and whether the windows are saved under it."""
 
     number: int
     pages: int
@@ -74,7 +77,8 @@ class Expanded:
 
 @dataclass(frozen=True)
 class ExtendedBlock:
-    """A block of extended memory: its handle, its linear address, its size in KiB, and how often it is locked. Its address prints in hexadecimal."""
+    """A block of extended memory: its handle, its linear address, its size in KiB, and how often it is locked. Its
+    address prints in hexadecimal."""
 
     handle: int
     address: int
@@ -87,7 +91,8 @@ class ExtendedBlock:
 
 @dataclass(frozen=True)
 class UpperBlock:
-    """An upper memory block of the extended memory driver: its segment, and its size in paragraphs. Its segment prints in hexadecimal."""
+    """An upper memory block of the extended memory driver: its segment, and its size in paragraphs. Its segment
+    prints in hexadecimal."""
 
     segment: int
     size: int
@@ -98,7 +103,8 @@ class UpperBlock:
 
 @dataclass(frozen=True)
 class Extended:
-    """Extended memory: its blocks, the upper memory blocks, whether the A20 line is on, and whether the high memory area is in use."""
+    """Extended memory: its blocks, the upper memory blocks, whether the A20 line is on, and whether the high memory
+    area is in use."""
 
     blocks: list[ExtendedBlock]
     upper: list[UpperBlock]
@@ -108,8 +114,8 @@ class Extended:
 
 @dataclass(frozen=True)
 class Instruction:
-    """An instruction in memory: where it stands, its bytes and its text; `DB` for a byte with which no instruction begins. It prints its address in
-    hexadecimal."""
+    """An instruction in memory: where it stands, its bytes and its text; `DB` for a byte with which no instruction
+    begins. It prints its address in hexadecimal."""
 
     segment: int
     offset: int
@@ -125,8 +131,8 @@ class Instruction:
 
 @dataclass(frozen=True)
 class Act:
-    """What was performed in a step: how, the offset after it (of an instruction), and the numbers of the interrupt and of the function that it has. What it
-    does not have is `None`."""
+    """What was performed in a step: how, the offset after it (of an instruction), and the numbers of the interrupt
+    and of the function that it has. What it does not have is `None`."""
 
     how: How
     next: int | None = None
@@ -136,7 +142,8 @@ class Act:
 
 @dataclass(frozen=True)
 class Place:
-    """A place in the code of a program: CS:IP of an instruction, or the address after it (`before`), where only that is known. It prints in hexadecimal."""
+    """A place in the code of a program: CS:IP of an instruction, or the address after it (`before`), where only that
+    is known. It prints in hexadecimal."""
 
     cs: int
     ip: int
@@ -148,7 +155,8 @@ class Place:
 
 @dataclass(frozen=True)
 class Origin:
-    """The step that freed the memory that a finding is about, or allocated what a program has left or holds, and its place."""
+    """The step that freed the memory that a finding is about, or allocated what a program has left or holds, and its
+    place."""
 
     step: int
     at: Place
@@ -165,8 +173,8 @@ class Contents:
 
 @dataclass(frozen=True)
 class Details:
-    """What a finding is about, by the names of `dm check --json` (`old` and `new` there are `old_contents` and `new_contents` here). What its kind does not have
-    is `None`, and is not printed."""
+    """What a finding is about, by the names of `dm check --json` (`old` and `new` there are `old_contents` and
+    `new_contents` here). What its kind does not have is `None`, and is not printed."""
 
     old_contents: Contents | None = None
     new_contents: Contents | None = None
@@ -192,9 +200,10 @@ class Details:
 
 @dataclass(frozen=True)
 class Finding:
-    """A finding of a checked run: its kind, whether it is an error (else a note), the step, the process (the segment of its prefix), the place of the step,
-    what was performed, what the finding is about, the step that freed or allocated that (`None` where it is not known), how often it came again (`more`), the
-    step of the last time, and its line in the report."""
+    """A finding of a checked run: its kind, whether it is an error (else a note), the step, the process (the segment
+    of its prefix), the place of the step, what was performed, what the finding is about, the step that freed or
+    allocated that (`None` where it is not known), how often it came again (`more`), the step of the last time, and
+    its line in the report."""
 
     kind: FindingKind
     is_error: bool
@@ -210,7 +219,8 @@ class Finding:
 
 
 class Findings(list):
-    """The findings that a report lists, in the order in which they happened; `errors` and `notes` count all, and `not_listed` those that are left out."""
+    """The findings that a report lists, in the order in which they happened; `errors` and `notes` count all, and
+    `not_listed` those that are left out."""
 
     def __init__(self, found: Iterable[Finding] = (), errors: int = 0, notes: int = 0, not_listed: int = 0) -> None:
         super().__init__(found)

@@ -1,7 +1,7 @@
 """The lines of `dm check --json`, worked out from those of `dm check`.
 
-It knows the two forms of a report as docs/manual.md describes them, and nothing of the machine: rows/check, which loads it without the package, compares
-what it makes with what `dm check --json` writes.
+It knows the two forms of a report as docs/manual.md describes them, and nothing of the machine: rows/check, which
+loads it without the package, compares what it makes with what `dm check --json` writes.
 """
 from __future__ import annotations
 
@@ -125,7 +125,8 @@ def groups(pattern: re.Pattern[str], text: str) -> tuple[Any, ...]:
 
 
 def origin(text: str) -> tuple[str, Members]:
-    """The words of a finding without the step that allocated, turned on or freed what it is about, and that step, if it is named."""
+    """The words of a finding without the step that allocated, turned on or freed what it is about, and that step, if
+    it is named."""
     found = ORIGIN.fullmatch(text)
     if not found:
         return text, {}
@@ -160,8 +161,8 @@ def process(line: str) -> Members:
 
 
 def objects(lines: list[str], status: int | None) -> list[Any]:
-    """The objects for the lines of a report, the last of which has the exit code if the program ended; None for the code if the status hides
-    it. A line of another kind, as that of a fault, stays as it is."""
+    """The objects for the lines of a report, the last of which has the exit code if the program ended; None for the
+    code if the status hides it. A line of another kind, as that of a fault, stays as it is."""
     errors: set[str] = set()
     made: list[Any] = []
     for line in lines:

@@ -1,10 +1,13 @@
 """A program at a terminal: the command `python -m mezguld run`.
 
-Where standard input is a terminal, keys arrive as they are pressed: Enter is 0Dh, Backspace 08h, a key without a character (arrows, F1 to F10) 00h and its
-scan code. A call that reads a character gets the next key; functions 0Ah and 3Fh of INT 21h read a line, which is shown and edited as it is typed, as DOS does.
-Keys that are typed before they are wanted wait. Output appears as it is written. Ctrl-C ends the run, and the terminal is put back whatever happens.
+Where standard input is a terminal, keys arrive as they are pressed: Enter is 0Dh, Backspace 08h, a key without a
+character (arrows, F1 to F10) 00h and its scan code. A call that reads a character gets the next key; functions 0Ah
+and 3Fh of INT 21h read a line, which is shown and edited as it is typed, as DOS does. Keys that are typed before
+they are wanted wait. Output appears as it is written. Ctrl-C ends the run, and the terminal is put back whatever
+happens.
 
-Where standard input is no terminal, its bytes are the program's input, as for `dm run`: a file at once, a pipe as its bytes come.
+Where standard input is no terminal, its bytes are the program's input, as for `dm run`: a file at once, a pipe as
+its bytes come.
 """
 from __future__ import annotations
 
@@ -31,11 +34,13 @@ except ImportError:
     # (A system without terminals of this kind.)
     fcntl = termios = None  # type: ignore[assignment]
 
-# The most bytes that are read at once, that are written at once (a pipe that takes any takes so many), and of a line of function 3Fh without its end.
+# The most bytes that are read at once, that are written at once (a pipe that takes any takes so many), and of a line of
+# function 3Fh without its end.
 CHUNK, PIECE, MOST_LINE = 1 << 16, 1 << 10, 126
 # The steps of the first slice and the most of one, and the seconds that one should take at most.
 FIRST_SLICE, LONGEST_SLICE, SLICE_SECONDS = 1 << 12, 1 << 20, 0.02
-# Where the functions of INT 21h act (the entry point of the machine's ROM), and which of them read characters and lines.
+# Where the functions of INT 21h act (the entry point of the machine's ROM), and which of them read characters and
+# lines.
 SERVICE = (0xF000, 0x84)
 READ_KEY, READ_LINE, READ_HANDLE, POLL, STATUS, FLUSH = (0x01, 0x07, 0x08), 0x0A, 0x3F, 0x06, 0x0B, 0x0C
 ENTER, BACKSPACE, ESCAPE, BELL, TAB = 0x0D, 0x08, 0x1B, b"\a", 0x09
@@ -107,7 +112,8 @@ class Signals:
 
 
 class Terminal:
-    """The terminal of standard input in raw mode, from `__enter__` to `__exit__`: no echo, no lines, keys as they are pressed; only Ctrl-C is a signal."""
+    """The terminal of standard input in raw mode, from `__enter__` to `__exit__`: no echo, no lines, keys as they
+    are pressed; only Ctrl-C is a signal."""
 
     def __init__(self, file: int) -> None:
         self.file = file
@@ -186,7 +192,8 @@ class Console:
             self._keyboard = Keyboard(self._terminal, self._is_utf8)
 
     def look(self, seconds: float | None = 0) -> None:
-        """Takes the input that is there, or waits for some, at most so long; `None` is for ever. A signal ends the wait."""
+        """Takes the input that is there, or waits for some, at most so long; `None` is for ever. A signal ends the
+        wait."""
         self.heed()
         ready = select.select([self._signals.reader, *([] if self.has_ended else [self.file])], [], [], seconds)[0]
         if self.file in ready:
@@ -226,7 +233,8 @@ class Console:
                 self._terminal.make_raw()
 
     def show(self, data: bytes) -> None:
-        """Writes what the program has written. `NotWritten`. A terminal for UTF-8 shows the characters of code page 437."""
+        """Writes what the program has written. `NotWritten`. A terminal for UTF-8 shows the characters of code page
+        437."""
         if self._is_utf8 and self._is_shown:
             data = data.decode("cp437").encode("utf-8")
         if data and sys.stdout is None:
@@ -441,8 +449,8 @@ def is_file() -> bool:
 
 
 def run(machine: Machine, steps: int | None) -> Stopped:
-    """Runs a machine, whose program is loaded, at standard input and output, at most so many steps. The input of a file was given to `load`. `Ended`,
-    `NotWritten`, `OSError`."""
+    """Runs a machine, whose program is loaded, at standard input and output, at most so many steps. The input of a
+    file was given to `load`. `Ended`, `NotWritten`, `OSError`."""
     with Signals() as signals, contextlib.ExitStack() as stack:
         console = Console(signals)
         console.has_ended |= is_file()

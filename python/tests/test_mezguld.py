@@ -1,4 +1,5 @@
-"""Tests of the module `mezguld` over the built library. From the top: `python3 -m unittest discover -s python/tests -t python`."""
+"""Tests of the module `mezguld` over the built library. From the top: `python3 -m unittest discover -s python/tests
+-t python`."""
 import copy
 import ctypes
 import dataclasses
@@ -355,7 +356,8 @@ class Reports(unittest.TestCase):
         self.assertEqual(repr(found[0].at), "Place(cs=0x0103, ip=0x0105, before=False)")
 
     def test_who_freed_and_who_allocated(self) -> None:
-        # Keeps 512 bytes with its stack, allocates a paragraph and frees it, reads it, and ends with a page of expanded memory.
+        # Keeps 512 bytes with its stack, allocates a paragraph and frees it, reads it, and ends with a page of expanded
+        # memory.
         text = """MOV SP,200h\nMOV BX,20h\nMOV AH,4Ah\nINT 21h\nMOV BX,1\nMOV AH,48h\nINT 21h\nMOV ES,AX\nMOV AH,49h\nINT 21h\nES MOV AL,[0]
             MOV BX,1\nMOV AH,43h\nINT 67h\nMOV AX,4C00h\nINT 21h\n"""
         with started(text) as machine:
@@ -377,7 +379,8 @@ class Reports(unittest.TestCase):
         self.assertEqual({(it.kind, it.act, it.details) for it in found}, {(FindingKind.REFUSED, Act(How.FUNCTION, None, 0x21, 0xEE), Details(code=1))})
 
 
-# Allocates two pages, names their handle and maps the second one into window 1; allocates 16 KiB and 8 paragraphs by the driver of extended memory.
+# Allocates two pages, names their handle and maps the second one into window 1; allocates 16 KiB and 8 paragraphs by
+# the driver of extended memory.
 DRIVERS = """MOV BX,2
 MOV AH,43h
 INT 67h
@@ -403,8 +406,8 @@ driver: DW 0,0
 """
 
 
-# Allocates two pages, writes to the second one through window 0, saves the windows, and maps the first one there; allocates 2 KiB by the driver of extended
-# memory, and moves six bytes to byte 8 of them.
+# Allocates two pages, writes to the second one through window 0, saves the windows, and maps the first one there;
+# allocates 2 KiB by the driver of extended memory, and moves six bytes to byte 8 of them.
 MOVES = """MOV BX,2
 MOV AH,43h
 INT 67h
@@ -500,7 +503,8 @@ class Drivers(unittest.TestCase):
             self.assertEqual((machine.blocks(), machine.blocks().destroyed), (blocks[:1], 0x0102))
 
     def test_many_blocks(self) -> None:
-        # More headers than a call gives at once: each but the last is followed by the next one after a block of no paragraph.
+        # More headers than a call gives at once: each but the last is followed by the next one after a block of no
+        # paragraph.
         with started(END) as machine:
             for at in range(1000):
                 machine.write(0x2000 + at, 0, b"M\0\0\0\0")

@@ -1,4 +1,5 @@
-"""Tests of `python -m mezguld picture` without a browser. From the top: `python3 -m unittest discover -s python/tests -t python`."""
+"""Tests of `python -m mezguld picture` without a browser. From the top: `python3 -m unittest discover -s
+python/tests -t python`."""
 from __future__ import annotations
 
 import io

@@ -3,8 +3,8 @@
 
     python3 bcc_symbols.py PROGRAM.c
 
-leaves PROGRAM.com and PROGRAM.elf in the present folder. The second has no code: `symbol-file PROGRAM.elf` gives GDB the functions of
-all modules, and the lines. It needs Debian's packages bcc, elks-libc, nasm and binutils.
+leaves PROGRAM.com and PROGRAM.elf in the present folder. The second has no code: `symbol-file PROGRAM.elf` gives GDB
+the functions of all modules, and the lines. It needs Debian's packages bcc, elks-libc, nasm and binutils.
 """
 import os
 import re
@@ -12,7 +12,8 @@ import subprocess
 import sys
 import tempfile
 
-# A line of the source in bcc's output; a line of as86's listing with an address in the code; a symbol with its segment and address in ld86's map.
+# A line of the source in bcc's output; a line of as86's listing with an address in the code; a symbol with its segment
+# and address in ld86's map.
 SOURCE, LISTED, MAPPED = re.compile(r"! (\d+) (?!# \d)"), re.compile(r"\d+ ([0-9A-F]{4}) {11}[0-9A-F]{2}"), re.compile(r" *(\S+) +(\S+) +([0-3]) +([0-9a-f]{8}) ")
 LABEL = re.compile(r"\d+ +([0-9A-F]{8})> +(_\w+):")
 PROLOGUE = re.compile(r"push\s+(bp|di|si)|mov\s+bp,sp|dec\s+sp|(add|sub)\s+sp,")
@@ -32,7 +33,8 @@ def run(words, folder=None):
 
 
 def lines_of(source, listing):
-    """The offset in the code and the number of each source line with code, the offset of each function, and the size of the code, from as86's listing."""
+    """The offset in the code and the number of each source line with code, the offset of each function, and the size
+    of the code, from as86's listing."""
     lines, functions, number, opened, size, is_ours = [], {}, 0, None, 0, True
     for row in listing.splitlines():
         text = row[43:].strip()
@@ -43,7 +45,8 @@ def lines_of(source, listing):
         if label := LABEL.match(row):
             functions[label[2]], opened = int(label[1], 16), number
         if code := LISTED.match(row):
-            # What a function does first belongs to its head, so that GDB has its breakpoint at the first line of the body.
+            # What a function does first belongs to its head, so that GDB has its breakpoint at the first line of the
+            # body.
             opened = opened if PROLOGUE.match(text) else None
             now, size = opened or number, int(code[1], 16) + 1
             lines += [(size - 1, now)] if is_ours and (not lines or now != lines[-1][1]) else []
@@ -51,7 +54,8 @@ def lines_of(source, listing):
 
 
 def assembly(first, last, names, lines=()):
-    """A text for NASM of the bytes from one address up to another, with names at theirs and the source's lines, and no code."""
+    """A text for NASM of the bytes from one address up to another, with names at theirs and the source's lines, and
+    no code."""
     marks = [(address, f"global {it}:function\n{it}:") for it, address in names if first <= address < last] + list(lines)
     told = ["bits 16", "section .text align=1"]
     for address, text in sorted(marks):
@@ -62,7 +66,8 @@ def assembly(first, last, names, lines=()):
 
 
 def linked(source, listing, names, name, folder):
-    """Makes the file with the symbols from three parts: what comes before the program's own code, that code, and what follows it."""
+    """Makes the file with the symbols from three parts: what comes before the program's own code, that code, and
+    what follows it."""
     lines, functions, size = lines_of(source, listing)
     base = next((address - functions[it] for it, address in names if it in functions), None)
     if base is None:

@@ -2,7 +2,8 @@
 
     gdb -x mezguld.py -ex 'symbol-file PROGRAM.elf' -ex 'dm connect PROGRAM.COM'
 
-An address SEGMENT:OFFSET has hexadecimal numbers or 16-bit registers on both sides: 0103:0119, ds:si. `help dm` lists the commands.
+An address SEGMENT:OFFSET has hexadecimal numbers or 16-bit registers on both sides: 0103:0119, ds:si. `help dm`
+lists the commands.
 """
 import os
 import shlex
@@ -15,8 +16,8 @@ try:
 except ImportError:
     sys.exit("mezguld.py: GDB reads this file: gdb -x mezguld.py")
 
-# The other files stand beside this one. Their folder leaves the path again, since a package of Python has this file's name; and there is no need to keep
-# them compiled.
+# The other files stand beside this one. Their folder leaves the path again, since a package of Python has this file's
+# name; and there is no need to keep them compiled.
 HERE = os.path.dirname(os.path.abspath(__file__))
 sys.path.insert(0, HERE)
 sys.dont_write_bytecode = True
@@ -25,8 +26,8 @@ from mezguld_frames import flush, is_there, linear_of, memory, monitor, quietly,
 
 sys.path.remove(HERE)
 
-# The machine is an 8086. GDB would choose otherwise for an ELF file with the program's symbols. It goes on where `dm gdb`
-# tells, by the signal SIGALRM, that a `continue` made its most steps.
+# The machine is an 8086. GDB would choose otherwise for an ELF file with the program's symbols. It goes on where `dm
+# gdb` tells, by the signal SIGALRM, that a `continue` made its most steps.
 SETTINGS = ("set osabi none", "set architecture i8086", "set remotetimeout 30", "handle SIGALRM nostop noprint pass")
 REGISTERS = {"ax": "ax", "bx": "bx", "cx": "cx", "dx": "dx", "sp": "sp", "bp": "bp", "si": "si", "di": "di", "ds": "ds", "es": "es", "ss": "ss", "cs": "cs", "ip": "ip"}
 # The instructions behind which `dm over` goes on, and those that return from what they call.
@@ -182,7 +183,8 @@ def out():
 
 
 def go(number):
-    """dm go N: goes to the state after N steps from the start, N in hexadecimal, forwards or back, past all breakpoints."""
+    """dm go N: goes to the state after N steps from the start, N in hexadecimal, forwards or back, past all
+    breakpoints."""
     print(monitor(f"step {number}"), end="")
     flush()
     show()
@@ -194,7 +196,8 @@ def stop_at(address, *condition):
 
 
 def watch(address, count="1", *condition):
-    """dm watch SEGMENT:OFFSET [COUNT] [if CONDITION]: stops where one of COUNT bytes is written, a byte without it; COUNT in hexadecimal."""
+    """dm watch SEGMENT:OFFSET [COUNT] [if CONDITION]: stops where one of COUNT bytes is written, a byte without it;
+    COUNT in hexadecimal."""
     if count == "if":
         count, condition = "1", (count, *condition)
     if word(count) == 0:
@@ -204,7 +207,8 @@ def watch(address, count="1", *condition):
 
 
 def stop_at_interrupt(number, function=""):
-    """dm int NN [AH]: sets a breakpoint where interrupt NN leads now, for function AH alone if it is given; both in hexadecimal."""
+    """dm int NN [AH]: sets a breakpoint where interrupt NN leads now, for function AH alone if it is given; both in
+    hexadecimal."""
     offset, segment = struct.unpack("<HH", memory(4 * word(number), 4))
     gdb.execute(f"break *{segment * 16 + offset:#x}" + (f" if ($ax >> 8 & 0xff) == {word(function):#x}" if function else ""))
 

@@ -1,16 +1,18 @@
 """Finds who called the code at CS:IP, from the bytes of memory alone. Nothing here needs GDB.
 
-A machine keeps no list of calls, and code for the 8086 keeps its stack as it likes. So the code is followed, without its data, from CS:IP to each
-return that it can come to, with all that it pushes, pops and takes from the stack on the way. A word of the stack is a return address if such a return
-takes it, if a call stands before the address that it holds, and if the code that this call leads to comes to CS:IP with the stack as it is. Code that never
-returns has no such return: then the words of the stack are tried one after the other, for calls whose code comes to CS:IP.
+A machine keeps no list of calls, and code for the 8086 keeps its stack as it likes. So the code is followed, without
+its data, from CS:IP to each return that it can come to, with all that it pushes, pops and takes from the stack on
+the way. A word of the stack is a return address if such a return takes it, if a call stands before the address that
+it holds, and if the code that this call leads to comes to CS:IP with the stack as it is. Code that never returns has
+no such return: then the words of the stack are tried one after the other, for calls whose code comes to CS:IP.
 
 Instructions are those of the 8086 (Intel, iAPX 86/88 User's Manual, "Machine instruction decoding guide").
 """
 from collections import deque, namedtuple
 
 AX, CX, DX, BX, SP, BP, SI, DI, ES, CS, SS, DS = range(12)
-# How many instructions a walk follows, and all walks for one frame together; at how many offsets of the stack a return address is looked for.
+# How many instructions a walk follows, and all walks for one frame together; at how many offsets of the stack a return
+# address is looked for.
 WALK, WALKS, PLACES = 3000, 20_000, 2048
 # How many instructions a walk follows where none of these may hold one.
 SHORT = 500
@@ -31,10 +33,12 @@ MAY_CALL, MAY_DIVIDE = frozenset((0xE8, 0x9A, 0xFF)), frozenset((0xF6, 0xF7, 0xD
 # Functions of INT 21h that end the program.
 ENDS = frozenset((0x00, 0x31, 0x4C))
 
-# An instruction: its first byte without prefixes, its mode byte and the parts of it, its displacement, its operand, its length.
+# An instruction: its first byte without prefixes, its mode byte and the parts of it, its displacement, its operand, its
+# length.
 Instruction = namedtuple("Instruction", "code mode reg rm displacement operand length")
-# What pushed a return address: the offset of its lowest word in SS, how many bytes a return takes, how many of them the CALL, INT or division pushed, its
-# place, the place that it leads to (None if the bytes do not spell it), and the return address.
+# What pushed a return address: the offset of its lowest word in SS, how many bytes a return takes, how many of them the
+# CALL, INT or division pushed, its place, the place that it leads to (None if the bytes do not spell it), and the
+# return address.
 Call = namedtuple("Call", "slot size pushed at target back")
 
 
@@ -102,7 +106,8 @@ def halves(registers):
 
 
 class State:
-    """A state on the way: where it is, what is known of the registers (`None` where nothing is), of AH, and of what was pushed."""
+    """A state on the way: where it is, what is known of the registers (`None` where nothing is), of AH, and of what
+    was pushed."""
 
     __slots__ = ("cs", "ip", "registers", "function", "pushed")
 
@@ -169,7 +174,8 @@ class Finder:
         return self.instructions[cs, ip]
 
     def caller(self, registers, is_first=True):
-        """The call that led to CS:IP of the 12 registers and IP, and the registers behind it, or `None` for code that nothing called."""
+        """The call that led to CS:IP of the 12 registers and IP, and the registers behind it, or `None` for code
+        that nothing called."""
         known, ip = list(registers[:12]), registers[12]
         # (At 0, SP is at the end of a stack of 64 KiB, which is empty.)
         above = max(0, 0xFFFF - known[SP]) if known[SP] else 0
@@ -190,7 +196,8 @@ class Finder:
         return call, (*after, call.back[1])
 
     def candidates(self, registers, above):
-        """The offsets of words of the stack that a call can have pushed, if there are so many above SP; compilers put single bytes there, too."""
+        """The offsets of words of the stack that a call can have pushed, if there are so many above SP; compilers
+        put single bytes there, too."""
         cs, ss, stack, known = registers[CS], registers[SS], registers[SP], {}
         for slot in range(stack, stack + min(above, PLACES)):
             two = self.memory.bytes(ss, slot, 4)
@@ -212,7 +219,8 @@ class Finder:
         return None
 
     def by_words(self, candidates, known, goal):
-        """The call of the lowest word of the stack whose code comes to CS:IP; else of the nearest code before it that may."""
+        """The call of the lowest word of the stack whose code comes to CS:IP; else of the nearest code before it
+        that may."""
         cs, ip, _ = goal
         possible = []
         for slot in candidates:
@@ -303,7 +311,8 @@ class Walk:
         self.waiting, self.seen, self.ended = deque([start]), set(), []
 
     def states(self):
-        """The states on the way; `ended` gets each that returns, with the size of the return address and the bytes removed behind it."""
+        """The states on the way; `ended` gets each that returns, with the size of the return address and the bytes
+        removed behind it."""
         for _ in range(WALK):
             if not self.waiting:
                 return
@@ -394,7 +403,8 @@ class Walk:
         return memory.word(place, it.displacement + 2) if is_far else state.cs, memory.word(place, it.displacement)
 
     def over_call(self, state, it, behind):
-        """Behind a call: what it leads to may take more from the stack than was pushed, as arguments, or CS that was pushed before."""
+        """Behind a call: what it leads to may take more from the stack than was pushed, as arguments, or CS that was
+        pushed before."""
         spelled = {0xE8: (state.cs, behind + it.operand & 0xFFFF), 0x9A: (it.operand >> 16, it.operand & 0xFFFF)}
         target = spelled[it.code] if it.code in spelled else self.target(state, it)
         pushed = 4 if it.code == 0x9A or (it.code == 0xFF and it.reg == 3) else 2

@@ -1,7 +1,9 @@
-"""Frames of 16-bit code for GDB, whose own are of 32 bits: an unwinder over what `mezguld_calls` finds, and the commands that go back past calls.
+"""Frames of 16-bit code for GDB, whose own are of 32 bits: an unwinder over what `mezguld_calls` finds, and the
+commands that go back past calls.
 
-`bt`, `up`, `finish`, `next`, `until`, `advance` and others of GDB's commands use the unwinder. `reverse-next`, `reverse-nexti` and `reverse-finish` are made anew:
-GDB's own go back to where a function's symbol is, but a program in assembly has symbols inside of procedures, and procedures without one.
+`bt`, `up`, `finish`, `next`, `until`, `advance` and others of GDB's commands use the unwinder. `reverse-next`,
+`reverse-nexti` and `reverse-finish` are made anew: GDB's own go back to where a function's symbol is, but a program
+in assembly has symbols inside of procedures, and procedures without one.
 """
 import sys
 
@@ -13,7 +15,8 @@ import mezguld_calls
 from gdb.FrameDecorator import FrameDecorator
 from gdb.unwinder import Unwinder, register_unwinder
 
-# The registers by which frames are found, in the order of `mezguld_calls`; the linear addresses among GDB's registers; and the others.
+# The registers by which frames are found, in the order of `mezguld_calls`; the linear addresses among GDB's registers;
+# and the others.
 SEEN = ("eax", "ecx", "edx", "ebx", "sp", "ebp", "esi", "edi", "es", "cs", "ss", "ds", "ip")
 CALCULATED, OTHERS = ("eip", "esp"), ("eflags", "fs", "gs", "steps")
 # The parts of registers that have names of their own.
@@ -21,7 +24,8 @@ PARTS = {
     **{it: (f"e{it}", 0, 2) for it in ("ax", "cx", "dx", "bx", "bp", "si", "di")},
     **{f"{it}{half}": (f"e{it}x", at, 1) for it in "acdb" for at, half in enumerate("lh")},
 }
-# What the outermost frame has as the place of its return address, past all memory; and how many frames there are at most.
+# What the outermost frame has as the place of its return address, past all memory; and how many frames there are at
+# most.
 OUTERMOST, FRAMES = 0x110000, 64
 
 
@@ -76,7 +80,8 @@ def flush():
 
 
 class FrameId:
-    """What GDB knows a frame by: the linear address of its return address, and where its code begins if the call spells that."""
+    """What GDB knows a frame by: the linear address of its return address, and where its code begins if the call
+    spells that."""
 
     def __init__(self, stack, code=0):
         self.sp, self.pc = gdb.Value(stack), gdb.Value(code)
@@ -121,7 +126,8 @@ def linear_of(segment, offset):
 
 
 def caller_of(registers, level=0):
-    """The call that led here, the registers behind it in the order of SEEN, and its flags if it pushed them; `None` for the outermost frame."""
+    """The call that led here, the registers behind it in the order of SEEN, and its flags if it pushed them; `None`
+    for the outermost frame."""
     if level >= FRAMES - 1:
         return None
     finder = mezguld_calls.Finder(mezguld_calls.Memory(reads))
@@ -197,7 +203,8 @@ def back_to(call, stack_segment):
 
 
 def step_back():
-    """Goes back a step, past all that a call did. Returns whether the program may go on: nothing has stopped it, as a breakpoint or the start."""
+    """Goes back a step, past all that a call did. Returns whether the program may go on: nothing has stopped it, as
+    a breakpoint or the start."""
     before = steps()
     if before == 0:
         gdb.execute("reverse-stepi", to_string=True)

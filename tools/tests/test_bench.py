@@ -1,4 +1,5 @@
-"""Tests of what bench/measure counts: each mnemonic has a row, each program assembles, and a turn of its loop has the steps that are reckoned."""
+"""Tests of what bench/measure counts: each mnemonic has a row, each program assembles, and a turn of its loop has
+the steps that are reckoned."""
 import os
 import re
 import subprocess

@@ -1,5 +1,6 @@
-"""Finds callers at many steps of random programs, and compares them with the calls that were made: procedures near and far and handlers of interrupts, which
-push registers, single bytes, counted words and what looks like a return address, and call each other in each way. It needs build/libmezguld.so."""
+"""Finds callers at many steps of random programs, and compares them with the calls that were made: procedures near
+and far and handlers of interrupts, which push registers, single bytes, counted words and what looks like a return
+address, and call each other in each way. It needs build/libmezguld.so."""
 import os
 import random
 import sys

@@ -1,4 +1,5 @@
-"""Tests of how share/gdb finds callers, over memories of a few bytes: the talks of tools/talks have those that a program can show."""
+"""Tests of how share/gdb finds callers, over memories of a few bytes: the talks of tools/talks have those that a
+program can show."""
 import os
 import random
 import sys
@@ -47,7 +48,8 @@ class Callers(unittest.TestCase):
         self.assertEqual((call.at, call.slot), ((CODE, 4), 0xFF02))
 
     def test_code_that_is_not_where_the_call_leads(self):
-        """call 5; jmp 0; 5: nop; ret; 7: nop; ret. The code at 7 is not reached from the call at 0, which nothing proves."""
+        """call 5; jmp 0; 5: nop; ret; 7: nop; ret. The code at 7 is not reached from the call at 0, which nothing
+        proves."""
         self.assertIsNone(found(bytes.fromhex("E80200 EBFB 90 C3 90 C3"), [3], 7))
 
     def test_base_pointer_and_locals(self):

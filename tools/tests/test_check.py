@@ -1,4 +1,5 @@
-"""Tests of docs/check: each planted difference between the pages and the tree is reported, in a copy of the repository with the program that is built."""
+"""Tests of docs/check: each planted difference between the pages and the tree is reported, in a copy of the
+repository with the program that is built."""
 import os
 import re
 import shutil
@@ -96,7 +97,8 @@ class Planted(unittest.TestCase):
         self.figures_are_compared(OF_TREE)
 
     def figures_are_compared(self, of):
-        """In place of the first figure of each sentence of a page, then of each second one, and so on, docs/check prints a fault of each sentence."""
+        """In place of the first figure of each sentence of a page, then of each second one, and so on, docs/check
+        prints a fault of each sentence."""
         for page, lists in figures.SENTENCES.items():
             with open(f"{self.copy}/{page}", encoding="utf-8") as file:
                 text = file.read()
@@ -129,7 +131,8 @@ class Planted(unittest.TestCase):
         return found
 
     def are_each_reported(self, page, text, planted, sentences):
-        """With `planted` in place of `text` on a page, docs/check says of each of the sentences that the page does not have it."""
+        """With `planted` in place of `text` on a page, docs/check says of each of the sentences that the page does
+        not have it."""
         with open(f"{self.copy}/{page}", "w", encoding="utf-8") as file:
             file.write(planted)
         found = checked(self.copy, "--unbuilt")

@@ -1,5 +1,5 @@
-"""Tests of tools/header.py: each planted difference between the exports, the header and the Python module is reported. From the top:
-`python3 -m unittest discover -s tools/tests`."""
+"""Tests of tools/header.py: each planted difference between the exports, the header and the Python module is
+reported. From the top: `python3 -m unittest discover -s tools/tests`."""
 import os
 import sys
 import unittest

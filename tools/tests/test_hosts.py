@@ -1,5 +1,5 @@
-"""Tests of the header from C: it compiles as C and C++, and programs over the built library run under the sanitizers for addresses and undefined behaviour.
-From the top: `python3 -m unittest discover -s tools/tests`."""
+"""Tests of the header from C: it compiles as C and C++, and programs over the built library run under the sanitizers
+for addresses and undefined behaviour. From the top: `python3 -m unittest discover -s tools/tests`."""
 import os
 import shutil
 import subprocess

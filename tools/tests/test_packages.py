@@ -1,5 +1,6 @@
-"""Tests of the modules behind the packages: each planted difference between versions, or between help and the manual, is reported, a list of an installation
-that is none is refused, and each link of an installed page leads to an installed one. From the top: `python3 -m unittest discover -s tools/tests`."""
+"""Tests of the modules behind the packages: each planted difference between versions, or between help and the
+manual, is reported, a list of an installation that is none is refused, and each link of an installed page leads to
+an installed one. From the top: `python3 -m unittest discover -s tools/tests`."""
 import contextlib
 import importlib.machinery
 import importlib.util
@@ -109,7 +110,8 @@ def dead_links(installed):
 
 
 def faults_of_help(text):
-    """The faults where `dm run --help` prints a text, and `dm debug --help` and `dm check --help` the same with one option more, or two."""
+    """The faults where `dm run --help` prints a text, and `dm debug --help` and `dm check --help` the same with one
+    option more, or two."""
     texts = {
         (): TOP,
         ("run",): text,

@@ -1,4 +1,5 @@
-"""Tests of tools/peers that need no other machine: the table of entries, and files of vectors. From the top: `python3 -m unittest discover -s tools/tests`."""
+"""Tests of tools/peers that need no other machine: the table of entries, and files of vectors. From the top:
+`python3 -m unittest discover -s tools/tests`."""
 import gzip
 import json
 import os
@@ -15,7 +16,8 @@ import peer_vectors  # noqa: E402
 
 class Table(unittest.TestCase):
     def test_each_entry_is_there_once(self):
-        # 256 first bytes, less 4 segment prefixes, LOCK, REPNE and REP, less 0Fh, 16 of 60h, 8 of C0h, C1h, C8h, C9h, D6h, F1h, less POP CS (0Fh).
+        # 256 first bytes, less 4 segment prefixes, LOCK, REPNE and REP, less 0Fh, 16 of 60h, 8 of C0h, C1h, C8h, C9h,
+        # D6h, F1h, less POP CS (0Fh).
         self.assertEqual(len({entry.first for entry in opcodes.ENTRIES}), 256 - 4 - 3 - 1 - 16 - 6)
         self.assertEqual(len({(entry.first, entry.reg) for entry in opcodes.ENTRIES}), len(opcodes.ENTRIES))
 

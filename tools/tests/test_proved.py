@@ -1,5 +1,5 @@
-"""Tests of `proved`: each name of docs/proved.md that its row's crate does not have is reported, and each such file of docs/architecture.md. From the top:
-`python3 -m unittest discover -s tools/tests`."""
+"""Tests of `proved`: each name of docs/proved.md that its row's crate does not have is reported, and each such file
+of docs/architecture.md. From the top: `python3 -m unittest discover -s tools/tests`."""
 import os
 import sys
 import unittest
