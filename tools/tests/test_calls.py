@@ -103,9 +103,9 @@ class Callers(unittest.TestCase):
         for _ in range(16):
             memory = source.choice((source.randbytes(0x110000), source.randbytes(0x1100) * 256, bytes(source.choices(bytes.fromhex("E8FFC3CB50585D55CD9A74EB00"), k=0x110000))))
             finder = mezguld_calls.Finder(mezguld_calls.Memory(lambda address, count: memory[address : min(address + count, 0x10FFF0)]))
-            began = time.monotonic()
+            began = time.process_time()
             finder.caller(tuple(source.choice((0, 0xFFFF, source.randrange(0x10000))) for _ in range(13)), source.random() < 0.5)
-            self.assertLess(time.monotonic() - began, SECONDS)
+            self.assertLess(time.process_time() - began, SECONDS)
 
     def test_bytes_that_are_cut(self):
         for first in range(256):
