@@ -16,7 +16,7 @@ static void must(const char *what, mezguld_status status)
     }
 }
 
-/* The bytes of a file of at most 65,278 bytes. */
+/* The first bytes of a file. */
 static size_t read_file(const char *path, uint8_t *buffer, size_t room)
 {
     FILE *file = fopen(path, "rb");
@@ -25,6 +25,10 @@ static size_t read_file(const char *path, uint8_t *buffer, size_t room)
         exit(1);
     }
     size_t count = fread(buffer, 1, room, file);
+    if (ferror(file)) {
+        perror(path);
+        exit(1);
+    }
     fclose(file);
     return count;
 }
@@ -46,7 +50,8 @@ static void print_answer(mezguld *machine, const char *line)
 
 int main(int argc, char **argv)
 {
-    static uint8_t program[65278];
+    /* One byte more than a COM file has: of a longer one mezguld_load says that it is none. */
+    static uint8_t program[65279];
     if (argc != 2) {
         fprintf(stderr, "usage: blocks_every_1000 FILE.COM\n");
         return 2;

@@ -8,7 +8,8 @@
 
 #include "mezguld.h"
 
-static uint8_t program[65278];
+/* One byte more than a COM file has: of a longer one mezguld_load says that it is none. */
+static uint8_t program[65279];
 static size_t program_count;
 
 int LLVMFuzzerInitialize(int *argc, char ***argv)
@@ -22,6 +23,10 @@ int LLVMFuzzerInitialize(int *argc, char ***argv)
         exit(1);
     }
     program_count = fread(program, 1, sizeof program, file);
+    if (ferror(file)) {
+        perror(path);
+        exit(1);
+    }
     fclose(file);
     return 0;
 }
