@@ -45,14 +45,19 @@ def write_file(folder, name, data):
 
 
 def play_all(call, cases, jobs=None):
-    """Calls each case, as many at a time as there are processors. Yields each difference with its case."""
+    """Calls each case, as many at a time as there are processors. Yields each difference with its case. What has not
+    begun when Ctrl-C comes is left out."""
     with concurrent.futures.ThreadPoolExecutor(jobs or os.cpu_count()) as pool:
         played = {pool.submit(call, case): case for case in cases}
-        for one in concurrent.futures.as_completed(played):
-            try:
-                one.result()
-            except (Differs, OSError) as error:
-                yield f"{played[one]}: {error}"
+        try:
+            for one in concurrent.futures.as_completed(played):
+                try:
+                    one.result()
+                except (Differs, OSError) as error:
+                    yield f"{played[one]}: {error}"
+        except BaseException:
+            pool.shutdown(wait=False, cancel_futures=True)
+            raise
 
 
 def tell(title, count, differing):
