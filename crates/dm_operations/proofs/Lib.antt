@@ -6,3 +6,6 @@ mod Addresses
 pub mod Turns
 pub mod Digits
 mod Lowered
+mod Rights
+mod Remainders
+mod Passed

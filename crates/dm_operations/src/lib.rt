@@ -26,7 +26,8 @@ pub use pairs::{
 };
 pub use shifts::{
     ArithmeticShift, LeftRotation, LeftRotationThroughCarry, LeftShift, RightRotation,
-    RightRotationThroughCarry, RightShift, ShiftOrRotate, shift_left_once, shift_right_once,
+    RightRotationThroughCarry, RightShift, ShiftOrRotate, shift_left_once, shift_low_byte_once,
+    shift_low_word_once, shift_right_once,
 };
 pub use stack::{
     InterruptOperation, StackOperation, act_on_interrupt, interrupt, interrupt_low, pop_flags,
