@@ -8,7 +8,7 @@ use Rattle.dm_blocks.specs.Chain.{IsHeader, signature, Spells, HasHeader, IsNonE
 use Rattle.dm_blocks.specs.Reading.{is_nil}
 use Rattle.dm_arena.specs.inner.Walks.{IsHeaderWritten, IsJoiningAll, IsJoinedFront, IsJoined}
 use Rattle.dm_arena.specs.Blocks.{join}
-use Rattle.dm_blocks.proofs.Chains.{Agrees, spells_kept, spells_replace, spells_above, spells_below, has_left, has_right, has_either, clear_within, clear_map, mark-signature}
+use Rattle.dm_blocks.proofs.Chains.{Agrees, spells_kept, spells_replace, spells_above, spells_below, has_left, has_right, has_either, clear_within, clear_map, last-signature}
 use Rattle.dm_arena.proofs.Written.{agrees_written}
 
 append-nil : (P : List Header) → P ++ [] ≡ P
@@ -31,7 +31,7 @@ module _ (up : Bool) where
       let low : Agrees T U done = agrees_written T U b _ M done x clear wb (λ g w. has_left done (c ∷ K) g w) (λ g w e'. (let y = spells_below T start done c K j.spells g w in omega arith)) in
       let high : Agrees T U N = agrees_written T U b _ M N x clear wb (λ g w. has_right done (c ∷ K) g (f.within g w)) (λ g w e'. (let y = spells_above T _ N f.rest g w in omega arith)) in
       let rest : Spells U (next b) N = spells_kept T U _ N high f.rest in
-      let y : IsHeader U b (signature N) = rw (← mark-signature e.last N f.last) (x.written (clear.writable _ wb)) in
+      let y : IsHeader U b (signature N) = rw (← last-signature e.last N f.last) (x.written (clear.writable _ wb)) in
       let bN : List Header = b ∷ N in
       let spelled : Spells U start (done ++ bN) = spells_replace T U start done c b K N j.spells low (sym cb) (refl, y, rest) in
       let assoc : (Z : List Header) → (done ++ b ∷ []) ++ Z ≡ done ++ b ∷ Z = λ Z. append_assoc done (b ∷ []) Z in

@@ -5,7 +5,7 @@ use Rattle.dm_space.proofs.Places.{place-shaped, shaped-then}
 use Rattle.dm_blocks.specs.declared.header.Header.{Header}
 use Rattle.dm_blocks.specs.Chain.{IsHeader, signature, Spells, HasHeader, next, IsClear, signature_byte}
 use Rattle.dm_arena.specs.inner.Walks.{IsHeaderWritten, Fills, IsReplaceable, IsReplaced}
-use Rattle.dm_blocks.proofs.Chains.{Agrees, spells_kept, spells_replace, spells_above, spells_below, spells_end, header_kept, has_left, has_right, clear_map, mark-signature}
+use Rattle.dm_blocks.proofs.Chains.{Agrees, spells_kept, spells_replace, spells_above, spells_below, spells_end, header_kept, has_left, has_right, clear_map, last-signature}
 use Rattle.dm_arena.proofs.Written.{agrees_written, byte_kept}
 
 -- what comes after blocks that fill h to t is spelled from t on
@@ -26,7 +26,7 @@ replaced_one S T start P (b ∷ B) Q h t c last r x =
     let end : next c ≡ t = r.new_fills.1 in
     let low : Agrees S T P = agrees_written S T c _ M P x r.clear wc (λ g w. has_left P (c ∷ Q) g w) (λ g w e. (let y = spells_below S start P b (B ++ Q) s g w in omega arith)) in
     let high : Agrees S T Q = agrees_written S T c _ M Q x r.clear wc (λ g w. has_right P (c ∷ Q) g (inr w)) (λ g w e. (let y = spells_above S t Q after g w in omega arith)) in
-    let y : IsHeader T c (signature Q) = rw (← mark-signature last Q r.end) (x.written (r.clear.writable _ wc)) in
+    let y : IsHeader T c (signature Q) = rw (← last-signature last Q r.end) (x.written (r.clear.writable _ wc)) in
     let rest : Spells T (next c) Q = (let F : ℕ → Type 0 = λ z. Spells T z Q in subst F (sym end) (spells_kept S T t Q high after)) in
     record {
       spells = spells_replace S T start P b c (B ++ Q) Q s low cb (refl, y, rest);
@@ -55,7 +55,7 @@ replaced_two S U T start P (b ∷ B) Q h t c d last r x z =
     let high1 : Agrees S U Q = agrees_written S U d _ M Q x r.clear wd inQ (λ g w e. (let y = above g w in omega arith)) in
     let low2 : Agrees U T P = agrees_written U T c _ M P z clear' wc inP (λ g w e. (let y = below g w in omega arith)) in
     let high2 : Agrees U T Q = agrees_written U T c _ M Q z clear' wc inQ (λ g w e. (let y = above g w in omega arith)) in
-    let yd : IsHeader U d (signature Q) = rw (← mark-signature last Q r.end) (x.written (r.clear.writable _ wd)) in
+    let yd : IsHeader U d (signature Q) = rw (← last-signature last Q r.end) (x.written (r.clear.writable _ wd)) in
     let yd' : IsHeader T d (signature Q) = header_kept U T d _ (byte_kept U T c _ M z clear' wc d.segment wd (λ e. omega arith)) yd in
     let yc : IsHeader T c 0x4D = z.written (clear'.writable _ wc) in
     let rest : Spells T (next d) Q = (let F : ℕ → Type 0 = λ v. Spells T v Q in subst F (sym end) (spells_kept U T t Q high2 (spells_kept S U t Q high1 after))) in
