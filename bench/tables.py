@@ -28,7 +28,7 @@ OTHERS = {
     "changing run": ("a step of a loop of five instructions, of which one changes another in each turn", "`dm run`", "{:,.0f}"),
     "changing check": ("the same", "`dm check`", "{:,.0f}"),
     "writing check": ("function 02h of INT 21h (a byte written), with its INT", "`dm check`", "{:,.0f}"),
-    "arranging check": ("functions 48h and 49h of INT 21h with ten headers, both with their INTs", "`dm check`", "{:,.0f}"),
+    "arranging check": ("functions 48h and 49h of INT 21h with ten headers, both with their INTs", "`dm check`, which makes its marks anew: each of some 240,000 bytes that are set counts", "{:,.0f}"),
     "memory": ("memory at the start", "a machine of 512 pages and 15,360 KiB against one of none", "{:.1f} a byte"),
     "pages": ("a page that is allocated and freed", "`pages.asm`: functions 43h and 45h of INT 67h with one page, while 510 others are allocated, zeros included", "{:,.0f} for both"),
     "moves": ("a move between conventional memory and pages", "`moves.asm`: function 57h with 64 KiB from conventional memory to pages, and back", "{:.1f} a byte"),
