@@ -101,7 +101,7 @@ def programs_table(found):
 
 
 def instructions_table(found):
-    yield "| Mnemonic | Host instructions a step | The dearest |"
+    yield "| Mnemonic | Host instructions a step | Most expensive |"
     yield "|---|---|---|"
     rows = {}
     for mnemonic, kind, figure in single(found):
@@ -121,7 +121,7 @@ JUMPS = ("J", "CALL", "LOOP")
 
 
 def kinds_table(found):
-    yield "| Destination | Least | Most | The dearest |"
+    yield "| Destination | Least | Most | Most expensive |"
     yield "|---|---|---|---|"
     rows = single(found)
     for what, pattern in KINDS:
@@ -132,7 +132,7 @@ def kinds_table(found):
 
 
 def worst_table(found):
-    yield "| The dearest | Host instructions a step |"
+    yield "| Most expensive | Host instructions a step |"
     yield "|---|---|"
     for name, kind, figure in sorted(single(found), key=lambda it: -it[2])[:12]:
         yield f"| `{name}{' ' if kind else ''}{kind}` | {whole(figure)} |"

@@ -39,8 +39,8 @@
 #include <stddef.h>
 #include <stdint.h>
 
-/* The version, which `dm --version` and mezguld_version tell too; the number is 10000 * major + 100 * minor + patch. A
- * library with another first number has other functions. */
+/* The version, which `dm --version` and mezguld_version report too; the number is 10000 * major + 100 * minor + patch.
+ * A library with another first number has other functions. */
 #define MEZGULD_VERSION "2.0.0"
 #define MEZGULD_VERSION_MAJOR 2
 #define MEZGULD_VERSION_MINOR 0
@@ -341,19 +341,19 @@ MEZGULD_CALL mezguld_status mezguld_load(mezguld *machine, const char *name, siz
 MEZGULD_CALL mezguld_status mezguld_run(mezguld *machine, uint64_t steps, mezguld_stopped *stopped);
 
 /* Makes at most so many steps, but none after the first that leads to one of these breakpoints: then the stop is
- * BREAKPOINT, and CS:IP is the breakpoint. Where the run begins is no breakpoint to it, so that the next run goes
- * on. To stop at each call of an interrupt n, before it acts, give where its vector leads as a breakpoint: the word
- * at 0:4n is the offset, the word at 0:4n+2 the segment (0:0084h for INT 21h, with the function in AH).
+ * BREAKPOINT, and CS:IP is the breakpoint. A breakpoint where the run begins does not stop it, so that the next run
+ * goes on. To stop at each call of an interrupt n, before it acts, give where its vector leads as a breakpoint: the
+ * word at 0:4n is the offset, the word at 0:4n+2 the segment (0:0084h for INT 21h, with the function in AH).
  * NO_MACHINE, OUT_OF_MEMORY, NOT_LOADED. */
 MEZGULD_CALL mezguld_status mezguld_run_until(mezguld *machine, uint64_t steps, const mezguld_point *points,
                                               size_t points_count, mezguld_stopped *stopped);
 
 /* Makes at most so many steps, but none after the first that leads to one of these events: then the stop is EVENT,
  * and the index in the list, from 0, of the first event that came is written into `*place`, which stays otherwise.
- * Where the run begins is no event to it, so that the next run goes on; bytes are compared with those at its
- * beginning. An INT with a prefix before it, INT 3 (CCh), INTO and a jump to where a vector leads are no calls to
- * it: MEZGULD_AT_ADDRESS sees where they lead. Steps are as fast as with breakpoints, but for those that touch the
- * 16-byte paragraphs of a range or of a vector that is called; with a range that reaches past BFFFFh each step is
+ * An event where the run begins does not stop it, so that the next run goes on; bytes are compared with those at its
+ * beginning. An INT with a prefix before it, INT 3 (CCh), INTO and a jump to where a vector leads do not count as
+ * calls: MEZGULD_AT_ADDRESS sees where they lead. Steps are as fast as with breakpoints, but for those that touch the
+ * 16-byte paragraphs of a range or of a vector that is called; with a range that reaches beyond BFFFFh each step is
  * looked at, and all bytes of the ranges are compared.
  * NO_MACHINE, BAD_EVENT, OUT_OF_MEMORY, NOT_LOADED. */
 MEZGULD_CALL mezguld_status mezguld_run_to(mezguld *machine, uint64_t steps, const mezguld_event *events,
@@ -450,7 +450,7 @@ MEZGULD_CALL mezguld_status mezguld_output_count(const mezguld *machine, size_t 
 /* Opens the console's input: more of it may come, by mezguld_supply. From then on a run stops with INPUT_ENDED
  * before each call of DOS that wants input which is not there (functions 01h, 07h, 08h and 3Fh: a byte; 0Ah: a line,
  * up to 0Dh), and nothing of the call is done; after more was supplied, the next run makes the call. Polls (06h,
- * 0Bh) tell what is there, and never stop. NO_MACHINE, NOT_LOADED. */
+ * 0Bh) report what is there, and never stop. NO_MACHINE, NOT_LOADED. */
 MEZGULD_CALL mezguld_status mezguld_open_input(mezguld *machine);
 
 /* Closes the console's input: no more of it comes after what is left. From then on function 3Fh with no input left

@@ -77,13 +77,13 @@ def program(path):
     if not os.path.exists(named(path)):
         raise argparse.ArgumentTypeError(f"there is no file {path}")
     if os.path.isdir(path) or not os.access(path, os.X_OK):
-        raise argparse.ArgumentTypeError(f"{path} is no program")
+        raise argparse.ArgumentTypeError(f"{path} is not a program")
     whole = os.path.abspath(path)
     try:
         with contextlib.suppress(subprocess.TimeoutExpired):
             subprocess.run([whole, "--version"], stdin=subprocess.DEVNULL, capture_output=True, timeout=SECONDS, check=False)
     except OSError as error:
-        raise argparse.ArgumentTypeError(f"{path} is no program: {error.strerror}") from error
+        raise argparse.ArgumentTypeError(f"{path} is not a program: {error.strerror}") from error
     return whole
 
 
@@ -114,7 +114,7 @@ def new_folder(path):
     """The path of a folder, or of one that is to be made, as an argument."""
     whole = os.path.abspath(named(path))
     if os.path.lexists(whole) and not os.path.isdir(whole):
-        raise argparse.ArgumentTypeError(f"{path} is no folder")
+        raise argparse.ArgumentTypeError(f"{path} is not a folder")
     above = whole if os.path.isdir(whole) else os.path.dirname(whole)
     if not os.path.isdir(above):
         raise argparse.ArgumentTypeError(f"there is no folder {above}")
@@ -126,19 +126,19 @@ def new_folder(path):
 def positive(text):
     """A number from 1 on, as an argument."""
     if not re.fullmatch(r"[1-9]\d{0,5}", text):
-        raise argparse.ArgumentTypeError(f"{text} is no number from 1 on")
+        raise argparse.ArgumentTypeError(f"{text} is not a number from 1 up")
     return int(text)
 
 
 def natural(text):
     """A number from 0 on, as an argument."""
     if not re.fullmatch(r"\d{1,12}", text):
-        raise argparse.ArgumentTypeError(f"{text} is no number from 0 on")
+        raise argparse.ArgumentTypeError(f"{text} is not a number from 0 up")
     return int(text)
 
 
 def minutes(text):
     """A time in minutes, as an argument."""
     if not re.fullmatch(r"\d{1,6}(?:\.\d{1,3})?", text):
-        raise argparse.ArgumentTypeError(f"{text} is no number of minutes")
+        raise argparse.ArgumentTypeError(f"{text} is not a number of minutes")
     return float(text)

@@ -39,7 +39,7 @@ class Page:
         yield f"| all public functions | {self.size(self.reached)} |"
         yield f"| the machine and its laws (`dm_machine`) | {self.size(self.specs.reached(self.specs.promised('dm_machine')))} |"
         yield f"| `dm_main` | {self.size(self.specs.reached([key for it in self.specs.public('dm_cli') if it.name == 'dm_main' for key in it.refs]))} |"
-        yield f"| the library for hosts | {self.size(self.specs.reached(self.specs.promised('dm_c')))} |"
+        yield f"| the library | {self.size(self.specs.reached(self.specs.promised('dm_c')))} |"
         yield ""
         yield "Of the definitions that all public functions reach, by crate:"
         yield ""

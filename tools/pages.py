@@ -194,8 +194,11 @@ def types(text):
 
 
 def add_paragraphs(page, text):
-    """Paragraphs and items of a comment."""
+    """Paragraphs, items and lines of code of a comment."""
     for part in re.split(r"\n\n+", text):
+        if all(line.startswith("    ") for line in part.split("\n")):
+            page.as_is([line[4:] for line in part.split("\n")])
+            continue
         first, *items = re.split(r"^ *- ", part, flags=re.M)
         if first.strip():
             page.text(marked(first))

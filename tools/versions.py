@@ -1,7 +1,7 @@
 """The version of Mezguld, and each place that states it: docs/check compares them, and packages take theirs from here.
 
 `dm --version` prints the constant `VERSION` of crates/dm_options. include/mezguld.h, python/mezguld and the top of
-CHANGELOG.md, a release with its date, must have the same, as have the names of packages in README.md;
+CHANGELOG.md, a release with its date, must have the same, as have the names of packages in README.md and a row;
 include/mezguld.h and the export `mezguld_version` of crates/dm_c have it as one number, too. Pages of manuals,
 packages and file names are made from it.
 """
@@ -14,6 +14,7 @@ ROOT = os.path.dirname(os.path.dirname(os.path.realpath(__file__)))
 # Where the version stands, each with the pattern of the line.
 CONSTANT = ("crates/dm_options/src/arguments.rt", r'^const VERSION: &str = "([^"]*)";$')
 PLACES = (CONSTANT, ("include/mezguld.h", r'^#define MEZGULD_VERSION "([^"]*)"$'), ("python/mezguld/__init__.py", r'^__version__ = "([^"]*)"$'))
+PLACES += (("rows/texts/wrong_lines.row", r"^    dm (\d+\.\d+\.\d+)$"),)
 NUMBERS = ("MAJOR", "MINOR", "PATCH")
 # The version as one number, in the library and in its header.
 LIBRARY = (("crates/dm_c/src/exports.rt", r"^const VERSION: u32 = ([\d_]+);$"), ("include/mezguld.h", r"^#define MEZGULD_VERSION_NUMBER (\d+)$"))

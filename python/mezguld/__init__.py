@@ -577,7 +577,7 @@ def _variable(variable: str | bytes) -> bytes:
     """A variable with the zero after it."""
     text = _name(variable)
     if not text or 0 in text:
-        raise ValueError(f"{variable!r} is no variable: it is empty, or has a zero byte")
+        raise ValueError(f"{variable!r} is not a variable: it is empty, or has a zero byte")
     return text + b"\0"
 
 
@@ -707,7 +707,7 @@ class Machine:
     """A machine: programs are added, one of them is loaded and run, and what the machine holds is read and changed.
 
     After `add` and `load` it runs by `run`, or up to breakpoints by `run_until`, as often as you like. Between two
-    runs `registers`, `read`, `output`, `blocks` and others tell its state; `registers` can be set, `write` changes
+    runs `registers`, `read`, `output`, `blocks` and others report its state; `registers` can be set, `write` changes
     memory, and `supply` adds input where `load(.., more=True)` has left it open. `copy.copy(machine)` is a snapshot.
     `check` runs under the memory checker, and `command` does what a line of the debugger says.
 
@@ -851,7 +851,7 @@ class Machine:
     def open_input(self) -> None:
         """Opens the console's input: more may come by `supply`. From then on a run stops with `Stop.INPUT_ENDED`
         before each call of DOS that wants input which is not there (functions 01h, 07h, 08h and 3Fh: a byte; 0Ah: a
-        line, up to 0Dh); after more was supplied, the next run makes the call. Polls (06h, 0Bh) tell what is there,
+        line, up to 0Dh); after more was supplied, the next run makes the call. Polls (06h, 0Bh) report what is there,
         and never stop. `NotLoaded`."""
         self._call(_library.mezguld_open_input)
 
@@ -880,7 +880,7 @@ class Machine:
 
     def run_until(self, steps: int, breakpoints: Iterable[tuple[int, int]]) -> Stopped:
         """Makes at most so many steps, and stops with `Stop.BREAKPOINT` after the first that leads to one of the
-        breakpoints, exact pairs of CS and IP. Where the run begins is no breakpoint to it. `NotLoaded`;
+        breakpoints, exact pairs of CS and IP. One where the run begins does not stop it. `NotLoaded`;
         `OutOfMemory`, after which some of the steps may be made. Ctrl-C is as in `run`.
 
         To stop at each call of an interrupt, before it acts, give where its vector leads: `machine.run_until(steps,
@@ -889,10 +889,10 @@ class Machine:
 
     def run_to(self, steps: int, events: Iterable[Event]) -> Ended:
         """Makes at most so many steps, and stops with `Stop.EVENT` after the first that leads to one of the events,
-        as in `machine.run_to(steps, [Event.at_call(0x21), Event.at_change(0xB8000, 4000)])`. Where the run begins is
-        no event to it, so that the next run goes on; bytes are compared with those at its beginning. Steps are as
+        as in `machine.run_to(steps, [Event.at_call(0x21), Event.at_change(0xB8000, 4000)])`. One where the run begins
+        does not stop it, so that the next run goes on; bytes are compared with those at its beginning. Steps are as
         fast as with breakpoints, but for those that touch the paragraphs of a range or of a vector that is called;
-        with a range past BFFFFh each step is looked at. `NotLoaded`; `OutOfMemory`, after which some of the steps
+        with a range beyond BFFFFh each step is looked at. `NotLoaded`; `OutOfMemory`, after which some of the steps
         may be made. Ctrl-C is as in `run`."""
         if isinstance(events, Event):
             raise TypeError("events are a list, as [Event.at_call(0x21)]")

@@ -36,7 +36,7 @@ class Parser(argparse.ArgumentParser):
 def number(text: str) -> int:
     """A number of the command line, decimal, below 2**64."""
     if not re.fullmatch(r"\+?[0-9]{1,20}", text) or int(text) >= 2**64:
-        raise argparse.ArgumentTypeError(f"{text!r} is no number from 0 to 2^64 - 1")
+        raise argparse.ArgumentTypeError(f"{text!r} is not a number from 0 to 2^64 - 1")
     return int(text)
 
 

@@ -1,4 +1,4 @@
-"""What calls tell of memory and of a checked run: data classes, none of which changes. `mezguld` has all of them by
+"""What calls return of memory and of a checked run: data classes, none of which changes. `mezguld` has all of them by
 their names.
 
 This module is loaded with the first call that wants one of them, since data classes take longer to make than all

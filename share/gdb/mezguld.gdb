@@ -30,7 +30,7 @@ define dm over
   continue
 end
 document dm over
-Goes past the CALL, INT, REP or LOOP at CS:IP, to the instruction behind it.
+Steps over the CALL, INT, REP or LOOP at CS:IP, to the instruction after it.
 end
 
 define dm break
@@ -54,7 +54,7 @@ define dm go
   frame
 end
 document dm go
-dm go N: goes to the state after N steps from the start, N in hexadecimal, forwards or back, past all breakpoints.
+dm go N: goes to the state after N steps from the start, forwards or back, without stopping at breakpoints; N in hexadecimal.
 end
 
 define dm check
@@ -64,7 +64,7 @@ define dm check
   frame
 end
 document dm check
-Goes to the next step in which the checker finds something, and prints that, past all breakpoints.
+Goes to the next step in which the checker finds something, without stopping at breakpoints, and prints that.
 end
 
 define dm blocks

@@ -129,7 +129,7 @@ class Given(gdb.Command):
 
 def connect(*words):
     """dm connect [OPTIONS] FILES: starts dm gdb with these words and connects to it.
-    The environment variable DM names another program than dm."""
+    The environment variable DM names the program that is started in place of dm."""
     try:
         gdb.execute(f"target extended-remote | {program()} gdb {' '.join(shlex.quote(it) for it in words)}", to_string=True)
     except gdb.error as error:
@@ -159,7 +159,7 @@ def check():
 
 
 def over():
-    """dm over: goes past the instruction at CS:IP and all that it calls or repeats."""
+    """dm over: steps over the instruction at CS:IP, with all that it calls or repeats."""
     name, behind = instruction()
     if name in GOES_OVER:
         go_past(behind)
@@ -183,8 +183,8 @@ def out():
 
 
 def go(number):
-    """dm go N: goes to the state after N steps from the start, N in hexadecimal, forwards or back, past all
-    breakpoints."""
+    """dm go N: goes to the state after N steps from the start, forwards or back; N in hexadecimal.
+    It does not stop at breakpoints."""
     print(monitor(f"step {number}"), end="")
     flush()
     show()
@@ -196,8 +196,8 @@ def stop_at(address, *condition):
 
 
 def watch(address, count="1", *condition):
-    """dm watch SEGMENT:OFFSET [COUNT] [if CONDITION]: stops where one of COUNT bytes is written, a byte without it;
-    COUNT in hexadecimal."""
+    """dm watch SEGMENT:OFFSET [COUNT] [if CONDITION]: stops after a write to one of COUNT bytes, in hexadecimal.
+    Without COUNT it is one byte."""
     if count == "if":
         count, condition = "1", (count, *condition)
     if word(count) == 0:
@@ -207,8 +207,8 @@ def watch(address, count="1", *condition):
 
 
 def stop_at_interrupt(number, function=""):
-    """dm int NN [AH]: sets a breakpoint where interrupt NN leads now, for function AH alone if it is given; both in
-    hexadecimal."""
+    """dm int NN [AH]: sets a breakpoint where interrupt NN leads now, for function AH alone if it is given.
+    Both numbers are hexadecimal."""
     offset, segment = struct.unpack("<HH", memory(4 * word(number), 4))
     gdb.execute(f"break *{segment * 16 + offset:#x}" + (f" if ($ax >> 8 & 0xff) == {word(function):#x}" if function else ""))
 

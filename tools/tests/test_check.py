@@ -33,6 +33,10 @@ PLANTED = (
     ("docs/names.md", "| `total` | how many there are in all: bytes of statements, pages |\n", "", "does not have `total`"),
     ("docs/manual.md", "| `--ems` | pages of 16 KiB | 64 |", "| `--ems` | pages of 16 KiB | 65 |", "the default of --ems is 65, and 64"),
     ("docs/proved.md", "`put_not_listed`", "`put_told`, `put_pages`", "dm_reports has no public `put_pages`"),
+    ("docs/manual.md", "| 51h, 62h | gets", "| 51h | gets", "the table of INT 21h lacks one of"),
+    ("docs/manual.md", "| `tail too long` |", "| `tail is too long` |", "no table under Faults has `tail too long`"),
+    ("docs/manual.md", "| `tail_written` |", "| `tail_wrote` |", "no table under A report in JSON has `tail_written`"),
+    ("docs/recipes.md", "        parts.cpu.bx = 0;\n", "        parts.cpu.bx = 1;\n", "no file of a crate has the code"),
 )
 # The same, of what stands in the kit's files.
 OF_KIT = (

@@ -1,6 +1,7 @@
 -- What `dm asm` and `dm disasm` write, by what the file that they read holds. `known` is what that file holds, where it
 -- is known.
-use Rattle.std.specs.Prelude.{ℕ, ◌≡◌, ◌<◌, ◌≤◌, ◌⊎◌, List, Option, Some, None, length}
+use Rattle.std.specs.Prelude.{ℕ, ◌≡◌, ◌<◌, ◌≤◌, ◌⊎◌, List, Option, Some, None, false, length, true}
+use Rattle.std.specs.Str.{bytes_eq}
 use Rattle.std.specs.Io.KnownBytes.{Appends, Keeps}
 use Rattle.dm_asm.specs.declared.refusal.AssemblyRefusal.{AssemblyRefusal}
 use Rattle.dm_asm.specs.Programs.{Refuses}
@@ -33,13 +34,16 @@ pub data IsAsmFault (known : Option (List ℕ)) (path : List ℕ) : Fault → Ty
   text_refused : (text : List ℕ) (why : AssemblyRefusal) → IsRead known text → Refuses text why → IsAsmFault known path (refusal_fault why)
   text_no_memory : IsAsmFault known path OutOfMemory
 
--- `dm asm`: the bytes of the text are written to a file; or that failed, and the count of failed saves is one higher;
--- or a fault came before. `before` and `after` are the files written, which change in the first case alone
+-- `dm asm`: the bytes of the text are written to a file; or that failed, and the count of failed saves is one higher; or
+-- the file is the one of the text, by the same path, which is not written over; or a fault came before. `before` and
+-- `after` are the files written, which change in the first case alone
 pub data AssemblesFile (files : List ℕ → Option (List ℕ)) (o : AsmOptions) (before after : Option (List (List ℕ × List ℕ))) (failed_before failed_after : ℕ) : Option Fault → Type 0 where
-  saved : (bytes : List ℕ) → IsAssembled (files o.input.now) bytes → Saves before after o.output.now bytes → failed_after ≡ failed_before
+  saved : (bytes : List ℕ) → IsAssembled (files o.input.now) bytes → bytes_eq o.output.now o.input.now ≡ false → Saves before after o.output.now bytes → failed_after ≡ failed_before
       → AssemblesFile files o before after failed_before failed_after None
-  unsaved : (bytes : List ℕ) (fault : Fault) → IsAssembled (files o.input.now) bytes → IsUnwritten o.output.now fault ⊎ (fault ≡ OutOfMemory)
+  unsaved : (bytes : List ℕ) (fault : Fault) → IsAssembled (files o.input.now) bytes → bytes_eq o.output.now o.input.now ≡ false → IsUnwritten o.output.now fault ⊎ (fault ≡ OutOfMemory)
       → HasFailed failed_before failed_after → after ≡ before → AssemblesFile files o before after failed_before failed_after (Some fault)
+  not_over_its_text : (bytes : List ℕ) (fault : Fault) → IsAssembled (files o.input.now) bytes → bytes_eq o.output.now o.input.now ≡ true → IsUnwritten o.output.now fault
+      → after ≡ before → failed_after ≡ failed_before → AssemblesFile files o before after failed_before failed_after (Some fault)
   not_assembled : (fault : Fault) → IsAsmFault (files o.input.now) o.input.now fault → after ≡ before → failed_after ≡ failed_before
       → AssemblesFile files o before after failed_before failed_after (Some fault)
 

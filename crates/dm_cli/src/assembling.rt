@@ -55,7 +55,7 @@ fn disassembled<'a, F: Storage>(
 }
 
 /// `dm asm`: assembles the file `IN` and writes the bytes to the file `OUT`. If `IN` cannot be read or assembled, no
-/// file is written. If the write fails, what `OUT` then holds is not known.
+/// file is written, nor over `IN` itself, by the same path. If the write fails, what `OUT` then holds is not known.
 pub(crate) fn asm<'a, F: Storage>(
     alloc: Global,
     storage: &mut F,
@@ -65,6 +65,9 @@ pub(crate) fn asm<'a, F: Storage>(
     ensures reads { ReadsFiles (F.unread storage.old) (F.unread storage.new) (end_of result) }
 {
     let bytes = assembled(alloc, storage, options.input)?;
+    if options.output == options.input {
+        return Err(Fault::CannotWrite(options.output));
+    }
     match storage.save(options.output, bytes.as_slice()) {
         Ok(()) => Ok(()),
         Err(error) => Err(write_fault(&error, options.output)),

@@ -4,6 +4,7 @@
 mod control;
 mod each;
 mod effect;
+mod element;
 mod far;
 mod jumps;
 mod laws;

@@ -5,7 +5,7 @@ ghost use Rattle.dm_alu.specs.Flags.{after_result};
 ghost use Rattle.dm_operations.specs.Adjustments.{adjusted};
 ghost use Rattle.dm_operations.specs.inner.Digits.{digits_off};
 
-use crate::shifts::top_bit;
+use crate::bits::top_bit;
 use dm_alu::{Adjustment, Flags, adjust};
 use dm_cpu::Registers;
 

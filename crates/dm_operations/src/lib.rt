@@ -4,6 +4,7 @@
 
 pub mod adjustments;
 pub mod arithmetic;
+mod bits;
 mod low;
 mod numbers;
 mod pairs;
@@ -22,7 +23,7 @@ pub use pairs::{
     Addition, AdditionWithCarry, Changing, Combining, Comparison, Complement, Decrement, Dividing,
     Increment, Joining, Multiplication, Negation, OperandPair, OperandPlace, PairOperation,
     PlaceOperation, PortInput, Shifting, ShiftingOnce, Subtraction, SubtractionWithBorrow, Testing,
-    on_pair, on_place,
+    on_place,
 };
 pub use shifts::{
     ArithmeticShift, LeftRotation, LeftRotationThroughCarry, LeftShift, RightRotation,

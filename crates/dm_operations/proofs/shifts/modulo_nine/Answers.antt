@@ -1,8 +1,0 @@
-use Rattle.std.proofs.Common.{refl, arith}
-use Rattle.dm_operations.specs.declared.shifts.TheConstants.{MODULO_NINE}
-use Rattle.dm_operations.proofs.Remainders.{at_place, leaves}
-use Rattle.dm_operations.proofs.shifts.modulo_nine.Goals as goal
-
-pub returns : goal.returns
-unfolding leaves
-returns c = at_place 9 0 MODULO_NINE c.args.count refl refl (omega arith)
