@@ -4,5 +4,5 @@
 mod marks;
 mod touch;
 
-pub use marks::Marks;
+pub use marks::{Marks, lets};
 pub use touch::{Touch, touch_of};
