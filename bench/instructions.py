@@ -209,6 +209,10 @@ def elsewhere():
     yield from in_a_window()
     for whole in ("MOVSB", "MOVSW", "STOSB", "STOSW"):
         yield f"a repetition of {whole} upwards, 1,000 of them", repeated(whole, "", "REP", (), kind="1,000", repeats=1000)
+    for whole, prefix in (("MOVSB", "REP"), ("STOSW", "REP"), ("CMPSB", "REPE"), ("SCASB", "REPNE")):
+        for count in (2, 5):
+            more = ("MOV AX,101h",) if whole == "SCASB" else ()
+            yield f"a repetition of {prefix} {whole}, {count} of them", repeated(whole, "", prefix, more, kind=str(count), repeats=count)
     yield "a repetition of MOVSB, overlapping by one byte", repeated("MOVSB", "", "REP", (), before=("MOV SI,5000h", "MOV DI,5001h"), kind="overlapping")
     yield "a repetition of MOVSW downwards", repeated("MOVSW", "", "REP", ("STD",), kind="downwards")
     yield "a repetition of MOVSB over the end of a segment", repeated("MOVSB", "", "REP", (), before=("MOV SI,3000h", "MOV DI,0FFE0h"), kind="over the end", start=LOW_START)
@@ -216,6 +220,7 @@ def elsewhere():
     yield "a repetition of REPE CMPSB", repeated("CMPSB", "", "REPE", (), kind="REPE")
     handler = ("XOR AX,AX", "MOV ES,AX", "ES MOV WORD [00182h],CS", "ES MOV WORD [00180h],handler")
     yield "INT 60h and IRET, each", Row("INT", "and IRET", "INT 60h", setup=handler, steps=2, parts=2, tail=("handler: IRET",))
+    yield "INT 10h (not served) and its IRET, each", Row("INT", "10h", "INT 10h", steps=2, parts=2)
     for function, what in (("30h", "version"), ("0Bh", "input status"), ("2Ah", "no function")):
         yield f"INT 21h function {function} ({what}), with its INT", Row("INT", function, "INT 21h", before=f"MOV AX,{function.rjust(3, '0')[:-1]}00h", steps=2)
     yield "INT 21h function 02h (a byte written), with its INT", Row("INT", "02h", "INT 21h", before="MOV AH,2", steps=2)
@@ -241,6 +246,9 @@ def in_a_window():
         yield f"a step that {what} in a window", Row(body[:3], "a window", body, setup=full)
     for body in ("PUSH AX", "POP AX"):
         yield f"a step that makes {body[:-3]} in a window", Row(body[:-3], "a window", body, before="MOV SP,2000h", setup=(*PAGE, "MOV AX,0E000h", "MOV SS,AX"))
+    for body in ("LES DX,[BX]", "MOV ES,WORD [BX]"):
+        yield f"a step that makes {body[:6].strip()} in a window", Row(body[:3], "a window", body, setup=full)
+    yield "a step that makes POP DS in a window", Row("POP", "a window", "POP DS", before="MOV SP,2000h", setup=(*PAGE, "MOV AX,0E000h", "MOV SS,AX"))
     for whole in ("MOVSB", "CMPSB", "STOSB", "LODSB", "SCASB"):
         yield f"a step that makes {whole} in a window", Row(whole, "a window", whole, before=at, setup=full)
     for whole, prefix, more in (("LODSB", "REP", ()), ("CMPSB", "REPE", ()), ("SCASB", "REPNE", ("MOV AX,101h",))):
