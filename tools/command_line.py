@@ -56,6 +56,12 @@ class Parser(argparse.ArgumentParser):
             formatter_class=argparse.RawDescriptionHelpFormatter, allow_abbrev=False, **more,
         )
 
+    def add_argument(self, *names, **more):
+        """As argparse's; an argument that may be left out is not named among those that are missing."""
+        if more.get("nargs") == "*":
+            more.setdefault("default", [])
+        return super().add_argument(*names, **more)
+
     def error(self, message):
         self.exit(2, f"{self.prog}: {message}; {self.prog} --help tells more\n")
 

@@ -1,7 +1,6 @@
 """What tools/build, tools/mutants and tools/static_library share: the kit's own modules, and proofs of crates in
 parallel."""
 import contextlib
-import functools
 import importlib.machinery
 import importlib.util
 import os
@@ -53,17 +52,11 @@ def load(file):
     return made
 
 
-def quick_stamps(made):
-    # The stamp of a crate, a checksum of all its sources, includes those of the crates below, which are reached in many
-    # ways.
-    made.Crate.stamp = functools.lru_cache(maxsize=None)(made.Crate.stamp)
-
-
 def module():
     """The kit's module of crates: its class `Crate` proves, builds and links."""
-    made = load("rtlib.py")
-    quick_stamps(made)
-    return made
+    # (As the command `rt` uses it, which reads each file once for a stamp. A stamp is a checksum of the sources of a
+    # crate and of those below it, which are reached in thousands of ways.)
+    return load("rt").rtlib
 
 
 def is_known(made):
@@ -77,12 +70,6 @@ def ready(made):
     made.guarded()
     # With Python's own handler, Ctrl-C would wait for the provers that run.
     signal.signal(signal.SIGINT, signal.SIG_DFL)
-
-
-def stamp(made, crate):
-    """The crate's stamp as its files are now."""
-    made.Crate.stamp.cache_clear()
-    return crate.stamp()
 
 
 def stamp_file(library):
@@ -147,7 +134,7 @@ def prove(made, crate, jobs):
     what the prover says."""
     if crate.is_built():
         return True
-    before = stamp(made, crate)
+    before = crate.stamp()
     folder = os.path.dirname(crate.rlib)
     shutil.rmtree(folder, ignore_errors=True)
     os.makedirs(folder)
@@ -157,7 +144,7 @@ def prove(made, crate, jobs):
         failed = crate.call(made.RATTLE, "build", *words, "-o", crate.rlib)
         crate.out.seek(0)
         said = crate.out.read() if failed else ""
-    has_changed = stamp(made, crate) != before
+    has_changed = crate.stamp() != before
     word = "not proved" if failed else "changed during its proof" if has_changed else "proved"
     print(f"{said}{crate.name}: {word}\n", end="", flush=True)
     if failed or has_changed:

@@ -105,19 +105,25 @@ def synopsis(command):
     return " ".join(words)
 
 
-def default_of(option, defaults):
+def text_of(option, those):
+    """What help says of an option, with what it says in commands where that is something else."""
+    others = "".join(f" In {name}: {it.text}." for name, it in those.items() if it.text != option.text)
+    return f"{option.text}.{others}"
+
+
+def default_of(option, those):
     """A sentence about an option's default, with those of commands that have another one; nothing if there is none."""
-    others = "".join(f", in {name} {it}" for name, it in defaults.items() if it != option.default)
+    others = "".join(f", in {name} {it.default}" for name, it in those.items() if it.default != option.default)
     return {None: "", "": " The default is the empty text."}.get(option.default, f" The default is {option.default}{others}.")
 
 
 def add_options(page, program):
     page.head("options")
-    for option, defaults in program.options():
-        names = "" if len(defaults) == len(program.commands) else f" (Commands: {', '.join(defaults)}.)"
+    for option, those in program.options():
+        names = "" if len(those) == len(program.commands) else f" (Commands: {', '.join(those)}.)"
         keys = ", ".join(f"\\fB{escaped(it)}\\fR" for it in (option.short, option.name) if it)
-        default = default_of(option, defaults)
-        page.item(keys + (f" \\fI{option.value}\\fR" if option.value else ""), escaped(f"{option.text}.{default}{names}"))
+        told = f"{text_of(option, those)}{default_of(option, those)}{names}"
+        page.item(keys + (f" \\fI{option.value}\\fR" if option.value else ""), escaped(told))
     version = next(it for it in program.top.options if it.name == "--version")
     page.item(f"\\fB{escaped(version.short)}\\fR, \\fB{escaped(version.name)}\\fR", escaped(f"{version.text}. (Without a command.)"))
     page.text(

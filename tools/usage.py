@@ -14,10 +14,13 @@ import header
 ROOT = os.path.dirname(os.path.dirname(os.path.realpath(__file__)))
 MANUAL = "docs/manual.md"
 SECONDS = 60
-ROW = re.compile(r"^  +(?:-(\w), )? *(--[\w-]+)(?: <(\w+)>)?  +(\S.*)$")
+OPTION = re.compile(r"^  +(?:-(\w), )? *(--[\w-]+)(?: <(\w+)>)?  +(\S.*)$")
 ARGUMENT = re.compile(r"^  <(\w+)>(\.\.\.)?  +(\S.*)$")
 COMMAND = re.compile(r"^  (\w[\w-]*)  +(\S.*)$")
 DEFAULT = re.compile(r" \[default: (.*)\]$")
+# A command of the debugger at the end of the help of `dm debug`.
+OF_SESSION = re.compile(r"^  ([A-Z].*?)  +\S.*$", re.M)
+SESSION = "Lines of a session "
 SECTIONS = ("Commands:", "Arguments:", "Options:")
 
 
@@ -43,12 +46,13 @@ class Argument:
 
 
 class Command:
-    """A command, or `dm` itself: what it does, its arguments and options, an example, and the commands below it with
-    a line about each."""
+    """A command, or `dm` itself: what it does, its arguments and options, an example, the commands below it with a
+    line about each, and what a line of a session may be."""
 
     def __init__(self, name, text):
         self.name, self.commands, self.arguments, self.options = name, {}, [], []
         self.about, section, self.example = text.split("\n", 1)[0], None, None
+        self.session = OF_SESSION.findall(text.partition(f"\n{SESSION}")[2])
         for line in text.split("\n"):
             if not line.startswith(" "):
                 section = line if line in SECTIONS else None
@@ -60,7 +64,7 @@ class Command:
 
     def add(self, section, line):
         """Takes a line of a section."""
-        pattern = {"Commands:": COMMAND, "Arguments:": ARGUMENT, "Options:": ROW}[section]
+        pattern = {"Commands:": COMMAND, "Arguments:": ARGUMENT, "Options:": OPTION}[section]
         found = pattern.fullmatch(line)
         if not found:
             raise Unreadable(f"`{self.name} --help` has the line {line!r}")
@@ -96,11 +100,11 @@ class Usage:
         self.commands = {name: Command(f"dm {name}", help_of(program, name)) for name in self.top.commands if name != "help"}
 
     def options(self):
-        """Each option of the commands once, with its default in each command that has it; that for help is the last."""
+        """Each option of the commands once, with that of each command that has it; that for help is the last."""
         found = {}
         for name, command in self.commands.items():
             for option in command.options:
-                found.setdefault(option.name, (option, {}))[1][name] = option.default
+                found.setdefault(option.name, (option, {}))[1][name] = option
         return sorted(found.values(), key=lambda it: it[0].name == "--help")
 
 
@@ -180,6 +184,14 @@ def limit_faults(usage):
                 yield f"no limit is {limit}, as the help of {command.name} says"
 
 
+def session_faults(usage):
+    """The fault where the manual's table of the debugger's commands lists others than the help of `dm debug`."""
+    told = [", ".join(re.findall("`([^`]*)`", row[0])) for row in tables("Commands")[0][1:]]
+    wanted = usage.commands["debug"].session if "debug" in usage.commands else []
+    if told != wanted:
+        yield f"the commands of the debugger are {'; '.join(told)}, and {'; '.join(wanted) or 'none'} in the help of dm debug"
+
+
 def status_faults(what, heading, given):
     """The faults of a table of the manual, of numbers and names, against those of the header."""
     found = {}
@@ -196,7 +208,7 @@ def faults(program):
     try:
         usage = Usage(program)
         declared = header.Header("include/mezguld.h")
-        found = [*option_faults(usage), *usage_faults(usage), *limit_faults(usage)]
+        found = [*option_faults(usage), *usage_faults(usage), *limit_faults(usage), *session_faults(usage)]
         found += [*status_faults("status", "Statuses and exceptions", declared.statuses), *status_faults("stop", "Calls", declared.stops)]
     except Unreadable as why:
         found = [str(why)]

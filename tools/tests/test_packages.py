@@ -63,6 +63,22 @@ Options:
   -V, --version  Print version
 
 Example: dm run X.COM"""
+SESSION = """
+Lines of a session (s:o is an address):
+  R                  Print the registers
+  U s:o [count]      Print instructions
+  D s:o [length]     Print bytes
+  E s:o bytes        Write bytes
+  G [n]              Run
+  T [n]              Execute steps
+  B s:o, BC s:o, BL  Breakpoints
+  M                  Print the block list
+  P                  Print expanded memory
+  X                  Print extended memory
+  O                  Print the output
+  Q                  End the session
+
+"""
 # A text of the help of `dm run`, another one in its place, and words of the fault.
 HELPS = (
     ("[default: 64]", "[default: 65]", "the default of --ems is 64, and 65"),
@@ -82,6 +98,7 @@ MANUALS = (
     ("| 7 | `BREAKPOINT` |", "| 8 | `BREAKPOINT` |", "the stop BREAKPOINT is 8"),
     ("| `--ems` | pages of 16 KiB | 64 |", "| `--ems` | pages of 16 KiB | 63 |", "the default of --ems is 63"),
     ("    dm run [--steps N] ", "    dm run ", "the usage of dm run"),
+    ("| `T [n]` |", "| `T [count]` |", "T [count]; B s:o, BC s:o, BL; M; P; X; O; Q, and R; "),
 )
 
 
@@ -115,7 +132,7 @@ def faults_of_help(text):
     texts = {
         (): TOP,
         ("run",): text,
-        ("debug",): text.replace("Options:\n", "Options:\n      --input <FILE>  The input\n"),
+        ("debug",): text.replace("Options:\n", "Options:\n      --input <FILE>  The input\n").replace("\nExample: ", f"{SESSION}Example: "),
         ("check",): text.replace("  -h, --help", "      --no-free       Leave out free memory\n      --json          Report in JSON\n  -h, --help"),
     }
     with mock.patch.object(usage, "help_of", lambda _, *words: texts[words]):

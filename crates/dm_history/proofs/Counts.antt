@@ -1,7 +1,5 @@
 -- What a step does to the count of steps and to the code with which the program ended.
-use Rattle.std.proofs.Common.{◌≡◌, inl, inr, ℕ, ◌+◌, ◌-◌, ◌^◌, ◌==◌, min, Bool, true, false, cond, nat_lt, List, [], ◌∷◌, Option, Some, None, Result, Ok, Err, refl, sym, ap, subst}
-use Rattle.std.proofs.lemmas.Bool.Decides.{eqb_tells}
-use Rattle.std.proofs.Math.Dec.{eqb}
+use Rattle.std.proofs.Common.{◌≡◌, ℕ, ◌+◌, ◌-◌, ◌^◌, ◌==◌, min, Bool, true, false, cond, nat_lt, List, [], ◌∷◌, Option, Some, None, Result, Ok, Err, refl, sym, ap, subst}
 use Rattle.dm_space.specs.Memory.{Memory, linear, peek}
 use Rattle.dm_ins.specs.declared.operand.ByteRegister.TheVariants.{Al, Ah}
 use Rattle.dm_arena.specs.declared.refusal.ArenaRefusal.{ArenaRefusal}
@@ -35,9 +33,12 @@ use Rattle.dm_services.specs.Handles.{bad_handle, waits, read_handle, write_hand
 use Rattle.dm_services.specs.Vectors.{set_vector, get_vector}
 use Rattle.dm_services.specs.System.{tell_version, tell_process}
 use Rattle.dm_services.specs.Allocation.{allocated, settled}
-use Rattle.dm_services.specs.Strategies as strategies
+use Rattle.dm_services.specs.declared.strategies.StrategyFunction.{StrategyFunction}
+use Rattle.dm_services.specs.declared.strategies.StrategyFunction.TheVariants as subfunction
 use Rattle.dm_services.specs.Strategies.{TellsLink, link_told, SetsLink, StrategyCalls, strategy_of, set_to, wanted}
 use Rattle.dm_services.specs.Processes.{executed, overlaid, LoadingAs, concluded, Terminating, StayingResident, tell_code}
+use Rattle.dm_services.specs.declared.functions.Function.{Function}
+use Rattle.dm_services.specs.declared.functions.Function.TheVariants as function
 use Rattle.dm_services.specs.Functions.{function_of, no_function, Calls}
 use Rattle.dm_services.specs.Services.{Serves}
 use Rattle.dm_machine.specs.Step.{MakesStep, ActsUnlessEnded, Acts, Instructs, listed, unlisted, after}
@@ -217,61 +218,46 @@ sets-count : (s : State) (o : Option Bool) (x : Answer) → SetsLink o s x → C
 sets-count s None x e = by s x _ e (on s _ refl refl)
 sets-count s (Some b) x a = by s x _ a.answer (settled-counts s a.result a.memory)
 
--- a number is k, or another
-pick : (n k : ℕ) (P : Type 0) → (n ≡ k → P) → (eqb n k ≡ false → P) → P
-pick n k P is other = elim (eqb_tells n k) [ inl e ↦ is e.1 | inr e ↦ other e.0 ]
+-- the functions of 58h
+strategy-counts : (s : State) (f : StrategyFunction) (x : Answer) → StrategyCalls s f x → Counts s x
+strategy-counts s subfunction.TellStrategy x e = by s x _ e (on s _ refl refl)
+strategy-counts s subfunction.SetStrategy x e = by s x _ e (set_to-counts s (strategy_of s.upper s.cpu.bx))
+strategy-counts s subfunction.TellLink x h = tells-count s s.upper x h
+strategy-counts s subfunction.SetLink x h = sets-count s (wanted s.upper s.cpu.bx) x h
+strategy-counts s subfunction.Unknown x e = by s x _ e (on s _ refl refl)
 
--- the functions of 58h, by their numbers
-under : (s : State) (n k : ℕ) (x : Answer) → n ≡ k → StrategyCalls s (strategies.subfunction_of n) x → StrategyCalls s (strategies.subfunction_of k) x
-under s n k x e h = subst (λ m. StrategyCalls s (strategies.subfunction_of m) x) e h
-
-strategy-counts : (s : State) (n : ℕ) (x : Answer) → StrategyCalls s (strategies.subfunction_of n) x → Counts s x
-strategy-counts s n x h =
-    pick n 0 (Counts s x) (λ e. by s x _ (under s n 0 x e h) (on s _ refl refl)) (λ e0.
-    pick n 1 (Counts s x) (λ e. by s x _ (under s n 1 x e h) (set_to-counts s (strategy_of s.upper s.cpu.bx))) (λ e1.
-    pick n 2 (Counts s x) (λ e. tells-count s s.upper x (under s n 2 x e h)) (λ e2.
-    pick n 3 (Counts s x) (λ e. sets-count s (wanted s.upper s.cpu.bx) x (under s n 3 x e h)) (λ e3.
-    let same : strategies.subfunction_of n ≡ strategies.subfunction_of 4 = simp (e0, e1, e2, e3) in
-    by s x _ (subst (λ f. StrategyCalls s f x) same h) (on s _ refl refl)))))
-
--- the functions of INT 21h, by their numbers
-at : (s : State) (n k : ℕ) (x : Answer) → n ≡ k → Calls s (function_of n) x → Calls s (function_of k) x
-at s n k x e h = subst (λ m. Calls s (function_of m) x) e h
-
-calls-count : (s : State) (n : ℕ) (x : Answer) → Calls s (function_of n) x → Counts s x
-calls-count s n x h =
-    pick n 0x00 (Counts s x) (λ e. terminating-counts s 0 x (at s n 0x00 x e h)) (λ e00.
-    pick n 0x01 (Counts s x) (λ e. by s x _ (at s n 0x01 x e h) (echo_character-counts s)) (λ e01.
-    pick n 0x02 (Counts s x) (λ e. by s x _ (at s n 0x02 x e h) (write_character-counts s)) (λ e02.
-    pick n 0x06 (Counts s x) (λ e. by s x _ (at s n 0x06 x e h) (direct_character-counts s)) (λ e06.
-    pick n 0x07 (Counts s x) (λ e. by s x _ (at s n 0x07 x e h) (read_character-counts s)) (λ e07.
-    pick n 0x08 (Counts s x) (λ e. by s x _ (at s n 0x08 x e h) (read_character-counts s)) (λ e08.
-    pick n 0x09 (Counts s x) (λ e. by s x _ (at s n 0x09 x e h) (print-counts s)) (λ e09.
-    pick n 0x0A (Counts s x) (λ e. by s x _ (at s n 0x0A x e h) (read_line-counts s)) (λ e0A.
-    pick n 0x0B (Counts s x) (λ e. by s x _ (at s n 0x0B x e h) (check_input-counts s)) (λ e0B.
-    pick n 0x0C (Counts s x) (λ e. by s x _ (at s n 0x0C x e h) (flush_and_read-counts s)) (λ e0C.
-    pick n 0x25 (Counts s x) (λ e. by s x _ (at s n 0x25 x e h) (set_vector-counts s)) (λ e25.
-    pick n 0x30 (Counts s x) (λ e. by s x _ (at s n 0x30 x e h) (tell_version-counts s)) (λ e30.
-    pick n 0x31 (Counts s x) (λ e. keeping-counts s x (at s n 0x31 x e h)) (λ e31.
-    pick n 0x35 (Counts s x) (λ e. by s x _ (at s n 0x35 x e h) (get_vector-counts s)) (λ e35.
-    pick n 0x3F (Counts s x) (λ e. by s x _ (at s n 0x3F x e h) (read_handle-counts s)) (λ e3F.
-    pick n 0x40 (Counts s x) (λ e. by s x _ (at s n 0x40 x e h) (write_handle-counts s)) (λ e40.
-    pick n 0x48 (Counts s x) (λ e. let a = at s n 0x48 x e h in by s x _ a.answer (allocated-counts s a.result a.memory)) (λ e48.
-    pick n 0x49 (Counts s x) (λ e. let a = at s n 0x49 x e h in by s x _ a.answer (settled-counts s a.result a.memory)) (λ e49.
-    pick n 0x4A (Counts s x) (λ e. let a = at s n 0x4A x e h in by s x _ a.answer (settled-counts s a.result a.memory)) (λ e4A.
-    pick n 0x4B (Counts s x) (λ e. loading-counts s _ x (at s n 0x4B x e h)) (λ e4B.
-    pick n 0x4C (Counts s x) (λ e. terminating-counts s _ x (at s n 0x4C x e h)) (λ e4C.
-    pick n 0x4D (Counts s x) (λ e. by s x _ (at s n 0x4D x e h) (tell_code-counts s)) (λ e4D.
-    pick n 0x51 (Counts s x) (λ e. by s x _ (at s n 0x51 x e h) (tell_process-counts s)) (λ e51.
-    pick n 0x58 (Counts s x) (λ e. strategy-counts s (byte_of s.cpu Al) x (at s n 0x58 x e h)) (λ e58.
-    pick n 0x62 (Counts s x) (λ e. by s x _ (at s n 0x62 x e h) (tell_process-counts s)) (λ e62.
-    let same : function_of n ≡ function_of 0xFF = simp (e00, e01, e02, e06, e07, e08, e09, e0A, e0B, e0C, e25, e30, e31, e35, e3F, e40, e48, e49, e4A, e4B, e4C, e4D, e51, e58, e62) in
-    by s x _ (subst (λ f. Calls s f x) same h) (no_function-counts s))))))))))))))))))))))))))
+-- the functions of INT 21h
+calls-count : (s : State) (f : Function) (x : Answer) → Calls s f x → Counts s x
+calls-count s function.EchoCharacter x e = by s x _ e (echo_character-counts s)
+calls-count s function.WriteCharacter x e = by s x _ e (write_character-counts s)
+calls-count s function.DirectCharacter x e = by s x _ e (direct_character-counts s)
+calls-count s function.DirectInput x e = by s x _ e (read_character-counts s)
+calls-count s function.ReadCharacter x e = by s x _ e (read_character-counts s)
+calls-count s function.WriteText x e = by s x _ e (print-counts s)
+calls-count s function.ReadLine x e = by s x _ e (read_line-counts s)
+calls-count s function.CheckInput x e = by s x _ e (check_input-counts s)
+calls-count s function.FlushAndRead x e = by s x _ e (flush_and_read-counts s)
+calls-count s function.SetVector x e = by s x _ e (set_vector-counts s)
+calls-count s function.Version x e = by s x _ e (tell_version-counts s)
+calls-count s function.GetVector x e = by s x _ e (get_vector-counts s)
+calls-count s function.ReadHandle x e = by s x _ e (read_handle-counts s)
+calls-count s function.WriteHandle x e = by s x _ e (write_handle-counts s)
+calls-count s function.Allocate x a = by s x _ a.answer (allocated-counts s a.result a.memory)
+calls-count s function.Free x a = by s x _ a.answer (settled-counts s a.result a.memory)
+calls-count s function.Resize x a = by s x _ a.answer (settled-counts s a.result a.memory)
+calls-count s function.LoadProgram x a = loading-counts s _ x a
+calls-count s function.Exit x a = terminating-counts s _ x a
+calls-count s function.Keep x a = keeping-counts s x a
+calls-count s function.Terminate x a = terminating-counts s 0 x a
+calls-count s function.ExitCode x e = by s x _ e (tell_code-counts s)
+calls-count s function.Process x e = by s x _ e (tell_process-counts s)
+calls-count s function.AllocationStrategy x h = strategy-counts s _ x h
+calls-count s function.Unknown x e = by s x _ e (no_function-counts s)
 
 serves-count : (s : State) (service : Service) (x : Answer) → Serves s service x → Counts s x
 serves-count s DivideError x a = terminating-counts s 0xFF x a
 serves-count s service.Terminate x a = terminating-counts s 0 x a
-serves-count s Dos x h = calls-count s (byte_of s.cpu Ah) x h
+serves-count s Dos x h = calls-count s (function_of (byte_of s.cpu Ah)) x h
 
 after-counts : (s : State) (n : Next) (g : Guest) → Counts s (after s n g)
 after-counts s Go g = on s _ refl refl

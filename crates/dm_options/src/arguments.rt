@@ -11,12 +11,38 @@ use std::alloc::{AllocError, Global};
 /// The version of the program, which `dm --version` prints.
 const VERSION: &str = "2.0.0";
 
-/// What `--steps` says of itself.
+/// What `--steps` says of itself in `dm run` and `dm check`.
 const STEPS_HELP: &str =
-    "Stop after N steps: instructions, repetitions of string instructions, services; gdb counts anew each time it goes on, debug ignores it";
+    "Stop after N steps: instructions, repetitions of string instructions, services";
 
-/// `--steps N`: a number below 2^64, 100000000 by default.
-fn steps_arg<'a>(alloc: Global) -> Arg<'a>
+/// What `--steps` says of itself in `dm debug`.
+const DEBUG_STEPS_HELP: &str =
+    "Accepted, and ignored: the commands G and T have counts of their own";
+
+/// What `--steps` says of itself in `dm gdb`.
+const GDB_STEPS_HELP: &str =
+    "Stop after N steps each time that the program goes on: instructions, repetitions of string instructions, services";
+
+/// The commands of a session, which end the help of `dm debug`, and an example.
+const DEBUG_AFTER_HELP: &str = "\
+Lines of a session (s:o is a segment and an offset, as 0103:0100; numbers are hexadecimal):
+  R                  Print the registers and the next instruction
+  U s:o [count]      Print instructions, 8 without a count
+  D s:o [length]     Print bytes, 80 without a length
+  E s:o bytes        Write bytes, as in E 0103:0200 90CD21
+  G [n]              Run up to a breakpoint or a stop, for at most n steps
+  T [n]              Execute n steps, 1 without n, and print the registers after each
+  B s:o, BC s:o, BL  Set a breakpoint, clear it, list all
+  M                  Print the block list of DOS memory
+  P                  Print the handles and windows of expanded memory
+  X                  Print the blocks of extended memory, upper blocks, A20 and the HMA
+  O                  Print the console output so far
+  Q                  End the session
+
+Example: printf 'R\\nU 0103:0100\\nG\\n' | dm debug PROGRAM.COM";
+
+/// `--steps N`: a number below 2^64, 100000000 by default. `help` is what it says of itself.
+fn steps_arg<'a>(alloc: Global, help: &'static str) -> Arg<'a>
     ensures rule { rule_of result ≡ steps_rule }
     ensures local { result.global ≡ false }
 {
@@ -25,7 +51,7 @@ fn steps_arg<'a>(alloc: Global) -> Arg<'a>
         .value_name("N")
         .value_parser(ValueParser::unsigned(0, 18446744073709551615))
         .default_value("100000000")
-        .help(STEPS_HELP)
+        .help(help)
 }
 
 /// `--steps N` of `dm gdb`: 1000000 by default, so that a stop that GDB wants comes soon.
@@ -38,7 +64,7 @@ fn gdb_steps_arg<'a>(alloc: Global) -> Arg<'a>
         .value_name("N")
         .value_parser(ValueParser::unsigned(0, 18446744073709551615))
         .default_value("1000000")
-        .help(STEPS_HELP)
+        .help(GDB_STEPS_HELP)
 }
 
 /// `--ems PAGES`: a number below 2^32, 64 by default.
@@ -75,7 +101,7 @@ fn upper_arg<'a>(alloc: Global) -> Arg<'a>
     Arg::new(alloc, "upper")
         .long("upper")
         .action(ArgAction::SetTrue)
-        .help("Add an upper memory block, D000h to DFFFh, to the DOS arena")
+        .help("Add an upper memory block, D000h to DFFFh, to DOS memory")
 }
 
 /// `--tail TEXT`, the empty text by default.
@@ -132,7 +158,7 @@ fn run_command<'a>(alloc: Global) -> Result<Command<'a>, AllocError>
             "Run a program: standard input is its console input, and its output is printed when it ends",
         )
         .after_help("Example: dm run --tail ' /q' PROGRAM.COM CHILD.EXE <input.txt");
-    with_machine_args(alloc, command, steps_arg(alloc))
+    with_machine_args(alloc, command, steps_arg(alloc, STEPS_HELP))
 }
 
 /// `--input FILE`, which has no default.
@@ -153,8 +179,8 @@ fn debug_command<'a>(alloc: Global) -> Result<Command<'a>, AllocError>
 {
     let command = Command::new(alloc, "debug")
         .about("Debug a program: each line of standard input is a command, Q ends the session")
-        .after_help("Example: printf 'R\\nU 0103:0100\\nG\\n' | dm debug PROGRAM.COM");
-    with_machine_args(alloc, command, steps_arg(alloc))?.arg(input_arg(alloc))
+        .after_help(DEBUG_AFTER_HELP);
+    with_machine_args(alloc, command, steps_arg(alloc, DEBUG_STEPS_HELP))?.arg(input_arg(alloc))
 }
 
 /// The command `dm gdb`. An `Err` is a failed allocation.
@@ -202,7 +228,7 @@ fn check_command<'a>(alloc: Global) -> Result<Command<'a>, AllocError>
             "Run a program and report its errors in the use of memory: overwritten block headers, uses of free memory, double frees, leaks",
         )
         .after_help("Example: dm check PROGRAM.COM <input.txt");
-    with_machine_args(alloc, command, steps_arg(alloc))?
+    with_machine_args(alloc, command, steps_arg(alloc, STEPS_HELP))?
         .arg(no_free_arg(alloc))?
         .arg(json_arg(alloc))
 }

@@ -1,14 +1,23 @@
 -- The meanings of the error codes of calls, in words. Codes that this machine does not return have none.
 -- Source: MS-DOS Programmer's Reference, "Error Codes"; LIM EMS 4.0, appendix A; XMS 3.0, error code index.
 use Rattle.std.specs.Prelude.{ℕ, ◌==◌, if◌then◌else◌, List, [], codes}
+use Rattle.dm_services.specs.declared.functions.Function.{Function}
+use Rattle.dm_services.specs.declared.functions.Function.TheVariants.{Unknown}
+use Rattle.dm_services.specs.Functions.{function_of}
 use Rattle.dm_findings.specs.declared.calls.Call.TheVariants.{Dos, ExpandedMemory, ExtendedMemory}
 use Rattle.dm_findings.specs.declared.finding.Act.{Act}
 use Rattle.dm_findings.specs.declared.finding.Act.TheVariants as act
 
--- the meaning of an error code of INT 21h, behind a comma; empty for another code
-abbrev pub dos_meaning : ℕ → List ℕ
-dos_meaning code =
-    if code == 0x01 then codes ", no such function" else
+-- the meaning of error code 01h of a function of INT 21h, behind a comma: a function that is served does not take what
+-- AL or BX has
+abbrev pub invalid_meaning : Function → List ℕ
+invalid_meaning Unknown = codes ", no such function"
+invalid_meaning _ = codes ", no such subfunction or value"
+
+-- the meaning of an error code of the function of INT 21h with this number, behind a comma; empty for another code
+abbrev pub dos_meaning : ℕ → ℕ → List ℕ
+dos_meaning number code =
+    if code == 0x01 then invalid_meaning (function_of number) else
     if code == 0x02 then codes ", no such program" else
     if code == 0x07 then codes ", no valid block list" else
     if code == 0x08 then codes ", not enough memory" else
@@ -67,7 +76,7 @@ extended_meaning code =
 
 -- the meaning of the code with which a call failed, behind a comma; empty if it has none
 abbrev pub meaning_text : Act → ℕ → List ℕ
-meaning_text (act.Call (Dos number)) code = dos_meaning code
+meaning_text (act.Call (Dos number)) code = dos_meaning number code
 meaning_text (act.Call (ExpandedMemory number)) code = expanded_meaning code
 meaning_text (act.Call (ExtendedMemory number)) code = extended_meaning code
 meaning_text _ code = []
