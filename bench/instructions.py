@@ -220,6 +220,10 @@ def elsewhere():
     yield "a repetition of REPE CMPSB", repeated("CMPSB", "", "REPE", (), kind="REPE")
     handler = ("XOR AX,AX", "MOV ES,AX", "ES MOV WORD [00182h],CS", "ES MOV WORD [00180h],handler")
     yield "INT 60h and IRET, each", Row("INT", "and IRET", "INT 60h", setup=handler, steps=2, parts=2, tail=("handler: IRET",))
+    there = ("MOV AX,1200h", "MOV ES,AX", "ES MOV BYTE [0],0CFh", "ES MOV BYTE [2],0CBh")
+    vector = ("XOR AX,AX", "MOV ES,AX", "ES MOV WORD [00180h],0", "ES MOV WORD [00182h],1200h")
+    yield "INT 60h and IRET, each, with the handler in another segment", Row("INT", "far", "INT 60h", setup=(*there, *vector), steps=2, parts=2)
+    yield "far CALL and RETF, each, with the function in another segment", Row("CALL FAR", "far", ("DB 9Ah", "DW 2,1200h"), setup=there, steps=2, parts=2)
     yield "INT 10h (not served) and its IRET, each", Row("INT", "10h", "INT 10h", steps=2, parts=2)
     for function, what in (("30h", "version"), ("0Bh", "input status"), ("2Ah", "no function")):
         yield f"INT 21h function {function} ({what}), with its INT", Row("INT", function, "INT 21h", before=f"MOV AX,{function.rjust(3, '0')[:-1]}00h", steps=2)
