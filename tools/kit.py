@@ -56,7 +56,7 @@ def module():
     """The kit's module of crates: its class `Crate` proves, builds and links."""
     # (As the command `rt` uses it, which reads each file once for a stamp. A stamp is a checksum of the sources of a
     # crate and of those below it, which are reached in thousands of ways.)
-    return load("rt").rtlib
+    return getattr(load("rt"), "rtlib", None) or load("rtlib.py")
 
 
 def is_known(made):
