@@ -252,6 +252,18 @@ def in_a_window():
         yield f"a step that makes {body[:-3]} in a window", Row(body[:-3], "a window", body, before="MOV SP,2000h", setup=(*PAGE, "MOV AX,0E000h", "MOV SS,AX"))
     for body in ("LES DX,[BX]", "MOV ES,WORD [BX]"):
         yield f"a step that makes {body[:6].strip()} in a window", Row(body[:3], "a window", body, setup=full)
+    for body in ("SHL WORD [BX],CL", "INC WORD [BX]", "SHL BYTE [BX],1"):
+        yield f"a step that makes {body} in a window", Row(body[:3], "a window", body, setup=full)
+    end = (*full, "MOV BX,3FFFh")
+    for what, body in (("reads a word", "MOV AX,[BX]"), ("writes a word", "MOV [BX],AX"), ("adds a word to one", "ADD AX,[BX]"), ("adds to a word", "ADD [BX],AX")):
+        yield f"a step that {what} over the end of a page", Row(body[:3], "over the end", body, setup=end)
+    stack = (*PAGE, "MOV AX,0E000h", "MOV SS,AX", "MOV SP,2000h")
+    far = ("DB 9Ah", "DW function,103h")
+    yield "far CALL and RETF, each, with the stack in a window", Row("CALL FAR", "window", far, setup=stack, steps=2, parts=2, tail=("function: RETF",))
+    handler = ("XOR AX,AX", "MOV ES,AX", "ES MOV WORD [00182h],CS", "ES MOV WORD [00180h],handler")
+    yield "INT 60h and IRET, each, with the stack in a window", Row("INT", "window", "INT 60h", setup=(*stack, *handler), steps=2, parts=2, tail=("handler: IRET",))
+    zero = ("XOR AX,AX", "MOV ES,AX", "ES MOV WORD [2],CS", "ES MOV WORD [0],handler")
+    yield "DIV by zero and its IRET, each", Row("DIV", "zero", "DIV CL", setup=(*zero, "XOR CX,CX"), steps=2, parts=2, tail=("handler: IRET",))
     yield "a step that makes POP DS in a window", Row("POP", "a window", "POP DS", before="MOV SP,2000h", setup=(*PAGE, "MOV AX,0E000h", "MOV SS,AX"))
     for whole in ("MOVSB", "CMPSB", "STOSB", "LODSB", "SCASB"):
         yield f"a step that makes {whole} in a window", Row(whole, "a window", whole, before=at, setup=full)
