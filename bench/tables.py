@@ -83,7 +83,7 @@ def whole(figure):
 
 
 def single(found):
-    """The rows of single instructions: mnemonic, operands, figure."""
+    """The figures of single instructions: mnemonic, operands, figure."""
     return [(*name.split("|"), figure) for name, figure in found["instructions"].items() if "|" in name]
 
 
@@ -103,10 +103,10 @@ def programs_table(found):
 def instructions_table(found):
     yield "| Mnemonic | Host instructions a step | Most expensive |"
     yield "|---|---|---|"
-    rows = {}
+    kinds = {}
     for mnemonic, kind, figure in single(found):
-        rows.setdefault(mnemonic, []).append((figure, kind))
-    for mnemonic, those in sorted(rows.items()):
+        kinds.setdefault(mnemonic, []).append((figure, kind))
+    for mnemonic, those in sorted(kinds.items()):
         (least, _), (most, kind) = min(those), max(those)
         spread = whole(most) if whole(least) == whole(most) else f"{whole(least)} to {whole(most)}"
         yield f"| `{mnemonic}` | {spread} | {f'`{kind}`' if kind and len(those) > 1 and whole(least) != whole(most) else ''} |"
@@ -123,10 +123,10 @@ JUMPS = ("J", "CALL", "LOOP")
 def kinds_table(found):
     yield "| Destination | Least | Most | Most expensive |"
     yield "|---|---|---|---|"
-    rows = single(found)
+    taken = single(found)
     for what, pattern in KINDS:
         is_jump = what.startswith("a jump")
-        those = [(figure, f"{name} {kind}") for name, kind, figure in rows if re.fullmatch(pattern, kind) and name.startswith(JUMPS) == is_jump]
+        those = [(figure, f"{name} {kind}") for name, kind, figure in taken if re.fullmatch(pattern, kind) and name.startswith(JUMPS) == is_jump]
         if those:
             yield f"| {what} | {whole(min(those)[0])} | {whole(max(those)[0])} | `{max(those)[1]}` |"
 
@@ -156,8 +156,8 @@ def seconds_table(found):
     yield f"| Program | Steps, millions | {' | '.join(CORES.values())} |"
     yield f"|---|---|{'---|' * len(CORES)}"
     for name in PROGRAMS:
-        row = found["seconds"][name]
-        yield f"| `{name}` | {row['steps'] / 1e6:,.0f} | {' | '.join(f'{row[core]:.2f}' for core in CORES)} |"
+        seconds = found["seconds"][name]
+        yield f"| `{name}` | {seconds['steps'] / 1e6:,.0f} | {' | '.join(f'{seconds[core]:.2f}' for core in CORES)} |"
 
 
 TABLES = {
@@ -171,8 +171,8 @@ TABLES = {
 
 def said(found):
     """The figures of the sentences."""
-    rows = single(found)
-    least, most = min(rows, key=lambda it: it[2]), max(rows, key=lambda it: it[2])
+    taken = single(found)
+    least, most = min(taken, key=lambda it: it[2]), max(taken, key=lambda it: it[2])
     known, seconds = found["programs"], found["seconds"]
     steps = {core: {name: seconds[name]["steps"] / 1e6 / seconds[name][core] for name in PROGRAMS} for core in CORES}
     made = {

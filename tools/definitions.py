@@ -49,7 +49,7 @@ class Page:
             if any(it.crate == crate and it.kind != "type" for it in self.reached.values()):
                 yield f"| `{crate}` | {self.size(self.reached, crate)} |"
 
-    def row(self, it):
+    def line_of(self, it):
         named = [f"`{it.name}`" for it in self.naming.get(it.key, [])]
         through = [f"`{it.name}`" for it in self.users.get(it.key, []) if it.kind != "type"]
         contracts = specs.some_of(named, 6) if named else f"through {specs.some_of(through, 3)}" if through else ""
@@ -72,7 +72,7 @@ class Page:
                 yield f"\n### `{path}`\n\n{' '.join(self.specs.heads[path])}\n"
                 yield "| Definition | Meaning | Contracts | Rows |"
                 yield "|---|---|---|---|"
-                yield from (self.row(it) for it in sorted(files[path], key=lambda it: it.line))
+                yield from (self.line_of(it) for it in sorted(files[path], key=lambda it: it.line))
 
     def text(self):
         return "\n".join(self.lines()) + "\n"

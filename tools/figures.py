@@ -20,7 +20,7 @@ SENTENCES = {
     ),
     "docs/architecture.md": (
         [
-            "{crates} crates, {crates_of_tests} of them of tests", "{mnemonics} mnemonics in {table_entries} entries", "{forms} forms",
+            "{crates} crates, {crates_of_tests} of them of tests", "{mnemonics} mnemonics in {templates} templates", "{forms} forms",
             "{functions_of_dos} numbers are served", "{functions_of_ems} of INT 67h", "{functions_of_xms} of the extended memory driver",
         ],
         [],
@@ -47,7 +47,7 @@ SENTENCES = {
         [
             "There are {rows} rows in `rows/` and `examples/`", "tries the {must_fail} edits in the `must-fail` directories", "{mutants} in all, at up to",
             "`tools/terminal` holds {terminal_conversations} conversations", "plays the {gdb_conversations} conversations of `tools/talks`",
-            "`python/tests` has {python_tests} tests", "each of the {table_entries} entries of the instruction table", "`tools/tests` plants {planted} differences",
+            "`python/tests` has {python_tests} tests", "each of the {templates} templates of the instruction table", "`tools/tests` plants {planted} differences",
             "makes the {real_programs} programs of `tools/real`", "makes the pages of {browser_pages} programs",
         ],
         [],
@@ -160,7 +160,7 @@ def of_tree():
         "mnemonics": variants("crates/dm_ins/src/action.rt", "Mnemonic"),
         "forms": variants("crates/dm_forms/src/form.rt", "Form"),
         # (A test compares this number with the table's, and has the prefixes in it.)
-        "table_entries": captured("crates/dm_text_tests/src/assembly/table.rt", r'^    same\(&rt, "rows", text\.lines\(\)\.count\(\), (\d+)\);$') - PREFIXES,
+        "templates": captured("crates/dm_text_tests/src/assembly/table.rt", r'^    same\(&rt, "rows", text\.lines\(\)\.count\(\), (\d+)\);$') - PREFIXES,
         "functions_of_dos": len(served.numbers(served.DOS)),
         "functions_of_ems": len(served.numbers(served.EXPANDED)),
         "functions_of_xms": len(served.numbers(served.EXTENDED)),

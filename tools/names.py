@@ -16,7 +16,7 @@ OF_DRIVERS = ("dm_ems", "dm_ems_move", "dm_xms", "dm_drivers")
 OF_RUST = ("new", "of", "default", "as_slice", "from_number")
 # Types that are two forms of one thing: the registers by name and by number, a report and what a host keeps of it.
 FORMS = ({"Cpu", "Registers"}, {"Report", "KeptReport"})
-ROW = re.compile(r"^\| `([^`]+)` \| (.*) \|$", re.M)
+LINE = re.compile(r"^\| `([^`]+)` \| (.*) \|$", re.M)
 
 
 class Thing:
@@ -103,13 +103,13 @@ def several(known):
 
 def listed():
     """The names that the page lists."""
-    return [name for name, _ in ROW.findall(specs.text_of(PAGE))]
+    return [name for name, _ in LINE.findall(specs.text_of(PAGE))]
 
 
 def faults(known):
-    found, rows = several(known), listed()
+    found, there = several(known), listed()
     for name, places in sorted(found.items()):
-        if name not in rows:
+        if name not in there:
             yield f"{PAGE} does not have `{name}`, which stands in {' and in '.join(places)}"
-    yield from (f"{PAGE}: `{name}` needs no line" for name in rows if name not in found)
-    yield from (f"{PAGE}: `{name}` has two lines" for name in sorted(set(rows)) if rows.count(name) > 1)
+    yield from (f"{PAGE}: `{name}` needs no line" for name in there if name not in found)
+    yield from (f"{PAGE}: `{name}` has two lines" for name in sorted(set(there)) if there.count(name) > 1)

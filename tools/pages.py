@@ -80,9 +80,9 @@ class Page:
             self.body.append(".PP")
         self.body += [".nf", *(escaped(line) if line else "\\&" for line in texts), ".fi"]
 
-    def list(self, rows):
-        """A table of the manual as a list: the first cell of each row, then the others."""
-        for first, *others in rows:
+    def list(self, items):
+        """A table of the manual as a list: the first cell of each line, then the others."""
+        for first, *others in items:
             self.item(f"\\fB{escaped(usage.plain(first))}\\fR", ". ".join(upper_first(marked(cell)).rstrip(".") for cell in others if cell != "-") + ".")
 
     def __str__(self):
@@ -144,12 +144,12 @@ def dm_page(program):
         page.item(f"\\fBdm {name}\\fR", " ".join(escaped(f"{text}.") for text in [command.about, *(f"{it.name}: {it.text}" for it in command.arguments)]))
     add_options(page, program)
     page.head("exit status")
-    page.list([[row[0], f"{row[1]}: {row[2]}"] for row in usage.tables("Exit status")[0][1:]])
+    page.list([[cells[0], f"{cells[1]}: {cells[2]}"] for cells in usage.tables("Exit status")[0][1:]])
     page.head("diagnostics")
     page.under("Why a run stopped: the line of standard error that begins with \\(dqstopped: \\(dq")
     page.list(usage.tables("Why a run stops")[0][1:])
     page.under("Faults: the line of standard error that begins with \\(dqdm: \\(dq")
-    page.list([[f"`{'`, `'.join(re.findall('`([^`]*)`', row[0]))}`", row[1]] for row in usage.tables("Faults")[0][1:]])
+    page.list([[f"`{'`, `'.join(re.findall('`([^`]*)`', cells[0]))}`", cells[1]] for cells in usage.tables("Faults")[0][1:]])
     page.head("limits")
     page.list(usage.tables("Commands and options")[1][1:])
     page.head("commands of dm debug")

@@ -1,5 +1,5 @@
-"""The names in the tables of docs/proved.md, and the files that docs/architecture.md has for each crate. A row of
-docs/proved.md lists calls of one crate, or of one module of it, whose contracts prove what the row says; a row of
+"""The names in the tables of docs/proved.md, and the files that docs/architecture.md has for each crate. A line of
+docs/proved.md lists calls of one crate, or of one module of it, whose contracts prove what the line says; a line of
 its first table lists calls of any crate, or of the one that it names."""
 import os
 import re
@@ -7,15 +7,15 @@ import re
 import specs
 
 PAGE = "docs/proved.md"
-ROW = re.compile(r"^\| `(dm(?:_\w+)?)(?:::(\w+))?`(?:, \w+)? \|.*\| ([^|]+) \|$", re.M)
+LINE = re.compile(r"^\| `(dm(?:_\w+)?)(?:::(\w+))?`(?:, \w+)? \|.*\| ([^|]+) \|$", re.M)
 NAME = re.compile(r"`([A-Za-z_][\w:]*)`")
-# The crate of the library's exports, and a row of their table: the exports, and the definitions that their contracts
+# The crate of the library's exports, and a line of their table: the exports, and the definitions that their contracts
 # name.
 EXPORTS = "dm_c"
 EXPORT = re.compile(r"^\| (`dm_c_[^|]*) \| ([^|]*) \|", re.M)
-# The first table: the calls of a row, maybe with their crate, and the definitions that their contracts name.
+# The first table: the calls of a line, maybe with their crate, and the definitions that their contracts name.
 MAIN = re.compile(r"^## Main contracts$(.*?)^(?:## |\Z)", re.M | re.S)
-MAIN_ROW = re.compile(r"^\| [^|`]+ \| ([^|]*`[^|]*) \| ([^|]*) \|$", re.M)
+MAIN_LINE = re.compile(r"^\| [^|`]+ \| ([^|]*`[^|]*) \| ([^|]*) \|$", re.M)
 # The page of the crates: an item with its crate, and a file in that crate's folder.
 CRATES = "docs/architecture.md"
 ITEM_OF_CRATE = re.compile(r"^- \*\*`(\w+)`\*\*(.*?)(?=^- |^#|\Z)", re.M | re.S)
@@ -31,7 +31,7 @@ def is_below(path, crate, module):
 
 
 def paths_of(it):
-    """The paths by which a row may name a function: its name, and before it its type, its trait or the modules
+    """The paths by which a line may name a function: its name, and before it its type, its trait or the modules
     around it."""
     *owner, name = it.name.split("::")
     modules = it.path.split("/src/")[1][: -len(".rt")].split("/")
@@ -50,9 +50,9 @@ def names_of(known, crate, module, is_private=False):
 
 
 def faults_of_main(known, text, crates, defined):
-    """The names of the first table that no crate has, or not the one that the row names."""
+    """The names of the first table that no crate has, or not the one that the line names."""
     table = MAIN.search(text)
-    for calls, says in MAIN_ROW.findall(table[1] if table else ""):
+    for calls, says in MAIN_LINE.findall(table[1] if table else ""):
         named = NAME.findall(calls)
         of = [name for name in named if name in crates]
         there = set().union(*(names_of(known, crate, "") for crate in of or crates))
@@ -71,11 +71,11 @@ def faults_of_files():
 
 
 def faults(known):
-    """Each name of a row that its crate, or its module, does not have. Behind the word `definitions` definitions are
+    """Each name of a line that its crate, or its module, does not have. Behind the word `definitions` definitions are
     named, behind `private` functions that are not public, and in the table of exports definitions of the crate of
     exports."""
     text, defined, crates = specs.text_of(PAGE), {it.name for it in known.definitions.values()}, dict(specs.crate_names())
-    for crate, module, cell in (row for row in ROW.findall(text) if row[0] in crates):
+    for crate, module, cell in (line for line in LINE.findall(text) if line[0] in crates):
         calls, _, definitions = cell.partition("definition")
         there, place = names_of(known, crate, module, cell.startswith("private ")), f"{crate}::{module}" if module else crate
         yield from (f"{PAGE}: {place} has no public `{name}`" for name in NAME.findall(calls) if name not in there)

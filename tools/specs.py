@@ -117,7 +117,7 @@ class Specs:
                 if line.startswith("pub "):
                     self.passed_on.update({f"{crate}.{module}.{name}": type_path(it.split(".")) for name, it in imported(used).items()})
             elif re.match(r"  +-- ", line) and is_inside:
-                # (The comment of a field, or of a row of a table.)
+                # (The comment of a field, or of a line of a table.)
                 current.lines.append(line)
             elif line.lstrip().startswith("-- "):
                 comment.append(line.strip()[3:])

@@ -125,15 +125,15 @@ def section(heading):
 
 
 def tables(heading):
-    """The tables of a section, each as its rows: lists of cells, the head first."""
-    found, rows = [], []
+    """The tables of a section, each as its lines: lists of cells, the head first."""
+    found, table = [], []
     for line in [*section(heading).split("\n"), ""]:
         if line.startswith("|"):
             if not re.fullmatch(r"\|[-|]+\|", line):
-                rows.append([cell.strip().replace("\\|", "|") for cell in re.split(r"(?<!\\)\|", line)[1:-1]])
-        elif rows:
-            found.append(rows)
-            rows = []
+                table.append([cell.strip().replace("\\|", "|") for cell in re.split(r"(?<!\\)\|", line)[1:-1]])
+        elif table:
+            found.append(table)
+            table = []
     if not found:
         raise Unreadable(f"{MANUAL} has no table in the section {heading}")
     return found
@@ -149,18 +149,18 @@ def plain(cell):
 
 def option_faults(usage):
     """The faults of the manual's table of options against help: names, defaults, limits."""
-    rows = {plain(row[0]): [plain(cell) for cell in row[1:]] for row in tables("Commands and options")[0][1:]}
+    told = {plain(cells[0]): [plain(cell) for cell in cells[1:]] for cells in tables("Commands and options")[0][1:]}
     options = {option.name: option for option, _ in usage.options() if option.name != "--help"}
-    for name in sorted({*rows, *options}):
-        if name not in rows or name not in options:
-            yield f"the option {name} is {'not in the help of dm' if name in rows else 'not in the table of options'}"
+    for name in sorted({*told, *options}):
+        if name not in told or name not in options:
+            yield f"the option {name} is {'not in the help of dm' if name in told else 'not in the table of options'}"
             continue
-        default, limit = rows[name][1], re.search(r"at most (\d+)", options[name].text)
+        default, limit = told[name][1], re.search(r"at most (\d+)", options[name].text)
         wanted = options[name].default
         if wanted and default != wanted:
             yield f"the default of {name} is {default}, and {wanted} in the help of dm"
-        if limit and not re.search(rf"to {limit[1]}\b", rows[name][2]):
-            yield f"the range of {name} is {rows[name][2]}, and at most {limit[1]} in the help of dm"
+        if limit and not re.search(rf"to {limit[1]}\b", told[name][2]):
+            yield f"the range of {name} is {told[name][2]}, and at most {limit[1]} in the help of dm"
 
 
 def usage_faults(usage):
@@ -177,7 +177,7 @@ def usage_faults(usage):
 
 def limit_faults(usage):
     """The faults of the manual's table of limits against what help says of arguments."""
-    table = " ".join(plain(cell) for row in tables("Commands and options")[1] for cell in row).replace(",", "")
+    table = " ".join(plain(cell) for cells in tables("Commands and options")[1] for cell in cells).replace(",", "")
     for command in usage.commands.values():
         for limit in (it for argument in command.arguments for it in re.findall(r"at most (\d+ \w+)", argument.text)):
             if not re.search(rf"\b{limit}\b", table):
@@ -186,7 +186,7 @@ def limit_faults(usage):
 
 def session_faults(usage):
     """The fault where the manual's table of the debugger's commands lists others than the help of `dm debug`."""
-    told = [", ".join(re.findall("`([^`]*)`", row[0])) for row in tables("Commands")[0][1:]]
+    told = [", ".join(re.findall("`([^`]*)`", cells[0])) for cells in tables("Commands")[0][1:]]
     wanted = usage.commands["debug"].session if "debug" in usage.commands else []
     if told != wanted:
         yield f"the commands of the debugger are {'; '.join(told)}, and {'; '.join(wanted) or 'none'} in the help of dm debug"

@@ -36,15 +36,15 @@ def lines_of(source, listing):
     """The offset in the code and the number of each source line with code, the offset of each function, and the size
     of the code, from as86's listing."""
     lines, functions, number, opened, size, is_ours = [], {}, 0, None, 0, True
-    for row in listing.splitlines():
-        text = row[43:].strip()
+    for line in listing.splitlines():
+        text = line[43:].strip()
         if included := INCLUDED.match(text):
             is_ours = included[1] == source
         elif at := SOURCE.match(text):
             number = int(at[1])
-        if label := LABEL.match(row):
+        if label := LABEL.match(line):
             functions[label[2]], opened = int(label[1], 16), number
-        if code := LISTED.match(row):
+        if code := LISTED.match(line):
             # What a function does first belongs to its head, so that GDB has its breakpoint at the first line of the
             # body.
             opened = opened if PROLOGUE.match(text) else None

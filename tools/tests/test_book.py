@@ -30,7 +30,7 @@ class Made(unittest.TestCase):
         self.assertEqual(links - places, set())
         self.assertGreater(len(links), 500)
 
-    def test_each_row_of_a_table_is_whole(self):
+    def test_each_line_of_a_table_is_whole(self):
         columns = None
         for line in self.texts["definitions.md"].split("\n"):
             if not line.startswith("|"):

@@ -1,4 +1,4 @@
-"""Tests of `proved`: each name of docs/proved.md that its row's crate does not have is reported, and each such file
+"""Tests of `proved`: each name of docs/proved.md that its line's crate does not have is reported, and each such file
 of docs/architecture.md. From the top: `python3 -m unittest discover -s tools/tests`."""
 import os
 import sys
@@ -10,8 +10,8 @@ sys.path.insert(0, f"{ROOT}/tools")
 import proved  # noqa: E402
 import specs  # noqa: E402
 
-# Names in the row of a crate or a module, and words of the fault, or None where there is none.
-ROWS = (
+# Names in the line of a crate or a module, and words of the fault, or None where there is none.
+LINES = (
     ("`dm_reports`", "`put_report`, `put_not_listed`", None),
     # (It stands in another crate.)
     ("`dm_reports`", "`put_pages`", "dm_reports has no public `put_pages`"),
@@ -35,8 +35,8 @@ ROWS = (
 )
 
 
-# The calls of a row of the first table, what it says, and words of the fault.
-MAIN_ROWS = (
+# The calls of a line of the first table, what it says, and words of the fault.
+MAIN_LINES = (
     ("`Machine::run`, `decode`", "a run (`IsRun`)", None),
     ("`allocate`, `free` of `dm_arena`", "`Allocates`", None),
     ("`allocate`, `walk` of `dm_arena`", "`Allocates`", "`walk` is no public name of dm_arena"),
@@ -63,7 +63,7 @@ class Names(unittest.TestCase):
         self.assertEqual([*proved.faults(specs.known())], [])
 
     def test_each_other_of_the_first_table_is_reported(self):
-        for calls, says, words in MAIN_ROWS:
+        for calls, says, words in MAIN_LINES:
             with self.subTest(calls=calls, says=says):
                 found = faults_in(proved.PAGE, f"## Main contracts\n\n| What | The contract of | Says |\n|---|---|---|\n| runs | {calls} | {says} |\n\n## By crate\n")
                 self.assertEqual(len(found), 0 if words is None else 1, found)
@@ -77,11 +77,11 @@ class Names(unittest.TestCase):
                 self.assertIn(words or "", " ".join(found))
 
     def test_each_other_is_reported(self):
-        for call, names, words in ROWS:
+        for call, names, words in LINES:
             is_export = call.startswith("`dm_c_")
-            row = f"| {call} | {names} | says |\n" if is_export else f"| {call} | says `this` | {names} |\n"
-            with self.subTest(row=row):
-                found = faults_in(proved.PAGE, row)
+            line = f"| {call} | {names} | says |\n" if is_export else f"| {call} | says `this` | {names} |\n"
+            with self.subTest(line=line):
+                found = faults_in(proved.PAGE, line)
                 self.assertEqual(len(found), 0 if words is None else 1, found)
                 self.assertIn(words or "", " ".join(found))
 

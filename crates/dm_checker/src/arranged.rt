@@ -12,7 +12,7 @@ use crate::acts::Before;
 use crate::watch::{Watch, Watched};
 use dm_cpu::Cpu;
 use dm_findings::{Call, Finding};
-use dm_origins::outcomes::{frees, put, resizes, stays_resident};
+use dm_origins::outcomes::{append_finding, frees, resizes, stays_resident};
 use dm_services::function_of;
 use dm_touches::{FarAddress, is_in_free};
 use std::alloc::AllocError;
@@ -29,7 +29,7 @@ fn put_other_block(
 {
     let header = &watched.header;
     if header.segment as u32 + 1 == segment as u32 && header.owner != 0 && header.owner != present {
-        return put(out, Finding::OtherFreed(segment, header.owner));
+        return append_finding(out, Finding::OtherFreed(segment, header.owner));
     }
     Ok(())
 }
@@ -71,7 +71,7 @@ fn put_stack_in(out: &mut Vec<Finding>, at: u32, watched: &Watched) -> Result<()
     ensures { OnOk result (out.new.items ≡ out.old.items ++ stack_in at (header_of watched.now)) }
 {
     if is_in_free(&watched.header, at) {
-        return put(
+        return append_finding(
             out,
             Finding::StackFreed(watched.header.segment.wrapping_add(1)),
         );
@@ -136,7 +136,7 @@ fn put_not_resized(
     ensures { OnOk result (out.new.items ≡ out.old.items ++ not_resized present before.now number (map header_of headers.now)) }
 {
     if stays_resident(function_of(number)) && !has_size(present, before.dx, headers) {
-        return put(out, Finding::NotResized(before.dx));
+        return append_finding(out, Finding::NotResized(before.dx));
     }
     Ok(())
 }

@@ -169,7 +169,7 @@ impl CheckedRun {
     }
 
     /// How many steps the run may still make, where it goes on.
-    pub fn left(&self) -> u64
+    pub fn steps_remaining(&self) -> u64
         ensures { result ≡ self.now.left }
     {
         self.left

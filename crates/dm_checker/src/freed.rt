@@ -7,7 +7,7 @@ ghost use Rattle.dm_checker.specs.Watching.{header_of};
 use crate::watch::Watched;
 use dm_cpu::Cpu;
 use dm_findings::{Call, Finding};
-use dm_origins::outcomes::{frees, put};
+use dm_origins::outcomes::{append_finding, frees};
 use dm_services::function_of;
 use std::alloc::AllocError;
 
@@ -38,7 +38,7 @@ pub(crate) fn put_freed_twice(
         return Ok(());
     };
     if frees(function_of(number)) && !after.flags.carry && is_free_at(headers, before.es) {
-        return put(out, Finding::FreedTwice(before.es));
+        return append_finding(out, Finding::FreedTwice(before.es));
     }
     Ok(())
 }

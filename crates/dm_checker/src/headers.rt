@@ -11,7 +11,7 @@ ghost use Rattle.dm_checker.specs.inner.Watching.{IsKept, contents_by};
 
 use crate::watch::{Watched, bits_at};
 use dm_findings::{Contents, Finding};
-use dm_origins::outcomes::put;
+use dm_origins::outcomes::append_finding;
 use dm_pool::Block;
 use dm_space::Space;
 use std::alloc::AllocError;
@@ -113,7 +113,7 @@ fn put_overwritten(
     if is_same(kept, old) {
         return Ok(());
     }
-    put(out, Finding::Overwritten(watched.header.segment, old, kept))
+    append_finding(out, Finding::Overwritten(watched.header.segment, old, kept))
 }
 
 /// Appends that a header was mapped away, if its page was freed or its segment now shows another signature, owner or
@@ -132,7 +132,7 @@ fn put_mapped_away(
             return Ok(());
         }
     }
-    put(out, Finding::MappedAway(watched.header.segment))
+    append_finding(out, Finding::MappedAway(watched.header.segment))
 }
 
 /// Appends which headers were overwritten, in their order.

@@ -27,7 +27,7 @@ use dm_findings::{Act, Call, Finding, Found, Report};
 use dm_machine::{Machine, Stop, tables_and_memory_are_consistent};
 use dm_origins::Origins;
 use dm_origins::leaks::put_leaks;
-use dm_origins::outcomes::{arranges, call_stays_resident, put, put_of_call};
+use dm_origins::outcomes::{append_call_findings, append_finding, arranges, call_stays_resident};
 use std::alloc::{AllocError, Global};
 
 /// Appends to `out` that the step destroyed the arena or made it whole again, if it did, by where the arena's list
@@ -40,8 +40,8 @@ fn put_turned(
     ensures { OnOk result (out.new.items ≡ out.old.items ++ turn_found (broken_at before.now) (broken_at after.now)) }
 {
     match (before, after) {
-        (None, Some(broken)) => put(out, Finding::Destroyed(broken.segment)),
-        (Some(_), None) => put(out, Finding::Whole),
+        (None, Some(broken)) => append_finding(out, Finding::Destroyed(broken.segment)),
+        (Some(_), None) => append_finding(out, Finding::Whole),
         _ => Ok(()),
     }
 }
@@ -67,7 +67,7 @@ fn look_anew(
     put_all_mapped_away(out, space, &old.windows, &old.headers)?;
     put_turned(out, &old.broken, &new.broken)?;
     put_freed_twice(out, &before.cpu, &after, before.call, &old.headers)?;
-    put_of_call(out, &before.cpu, &after, before.call)?;
+    append_call_findings(out, &before.cpu, &after, before.call)?;
     put_arranged(out, before, &after, &old.headers, new)
 }
 
@@ -89,7 +89,7 @@ fn look(
 {
     if !arranges(&before.cpu, before.call) && kept.is_seen(machine) {
         record_step(alloc, origins, before, kept, kept, machine)?;
-        return put_of_call(out, &before.cpu, &machine.cpu(), before.call);
+        return append_call_findings(out, &before.cpu, &machine.cpu(), before.call);
     }
     let new = read_arena(alloc, machine)?;
     look_anew(out, before, kept, &new, machine)?;

@@ -81,9 +81,9 @@ clears_none s (c.Clear a) = not (is_set s.points a)
 clears_none s _ = false
 
 -- whether the command is B for a breakpoint that is not set, while sixteen others are
-abbrev pub is_over : Debugged → Command → Bool
-is_over s (c.Break a) = is_seventeenth s.points a
-is_over s _ = false
+abbrev pub sets_seventeenth : Debugged → Command → Bool
+sets_seventeenth s (c.Break a) = is_seventeenth s.points a
+sets_seventeenth s _ = false
 
 -- whether the line is no command (None), or clears a breakpoint that is not set
 abbrev pub is_syntax : Debugged → Option Command → Bool
@@ -93,7 +93,7 @@ is_syntax s (Some command) = clears_none s command
 -- whether the line sets a seventeenth breakpoint
 abbrev pub is_full : Debugged → Option Command → Bool
 is_full s None = false
-is_full s (Some command) = is_over s command
+is_full s (Some command) = sets_seventeenth s command
 
 -- the line's command was executed, which led from session s to t, and all that it prints was written: `before` and
 -- `after` are what `out` had taken before and after

@@ -9,7 +9,7 @@ ghost use Rattle.dm_requests.specs.commands.Commands.{command_of};
 ghost use Rattle.dm_machine.specs.Run.{IsRun};
 ghost use Rattle.dm_machine.specs.Until.{RunsUntil};
 ghost use Rattle.dm_debug.specs.Points.{with_point, without_point};
-ghost use Rattle.dm_debug.specs.Sessions.{new_session, done, with_machine, with_points, with_entered, Does, DoesPart, clears_none, is_over, is_syntax, is_full, IsAnswered, IsCutOff, IsPartlyWritten};
+ghost use Rattle.dm_debug.specs.Sessions.{new_session, done, with_machine, with_points, with_entered, Does, DoesPart, clears_none, sets_seventeenth, is_syntax, is_full, IsAnswered, IsCutOff, IsPartlyWritten};
 
 use crate::listings::{arena, dump, extended, output, pages, put_machine, unassemble};
 use crate::points::{Points, put_points};
@@ -136,8 +136,8 @@ impl Session {
     }
 
     /// Whether the command is B for a breakpoint that is not set, while sixteen others are.
-    fn is_over(&self, command: &Command) -> bool
-        ensures { result ≡ is_over self.now command.now }
+    fn sets_seventeenth(&self, command: &Command) -> bool
+        ensures { result ≡ sets_seventeenth self.now command.now }
     {
         match command {
             Command::Break(address) => self.points.is_seventeenth(*address),
@@ -148,7 +148,7 @@ impl Session {
     /// Adds a breakpoint at the end of the session's list, where there must be room for it; if it is set already, the
     /// list stays. The machine stays.
     fn set(&mut self, address: LogicalAddress)
-        requires { is_over self.old (Break address) ≡ false }
+        requires { sets_seventeenth self.old (Break address) ≡ false }
         ensures { self.new ≡ with_points self.old (with_point self.old.points address) }
     {
         self.points.set(address);
@@ -164,7 +164,7 @@ impl Session {
     /// B: sets a breakpoint, unless it is set already, and appends the line `ok` to `text`. An `Err` is a failed
     /// allocation, and the session stays as it was.
     fn set_point(&mut self, address: LogicalAddress, text: &mut Vec<u8>) -> Result<(), AllocError>
-        requires over { is_over self.old (Break address) ≡ false }
+        requires over { sets_seventeenth self.old (Break address) ≡ false }
         ensures ok { OnOk result (self.new ≡ with_points self.old (with_point self.old.points address)) }
         ensures told { OnOk result (text.new.items ≡ text.old.items ++ done) }
         ensures err { OnErr result (self.new ≡ self.old) }
@@ -212,7 +212,7 @@ impl Session {
     /// breakpoints. An `Err` is a failed allocation: the run of a G, or some or all steps of a T, may then have been
     /// made; after any other command the session is unchanged.
     fn perform(&mut self, command: &Command, text: &mut Vec<u8>) -> Result<(), AllocError>
-        requires over { is_over self.old command.now ≡ false }
+        requires over { sets_seventeenth self.old command.now ≡ false }
         requires empty { text.old.items ≡ [] }
         ensures ok { OnOk result (Does self.old command.now text.new.items self.new) }
         ensures err { OnErr result (DoesPart self.old command.now self.new) }
@@ -264,7 +264,7 @@ impl Session {
         if self.clears_none(&command) {
             return Err(CommandRefusal::Syntax);
         }
-        if self.is_over(&command) {
+        if self.sets_seventeenth(&command) {
             return Err(CommandRefusal::Full);
         }
         let mut text = Vec::new(alloc);

@@ -11,7 +11,7 @@ use Rattle.dm_ins.specs.declared.prefix.Prefixes.{Prefixes}
 use Rattle.dm_ins.specs.declared.operand.SegmentRegister.TheVariants.{Es, Cs, Ss, Ds}
 use Rattle.dm_ins.specs.declared.prefix.Repeat.TheVariants.{NotEqual, Equal}
 use Rattle.dm_ins.specs.declared.action.Action.{Action}
-use Rattle.dm_ins.specs.declared.table.Row.{Row}
+use Rattle.dm_ins.specs.declared.table.Template.{Template}
 use Rattle.dm_ins.specs.declared.table.OpcodeEntry.{OpcodeEntry}
 use Rattle.dm_ins.specs.declared.table.OpcodeEntry.TheVariants.{Unlisted, Plain, Group, Second}
 use Rattle.dm_ins.specs.Table.{entry_of}
@@ -19,9 +19,9 @@ use Rattle.dm_ins.specs.declared.fields.Fields.{Fields}
 use Rattle.dm_ins.specs.declared.operand.Operand.{Operand}
 use Rattle.dm_ins.specs.declared.table.OperandKind.{OperandKind}
 use Rattle.dm_ins.specs.declared.table.OperandKind.TheVariants as is
-use Rattle.dm_ins.specs.Spelling.{word_bytes, SpellsMemory, SpellsFields, Fills, has_fields, no_fields, MaySpellFields, HasRow, SpellsAction, prefix_byte, no_prefix, with_prefix, kept, SpellsPrefixed}
+use Rattle.dm_ins.specs.Spelling.{word_bytes, SpellsMemory, SpellsFields, Fills, has_fields, no_fields, MaySpellFields, HasTemplate, SpellsAction, prefix_byte, no_prefix, with_prefix, kept, SpellsPrefixed}
 use Rattle.dm_ins.specs.Walks.{◌>>=◌}
-use Rattle.dm_decode.specs.inner.Reading.{word_at, memory_at, fields_at, operand_at, row_at, action_at, prefix_of, without, stripped, strips, prefixed_at}
+use Rattle.dm_decode.specs.inner.Reading.{word_at, memory_at, fields_at, operand_at, template_at, action_at, prefix_of, without, stripped, strips, prefixed_at}
 
 pub word_again : (n : ℕ) (rest : List ℕ) → word_at (word_bytes n ++ rest) ≡ Some (n, rest)
 unfolding word_at
@@ -70,28 +70,28 @@ operand_again (is.Word r) m o d rest h = rw (h.0, h.1) refl
 operand_again (is.TheSegment r) m o d rest h = rw (h.0, h.1) refl
 operand_again is.One m o d rest h = rw (h.0, h.1) refl
 
-abbrev pub with_row : Row → Fields × List ℕ → Option ((Row × Fields) × List ℕ)
-with_row p f = Some ((p, f.0), f.1)
+abbrev pub with_template : Template → Fields × List ℕ → Option ((Template × Fields) × List ℕ)
+with_template p f = Some ((p, f.0), f.1)
 
-plain_again : (b : Bool) (p : Row) (m : Fields) (d rest : List ℕ) → MaySpellFields b m d
-    → cond b (fields_at (d ++ rest) >>= with_row p) (Some ((p, no_fields), d ++ rest)) ≡ Some ((p, m), rest)
+plain_again : (b : Bool) (p : Template) (m : Fields) (d rest : List ℕ) → MaySpellFields b m d
+    → cond b (fields_at (d ++ rest) >>= with_template p) (Some ((p, no_fields), d ++ rest)) ≡ Some ((p, m), rest)
 plain_again true p m d rest h = rw (fields_again m d rest h) refl
 plain_again false p m d rest h = rw (h.0, h.1) refl
 
-row_again : (e : OpcodeEntry) (m : Fields) (r : Row) (d rest : List ℕ) → HasRow e m d r → row_at e (d ++ rest) ≡ Some ((r, m), rest)
-unfolding row_at
-row_again Unlisted m r d rest h = absurd h
-row_again (Plain p) m r d rest h = rw h.0 (plain_again (has_fields p) p m d rest h.1)
-row_again (Group g) m r d rest h = rw (fields_again m d rest h.1) (rw h.0 refl)
-row_again (Second c p) m r d rest h = rw (h.0, h.1, h.2) (rw (eq-eqb c c refl) refl)
+template_again : (e : OpcodeEntry) (m : Fields) (r : Template) (d rest : List ℕ) → HasTemplate e m d r → template_at e (d ++ rest) ≡ Some ((r, m), rest)
+unfolding template_at
+template_again Unlisted m r d rest h = absurd h
+template_again (Plain p) m r d rest h = rw h.0 (plain_again (has_fields p) p m d rest h.1)
+template_again (Group g) m r d rest h = rw (fields_again m d rest h.1) (rw h.0 refl)
+template_again (Second c p) m r d rest h = rw (h.0, h.1, h.2) (rw (eq-eqb c c refl) refl)
 
 action_again : (a : Action) (d rest : List ℕ) → SpellsAction a d → action_at (d ++ rest) ≡ Some (a, rest)
 unfolding action_at
 action_again a d rest h =
     let g : (h.behind ++ (h.first_part ++ h.second_part)) ++ rest ≡ h.behind ++ (h.first_part ++ (h.second_part ++ rest)) = simp append_assoc in
-    rw h.parts (rw g (rw (row_again (entry_of h.first_byte) h.fields h.row h.behind (h.first_part ++ (h.second_part ++ rest)) h.has_row)
-    (rw (operand_again h.row.first h.fields a.first h.first_part (h.second_part ++ rest) h.first)
-    (rw (operand_again h.row.second h.fields a.second h.second_part rest h.second) (rw (← h.mnemonic) refl)))))
+    rw h.parts (rw g (rw (template_again (entry_of h.first_byte) h.fields h.template h.behind (h.first_part ++ (h.second_part ++ rest)) h.has_template)
+    (rw (operand_again h.template.first h.fields a.first h.first_part (h.second_part ++ rest) h.first)
+    (rw (operand_again h.template.second h.fields a.second h.second_part rest h.second) (rw (← h.mnemonic) refl)))))
 
 -- ---- prefixes
 
@@ -137,7 +137,7 @@ prefix_found b y e =
           ]
     ]
 
--- no row begins with a prefix's byte
+-- no template begins with a prefix's byte
 prefix_unlisted : (x : Prefix) → entry_of (prefix_byte x) ≡ Unlisted
 unfolding entry_of
 prefix_unlisted (prefix.Segment Es) = refl
@@ -148,8 +148,8 @@ prefix_unlisted prefix.Lock = refl
 prefix_unlisted (prefix.Repeat NotEqual) = refl
 prefix_unlisted (prefix.Repeat Equal) = refl
 
-no_row : (x : Prefix) (b : ℕ) (m : Fields) (d : List ℕ) (r : Row) → b ≡ prefix_byte x → HasRow (entry_of b) m d r → ⊥
-no_row x b m d r e h = let f : entry_of b ≡ Unlisted = ap entry_of e ∙ prefix_unlisted x in subst (λ t. HasRow t m d r) f h
+no_template : (x : Prefix) (b : ℕ) (m : Fields) (d : List ℕ) (r : Template) → b ≡ prefix_byte x → HasTemplate (entry_of b) m d r → ⊥
+no_template x b m d r e h = let f : entry_of b ≡ Unlisted = ap entry_of e ∙ prefix_unlisted x in subst (λ t. HasTemplate t m d r) f h
 
 stays_by : (o : Option Prefix) (p : Prefixes) (b : ℕ) (d : List ℕ) → ((x : Prefix) → o ≡ Some x → ⊥) → without p (b ∷ d) o b d ≡ (p, b ∷ d)
 stays_by None p b d h = refl
@@ -157,7 +157,7 @@ stays_by (Some x) p b d h = absurd (h x refl)
 
 action_stays : (a : Action) (d rest : List ℕ) (p : Prefixes) → SpellsAction a d → stripped p (d ++ rest) ≡ (p, d ++ rest)
 unfolding stripped
-action_stays a d rest p h = rw h.parts (stays_by (prefix_of h.first_byte) p h.first_byte _ (λ x e. no_row x h.first_byte h.fields h.behind h.row (prefix_found h.first_byte x e) h.has_row))
+action_stays a d rest p h = rw h.parts (stays_by (prefix_of h.first_byte) p h.first_byte _ (λ x e. no_template x h.first_byte h.fields h.behind h.template (prefix_found h.first_byte x e) h.has_template))
 
 strips_again : (n : ℕ) (p : Prefixes) (xs : List Prefix) (rest : List ℕ) → length xs ≤ n → ((q : Prefixes) → stripped q rest ≡ (q, rest)) → strips n p (map prefix_byte xs ++ rest) ≡ (kept p xs, rest)
 unfolding stripped

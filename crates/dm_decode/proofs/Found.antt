@@ -12,15 +12,15 @@ use Rattle.dm_ins.specs.declared.prefix.Prefixes.{Prefixes}
 use Rattle.dm_ins.specs.declared.action.Action.{Action}
 use Rattle.dm_ins.specs.declared.table.OperandKind.{OperandKind}
 use Rattle.dm_ins.specs.declared.table.OperandKind.TheVariants as is
-use Rattle.dm_ins.specs.declared.table.Row.{Row}
+use Rattle.dm_ins.specs.declared.table.Template.{Template}
 use Rattle.dm_ins.specs.declared.table.OpcodeEntry.{OpcodeEntry}
 use Rattle.dm_ins.specs.declared.table.OpcodeEntry.TheVariants.{Unlisted, Plain, Group, Second}
 use Rattle.dm_ins.specs.Table.{entry_of, member_of}
-use Rattle.dm_ins.specs.Spelling.{word_bytes, SpellsMemory, SpellsFields, Fills, has_fields, no_fields, MaySpellFields, HasRow, SpellsAction, prefix_byte, no_prefix, with_prefix, kept, SpellsPrefixed}
+use Rattle.dm_ins.specs.Spelling.{word_bytes, SpellsMemory, SpellsFields, Fills, has_fields, no_fields, MaySpellFields, HasTemplate, SpellsAction, prefix_byte, no_prefix, with_prefix, kept, SpellsPrefixed}
 use Rattle.dm_ins.specs.Walks.{◌>>=◌}
-use Rattle.dm_decode.specs.inner.Reading.{byte_at, word_at, memory_at, fields_at, operand_at, row_at, action_at, prefix_of, without, stripped, strips, prefixed_at}
+use Rattle.dm_decode.specs.inner.Reading.{byte_at, word_at, memory_at, fields_at, operand_at, template_at, action_at, prefix_of, without, stripped, strips, prefixed_at}
 use Rattle.dm_ins.proofs.Walks.{bind_some}
-use Rattle.dm_decode.proofs.Again.{with_row, prefix_found}
+use Rattle.dm_decode.proofs.Again.{with_template, prefix_found}
 
 abbrev pub IsBytes : List ℕ → Type 0
 IsBytes bytes = (i : ℕ) → get_or bytes i 0 < 2 ^ 8
@@ -169,55 +169,55 @@ operand_found (is.Word r) m bytes x h e = empty m bytes x h (is.Word r) _ (refl,
 operand_found (is.TheSegment r) m bytes x h e = empty m bytes x h (is.TheSegment r) _ (refl, refl) e
 operand_found is.One m bytes x h e = empty m bytes x h is.One _ (refl, refl) e
 
--- ---- rows
+-- ---- templates
 
-plain_found : (b : Bool) (p : Row) (bytes : List ℕ) (x : (Row × Fields) × List ℕ) → IsBytes bytes
-    → cond b (fields_at bytes >>= with_row p) (Some ((p, no_fields), bytes)) ≡ Some x
+plain_found : (b : Bool) (p : Template) (bytes : List ℕ) (x : (Template × Fields) × List ℕ) → IsBytes bytes
+    → cond b (fields_at bytes >>= with_template p) (Some ((p, no_fields), bytes)) ≡ Some x
     → (d : List ℕ) × Takes bytes d x.1 × (x.0.0 ≡ p) × MaySpellFields b x.0.1 d
 plain_found true p bytes x h e =
-    let a = bind_some (fields_at bytes) (with_row p) x e in
+    let a = bind_some (fields_at bytes) (with_template p) x e in
     let f = fields_found bytes a.0 h a.1 in
-    subst (λ (y : (Row × Fields) × List ℕ). (d : List ℕ) × Takes bytes d y.1 × (y.0.0 ≡ p) × SpellsFields y.0.1 d) (some_is _ x a.2) (f.0, f.1, refl, f.2)
+    subst (λ (y : (Template × Fields) × List ℕ). (d : List ℕ) × Takes bytes d y.1 × (y.0.0 ≡ p) × SpellsFields y.0.1 d) (some_is _ x a.2) (f.0, f.1, refl, f.2)
 plain_found false p bytes x h e =
-    subst (λ (y : (Row × Fields) × List ℕ). (d : List ℕ) × Takes bytes d y.1 × (y.0.0 ≡ p) × ((y.0.1 ≡ no_fields) × (d ≡ []))) (some_is ((p, no_fields), bytes) x e) ([], takes_none bytes h, refl, (refl, refl))
+    subst (λ (y : (Template × Fields) × List ℕ). (d : List ℕ) × Takes bytes d y.1 × (y.0.0 ≡ p) × ((y.0.1 ≡ no_fields) × (d ≡ []))) (some_is ((p, no_fields), bytes) x e) ([], takes_none bytes h, refl, (refl, refl))
 
-abbrev RowFound : OpcodeEntry → List ℕ → (Row × Fields) × List ℕ → Type 0
-RowFound e bytes x = (d : List ℕ) × Takes bytes d x.1 × HasRow e x.0.1 d x.0.0
+abbrev TemplateFound : OpcodeEntry → List ℕ → (Template × Fields) × List ℕ → Type 0
+TemplateFound e bytes x = (d : List ℕ) × Takes bytes d x.1 × HasTemplate e x.0.1 d x.0.0
 
-row_found : (e : OpcodeEntry) (bytes : List ℕ) (x : (Row × Fields) × List ℕ) → IsBytes bytes → row_at e bytes ≡ Some x → RowFound e bytes x
-unfolding row_at
-row_found Unlisted bytes x h e = absurd cc
-row_found (Plain p) bytes x h e =
+template_found : (e : OpcodeEntry) (bytes : List ℕ) (x : (Template × Fields) × List ℕ) → IsBytes bytes → template_at e bytes ≡ Some x → TemplateFound e bytes x
+unfolding template_at
+template_found Unlisted bytes x h e = absurd cc
+template_found (Plain p) bytes x h e =
     let f = plain_found (has_fields p) p bytes x h e in
     (f.0, f.1, (f.2, f.3))
-row_found (Group g) bytes x h e =
+template_found (Group g) bytes x h e =
     let a = bind_some (fields_at bytes) _ x e in
     let r = bind_some (member_of g a.0.0.register) _ x a.2 in
     let f = fields_found bytes a.0 h a.1 in
-    subst (RowFound (Group g) bytes) (some_is _ x r.2) (f.0, f.1, (r.1, f.2))
-row_found (Second c p) bytes x h e =
+    subst (TemplateFound (Group g) bytes) (some_is _ x r.2) (f.0, f.1, (r.1, f.2))
+template_found (Second c p) bytes x h e =
     let b = bind_some (byte_at bytes) _ x e in
     let t = byte_found bytes b.0.0 b.0.1 h b.1 in
     elim (chosen b.0.0 c _ _ x b.2) [
-      | inl s ↦ subst (RowFound (Second c p) bytes) (some_is _ x s.1) (b.0.0 ∷ [], t.0, (refl, refl, ap (λ (k : ℕ). k ∷ []) s.0))
+      | inl s ↦ subst (TemplateFound (Second c p) bytes) (some_is _ x s.1) (b.0.0 ∷ [], t.0, (refl, refl, ap (λ (k : ℕ). k ∷ []) s.0))
       | inr s ↦ absurd (none_is_not x s.1)
     ]
 
 abbrev ActionFound : List ℕ → Action × List ℕ → Type 0
 ActionFound bytes x = (d : List ℕ) × Takes bytes d x.1 × SpellsAction x.0 d
 
--- the parts of a row spell its action
-action_spelled : (b : ℕ) (m : Fields) (r : Row) (behind first_part second_part : List ℕ) (first second : Operand)
-    → HasRow (entry_of b) m behind r → Fills r.first m first first_part → Fills r.second m second second_part
+-- the parts of a template spell its action
+action_spelled : (b : ℕ) (m : Fields) (r : Template) (behind first_part second_part : List ℕ) (first second : Operand)
+    → HasTemplate (entry_of b) m behind r → Fills r.first m first first_part → Fills r.second m second second_part
     → SpellsAction (record { mnemonic = r.mnemonic; first = first; second = second }) (b ∷ behind ++ (first_part ++ second_part))
 action_spelled b m r behind first_part second_part first second h p q = record {
   first_byte = b;
   fields = m;
-  row = r;
+  template = r;
   behind = behind;
   first_part = first_part;
   second_part = second_part;
-  has_row = h;
+  has_template = h;
   mnemonic = refl;
   first = p;
   second = q;
@@ -229,8 +229,8 @@ unfolding action_at
 action_found bytes x h e =
     let b = bind_some (byte_at bytes) _ x e in
     let t0 = byte_found bytes b.0.0 b.0.1 h b.1 in
-    let r = bind_some (row_at (entry_of b.0.0) b.0.1) _ x b.2 in
-    let t1 = row_found (entry_of b.0.0) b.0.1 r.0 t0.0.rest_fits r.1 in
+    let r = bind_some (template_at (entry_of b.0.0) b.0.1) _ x b.2 in
+    let t1 = template_found (entry_of b.0.0) b.0.1 r.0 t0.0.rest_fits r.1 in
     let o = bind_some (operand_at r.0.0.0.first r.0.0.1 r.0.1) _ x r.2 in
     let t2 = operand_found r.0.0.0.first r.0.0.1 r.0.1 o.0 t1.1.rest_fits o.1 in
     let p = bind_some (operand_at r.0.0.0.second r.0.0.1 o.0.1) _ x o.2 in

@@ -1,5 +1,5 @@
 mod Readings
-pub mod Rows
+pub mod Templates
 pub mod One
 mod Known
 pub mod Own

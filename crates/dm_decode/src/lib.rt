@@ -11,7 +11,7 @@ mod names;
 mod operands;
 mod prefixing;
 mod reading;
-mod rows;
+mod templates;
 mod texts;
 pub mod words;
 

@@ -5,7 +5,7 @@ ghost use Rattle.dm_ins.specs.Spelling.{no_prefix, with_prefix};
 ghost use Rattle.dm_decode.specs.inner.Reading.{prefix_of, prefixed_at, seen, stripped, strips};
 
 use crate::reading::byte_of;
-use crate::rows::action_of;
+use crate::templates::action_of;
 use dm_ins::prefix::Prefix;
 use dm_ins::{Action, Prefixes, Repeat, SegmentRegister};
 

@@ -12,7 +12,7 @@ use dm_space::entry_points::Driver;
 /// Performs the call of the driver, before the return to the program: INT 67h changes registers, memory and the tables
 /// of expanded memory, the extended memory driver registers, memory and its own tables, INT 2Fh registers alone. The
 /// count of steps stays.
-fn act(parts: &mut Parts, driver: Driver)
+fn call_driver(parts: &mut Parts, driver: Driver)
     requires { AreConsistent parts.old }
     ensures { parts.new ≡ acted parts.old driver }
 {
@@ -52,7 +52,7 @@ pub fn drive(parts: &mut Parts, driver: Driver)
     ensures answer { parts.new ≡ (driven parts.old driver).state }
     ensures consistent { AreConsistent parts.new }
 {
-    act(parts, driver);
+    call_driver(parts, driver);
     return_to_caller(parts, driver);
     parts.count();
 }

@@ -29,7 +29,7 @@ use Rattle.dm_ems.proofs.Owned.{each_block}
 use Rattle.dm_ems.proofs.Consistent.{consistent_append, consistent_appended, consistent_cut, consistent_slot}
 use Rattle.dm_ems.proofs.HandleBlocks.{none_left}
 
--- ---- rows
+-- ---- calls
 
 pub record Keeps {A : Type 0} (x : Expanded) (r : Result (A × Expanded) Status) : Type 0 where
   pub kept : IsConsistent (state_after x r)

@@ -131,7 +131,7 @@ pub cut_leaves : (x : Expanded) (h n : ℕ) → LeavesOutside x (cut x h n)
 unfolding cut
 cut_leaves x h n = forgotten_leaves x (drop n (blocks_of x.ems h))
 
--- ---- rows
+-- ---- calls
 
 pub record Leaves {A : Type 0} (x : Expanded) (r : Result (A × Expanded) Status) : Type 0 where
   pub kept : LeavesOutside x (state_after x r)

@@ -1,5 +1,4 @@
 -- Definitions that private contracts and proofs alone name.
-pub mod Calls
 pub mod Tables
 pub mod Laws
 pub mod Consistent

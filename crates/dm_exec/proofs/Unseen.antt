@@ -40,7 +40,7 @@ use Rattle.dm_operations.specs.Shifts.{shifted}
 use Rattle.dm_operations.specs.Products.{multiplied, after_division, divided}
 use Rattle.dm_exec.specs.Jumps.{target_of, jumped, jumped_where, jumped_if, counted_down, looped, far_jumped, called, far_called, returned, transferred}
 use Rattle.dm_exec.specs.Strings.{source, destination, once, counted, string_effect}
-use Rattle.dm_exec.specs.Effect.{act, effect}
+use Rattle.dm_exec.specs.Effect.{operation_effect, effect}
 use Rattle.dm_space.specs.Unseen.{IsUnseen}
 use Rattle.dm_cpu.specs.Unseen.{changed}
 use Rattle.dm_cpu.proofs.Unseen.{value_of-unseen, with_operand-unseen, far_segment_of-unseen, value_in-unseen, read_in-unseen, written_in-unseen, push-unseen, interrupt_return-unseen, far_returned-unseen}
@@ -253,24 +253,24 @@ unfolding string_effect
 string_effect-unseen f u w g override None x start = once-unseen f u w g override x
 string_effect-unseen f u w g override (Some r) x start = let h = once w g override x in simp (once-unseen f u) (choice-unseen f u (g.cpu.cx == 0) g (on_cpu h (counted r x start h.cpu)))
 
-act-unseen : (f : Memory → Memory) (u : IsUnseen f) (g : Guest) (p : Prefixes) (start : ℕ) (x : Operation) (a b : Operand) → act (changed f g) p start x a b ≡ changed f (act g p start x a b)
-act-unseen f u g p start (is.Move x) a b = move_effect-unseen f u g p.segment x a b
-act-unseen f u g p start (is.Stack x) a b = stack_effect-unseen f u g p.segment x a
-act-unseen f u g p start (is.Arithmetic x) a b = arithmetic-unseen f u g p.segment x a b
-act-unseen f u g p start (is.Shift x) a b = shifted-unseen f u g p.segment x a b
-act-unseen f u g p start (is.Multiply s) a b = multiplied-unseen f u g p.segment s a
-act-unseen f u g p start (is.Divide s) a b = divided-unseen f u g p.segment s a
-act-unseen f u g p start (is.Adjust x) a b = refl
-act-unseen f u g p start (is.JumpIf x w) a b = jumped_if-unseen f u g p.segment x w a
-act-unseen f u g p start (is.Loop x) a b = looped-unseen f u g p.segment x a
-act-unseen f u g p start (is.Transfer x) a b = transferred-unseen f u g p.segment x a
-act-unseen f u g p start (is.Interrupt x) a b = interrupt_effect-unseen f u g p.segment x a
-act-unseen f u g p start (is.String x w) a b = string_effect-unseen f u w g p.segment p.repeat x start
-act-unseen f u g p start (is.Flag x) a b = refl
-act-unseen f u g p start is.Nothing a b = refl
-act-unseen f u g p start is.Halt a b = refl
+operation_effect-unseen : (f : Memory → Memory) (u : IsUnseen f) (g : Guest) (p : Prefixes) (start : ℕ) (x : Operation) (a b : Operand) → operation_effect (changed f g) p start x a b ≡ changed f (operation_effect g p start x a b)
+operation_effect-unseen f u g p start (is.Move x) a b = move_effect-unseen f u g p.segment x a b
+operation_effect-unseen f u g p start (is.Stack x) a b = stack_effect-unseen f u g p.segment x a
+operation_effect-unseen f u g p start (is.Arithmetic x) a b = arithmetic-unseen f u g p.segment x a b
+operation_effect-unseen f u g p start (is.Shift x) a b = shifted-unseen f u g p.segment x a b
+operation_effect-unseen f u g p start (is.Multiply s) a b = multiplied-unseen f u g p.segment s a
+operation_effect-unseen f u g p start (is.Divide s) a b = divided-unseen f u g p.segment s a
+operation_effect-unseen f u g p start (is.Adjust x) a b = refl
+operation_effect-unseen f u g p start (is.JumpIf x w) a b = jumped_if-unseen f u g p.segment x w a
+operation_effect-unseen f u g p start (is.Loop x) a b = looped-unseen f u g p.segment x a
+operation_effect-unseen f u g p start (is.Transfer x) a b = transferred-unseen f u g p.segment x a
+operation_effect-unseen f u g p start (is.Interrupt x) a b = interrupt_effect-unseen f u g p.segment x a
+operation_effect-unseen f u g p start (is.String x w) a b = string_effect-unseen f u w g p.segment p.repeat x start
+operation_effect-unseen f u g p start (is.Flag x) a b = refl
+operation_effect-unseen f u g p start is.Nothing a b = refl
+operation_effect-unseen f u g p start is.Halt a b = refl
 
 pub effect-unseen : IgnoresUnseen
 unfolding effect
 effect-unseen f u g i len =
-    act-unseen f u (at_ip g (up g.cpu.ip len)) i.prefixes g.cpu.ip (operation_of i.action.mnemonic) i.action.first i.action.second
+    operation_effect-unseen f u (at_ip g (up g.cpu.ip len)) i.prefixes g.cpu.ip (operation_of i.action.mnemonic) i.action.first i.action.second

@@ -1,7 +1,7 @@
 //! The effect of one instruction on registers, flags and memory.
 ghost use Rattle.std.specs.Prelude.{◌≡◌};
 ghost use Rattle.dm_cpu.specs.Guest.{guest};
-ghost use Rattle.dm_exec.specs.Effect.{act, effect, next_of};
+ghost use Rattle.dm_exec.specs.Effect.{operation_effect, effect, next_of};
 ghost use Rattle.dm_exec.specs.Operation.{operation_of};
 
 use crate::operation::{Operation, operation_of};
@@ -25,22 +25,24 @@ pub enum Next {
 /// value need be kept over the call.
 #[inline(never)]
 fn perform(cpu: &mut Registers, space: &mut Space, ins: &Ins, start: u16)
-    ensures { guest cpu.new space.new.memory ≡ act (guest cpu.old space.old.memory) ins.now.prefixes start (operation_of ins.now.action.mnemonic) ins.now.action.first ins.now.action.second }
+    ensures { guest cpu.new space.new.memory ≡ operation_effect (guest cpu.old space.old.memory) ins.now.prefixes start (operation_of ins.now.action.mnemonic) ins.now.action.first ins.now.action.second }
 {
     match operation_of(ins.action.mnemonic) {
-        Operation::Move(operation) => moves::act(cpu, space, ins, operation),
-        Operation::Stack(operation) => stack::act(cpu, space, ins, operation),
-        Operation::Arithmetic(operation) => arithmetic::act(cpu, space, ins, operation),
-        Operation::Shift(operation) => shifts::act(cpu, space, ins, operation),
+        Operation::Move(operation) => moves::execute_move(cpu, space, ins, operation),
+        Operation::Stack(operation) => stack::execute_stack(cpu, space, ins, operation),
+        Operation::Arithmetic(operation) => arithmetic::execute_arithmetic(
+            cpu, space, ins, operation,
+        ),
+        Operation::Shift(operation) => shifts::execute_shift(cpu, space, ins, operation),
         Operation::Multiply(sign) => products::multiply(cpu, space, ins, sign),
         Operation::Divide(sign) => products::divide(cpu, space, ins, sign),
         Operation::Adjust(adjustment) => adjustments::adjust_accumulator(cpu, adjustment),
         Operation::JumpIf(condition, wanted) => jumps::jump_if(cpu, space, ins, condition, wanted),
-        Operation::Loop(operation) => jumps::act_on_count(cpu, space, ins, operation),
+        Operation::Loop(operation) => jumps::execute_loop(cpu, space, ins, operation),
         Operation::Transfer(operation) => jumps::transfer(cpu, space, ins, operation),
-        Operation::Interrupt(operation) => stack::act_on_interrupt(cpu, space, ins, operation),
+        Operation::Interrupt(operation) => stack::execute_interrupt(cpu, space, ins, operation),
         Operation::String(operation, width) => {
-            strings::act_on_string(cpu, space, ins, start, operation, width)
+            strings::execute_string(cpu, space, ins, start, operation, width)
         }
         Operation::Flag(operation) => control::change_flag(cpu, operation),
         Operation::Nothing => {}
@@ -52,7 +54,7 @@ fn perform(cpu: &mut Registers, space: &mut Space, ins: &Ins, start: u16)
 /// instruction says, IP included; HLT sets IP back to `start`.
 #[inline(always)]
 pub fn execute(cpu: &mut Registers, space: &mut Space, ins: &Ins, start: u16)
-    ensures { guest cpu.new space.new.memory ≡ act (guest cpu.old space.old.memory) ins.now.prefixes start (operation_of ins.now.action.mnemonic) ins.now.action.first ins.now.action.second }
+    ensures { guest cpu.new space.new.memory ≡ operation_effect (guest cpu.old space.old.memory) ins.now.prefixes start (operation_of ins.now.action.mnemonic) ins.now.action.first ins.now.action.second }
 {
     perform(cpu, space, ins, start);
 }

@@ -4,7 +4,7 @@
 use Rattle.std.specs.Prelude.{ℕ, Bool, true, false, List, [], ◌∷◌, codes, Option, Some, None}
 use Rattle.dm_requests.specs.declared.commands.command.Command.{Command}
 use Rattle.dm_requests.specs.declared.commands.command.Command.TheVariants as command
-use Rattle.dm_requests.specs.commands.Numbers.{◌>>=◌, number_of}
+use Rattle.dm_requests.specs.commands.Numbers.{◌>>=◌, hexadecimal_number}
 use Rattle.dm_requests.specs.Arguments.{after_prefix}
 use Rattle.dm_services.specs.declared.state.stop.Stop.{Stop}
 use Rattle.dm_services.specs.declared.state.stop.Stop.TheVariants as stop
@@ -29,7 +29,7 @@ is_shown_line (Some c) = is_shown c
 
 -- the number of `step N`, in hexadecimal; None for any other line
 abbrev pub step_asked : List ℕ → Option ℕ
-step_asked line = after_prefix (codes "step ") line >>= number_of
+step_asked line = after_prefix (codes "step ") line >>= hexadecimal_number
 
 -- the reply that prints a text
 abbrev pub text_reply : List ℕ → Reply

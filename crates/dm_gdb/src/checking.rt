@@ -104,7 +104,7 @@ fn look_ahead(alloc: Global, machine: &mut Machine) -> Result<Ahead, AllocError>
 {
     let mut run = CheckedRun::new(alloc, machine, MOST, true)?;
     let Some(why) = run.go_on(alloc, machine)? else {
-        let steps = MOST.saturating_sub(run.left());
+        let steps = MOST.saturating_sub(run.steps_remaining());
         return told(alloc, run.report(), None, steps);
     };
     if wants_memory(why) {

@@ -1,8 +1,8 @@
 //! What a host's machine holds: the headers of the arena, and the handles of expanded and extended memory.
 ghost use Rattle.std.specs.Prelude.{◌≡◌, IfOk, IfErr};
 ghost use Rattle.dm_views.specs.inventory.Arena.{IsListedArena};
-ghost use Rattle.dm_views.specs.inventory.Pages.{handle_rows, window_rows};
-ghost use Rattle.dm_views.specs.inventory.Extended.{extended_rows, upper_rows};
+ghost use Rattle.dm_views.specs.inventory.Pages.{handle_records, window_records};
+ghost use Rattle.dm_views.specs.inventory.Extended.{extended_records, upper_records};
 ghost use Rattle.dm_host.specs.Hosts.{Shows, IsNotLoaded, IsNotListed};
 
 use crate::host::Host;
@@ -40,7 +40,7 @@ impl Host {
     ///
     /// `NotLoaded` exactly where no program is loaded; else `Memory` if an allocation failed.
     pub fn page_handles(&self, alloc: Global) -> Result<Vec<PageHandle>, Refusal>
-        ensures ok { IfOk result (λ handles. Shows self.now (λ s. handles.items ≡ handle_rows s.ems)) }
+        ensures ok { IfOk result (λ handles. Shows self.now (λ s. handles.items ≡ handle_records s.ems)) }
         ensures err { IfErr result (IsNotListed self.now) }
     {
         let Some(machine) = self.machine() else {
@@ -59,7 +59,7 @@ impl Host {
     ///
     /// `NotLoaded` exactly where no program is loaded.
     pub fn windows(&self) -> Result<[Window; 4], Refusal>
-        ensures ok { IfOk result (λ windows. Shows self.now (λ s. windows ≡ window_rows s.ems s.memory)) }
+        ensures ok { IfOk result (λ windows. Shows self.now (λ s. windows ≡ window_records s.ems s.memory)) }
         ensures err { IfErr result (IsNotLoaded self.now) }
     {
         match self.machine() {
@@ -74,7 +74,7 @@ impl Host {
     ///
     /// `NotLoaded` exactly where no program is loaded; else `Memory` if an allocation failed.
     pub fn extended_blocks(&self, alloc: Global) -> Result<Vec<ExtendedBlock>, Refusal>
-        ensures ok { IfOk result (λ blocks. Shows self.now (λ s. blocks.items ≡ extended_rows s.xms s.memory)) }
+        ensures ok { IfOk result (λ blocks. Shows self.now (λ s. blocks.items ≡ extended_records s.xms s.memory)) }
         ensures err { IfErr result (IsNotListed self.now) }
     {
         let Some(machine) = self.machine() else {
@@ -93,7 +93,7 @@ impl Host {
     ///
     /// `NotLoaded` exactly where no program is loaded; else `Memory` if an allocation failed.
     pub fn upper_blocks(&self, alloc: Global) -> Result<Vec<UpperBlock>, Refusal>
-        ensures ok { IfOk result (λ blocks. Shows self.now (λ s. blocks.items ≡ upper_rows s.xms)) }
+        ensures ok { IfOk result (λ blocks. Shows self.now (λ s. blocks.items ≡ upper_records s.xms)) }
         ensures err { IfErr result (IsNotListed self.now) }
     {
         let Some(machine) = self.machine() else {

@@ -1,4 +1,4 @@
--- What operands ask of the bytes is what fills a row.
+-- What operands ask of the bytes is what fills a template.
 use Rattle.std.proofs.Common.{◌≡◌, ℕ, zero, suc, ◌+◌, ◌*◌, ◌/◌, ◌%◌, ◌^◌, ◌<◌, Bool, true, false, List, [], ◌∷◌, length, get_or, Option, Some, None, refl, sym, ap, subst, ◌∙◌, arith, inl, inr, eq-eqb, nat_lt}
 use Rattle.std.specs.Prelude.{◌⊎◌, cond}
 use Rattle.std.proofs.lemmas.Bool.{ne_eqb}
@@ -91,7 +91,7 @@ extended_low n h = elim (cases_high n) [ inl e ↦ rw e (omega arith) | inr e �
     cases_high : (n : ℕ) → (sign_extended n ≡ n) ⊎ (sign_extended n ≡ n + 65280)
     cases_high n = elim (nat_lt n 128) as (λ b. (cond b n (n + 65280) ≡ n) ⊎ (cond b n (n + 65280) ≡ n + 65280)) [ true ↦ inl refl | false ↦ inr refl ]
 
--- ---- what fills a row asks for the row's bytes
+-- ---- what fills a template asks for the template's bytes
 
 pub record Asked (k : OperandKind) (m : Fields) (o : Operand) (d : List ℕ) : Type 0 where
   pub demand : Demand

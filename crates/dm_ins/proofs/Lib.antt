@@ -5,7 +5,7 @@ mod Least
 mod Order
 mod KeptPrefixes
 mod Sound
-mod Rows
+mod Templates
 mod NoneLeftOut
 pub mod Shortest
 pub mod Preferred

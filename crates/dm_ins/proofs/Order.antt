@@ -101,7 +101,7 @@ module _ (ks : List Key) (a : Action) (n : ℕ) where
     ];
   }
 
-  -- with one row more
+  -- with one template more
   pub best_more : (o new : Option (List ℕ)) → Best n ks a o → IfSome new (λ v. Under ks n a v) → IfNone new ((c : List ℕ) → Under ks n a c → ⊥) → Best (n + 1) ks a (better_of o new)
   best_more None None best some none = record {
     found = tt;

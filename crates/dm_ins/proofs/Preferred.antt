@@ -22,9 +22,9 @@ use Rattle.dm_ins.specs.declared.table.OpcodeEntry.TheVariants.{Unlisted, Plain,
 use Rattle.dm_ins.specs.declared.keys.Key.{Key}
 use Rattle.dm_ins.specs.declared.table.OperandKind.{OperandKind}
 use Rattle.dm_ins.specs.declared.table.OperandKind.TheVariants as is
-use Rattle.dm_ins.specs.declared.table.Row.{Row}
+use Rattle.dm_ins.specs.declared.table.Template.{Template}
 use Rattle.dm_ins.specs.Table.{entry_of}
-use Rattle.dm_ins.specs.Spelling.{SpellsMemory, SpellsFields, Fills, has_fields, MaySpellFields, HasRow, SpellsAction, SpellsPrefixed}
+use Rattle.dm_ins.specs.Spelling.{SpellsMemory, SpellsFields, Fills, has_fields, MaySpellFields, HasTemplate, SpellsAction, SpellsPrefixed}
 use Rattle.dm_ins.specs.Ins.{Spells}
 use Rattle.dm_ins.specs.Order.{before}
 use Rattle.dm_ins.specs.Preferred.{IsPreferred}
@@ -63,7 +63,7 @@ preferred_same i j x y e f p q =
 
 -- ---- there is one
 
--- the bytes of the row under a first byte and a reg field for an action, if it has any
+-- the bytes of the template under a first byte and a reg field for an action, if it has any
 record Tried (b g : ℕ) (a : Action) : Type 0 where
   bytes : Option (List ℕ)
   found : IfSome bytes (λ v. CandidateAt b g a v)
@@ -83,7 +83,7 @@ of_choice : (b g : ℕ) (a : Action) (x : Choice) (c : List ℕ) → choice_at (
 of_choice b g a x c e k = some_choice k.choice x (sym k.is_choice ∙ e)
 
 module _ (b g : ℕ) (a : Action) (first : OperandFits a.first) (second : OperandFits a.second) where
-  of_bytes : (x : Choice) → choice_at (entry_of b) b g ≡ Some x → x.row.mnemonic ≡ a.mnemonic → (o : Option (List ℕ)) → bytes_of x a.first a.second ≡ o → Tried b g a
+  of_bytes : (x : Choice) → choice_at (entry_of b) b g ≡ Some x → x.template.mnemonic ≡ a.mnemonic → (o : Option (List ℕ)) → bytes_of x a.first a.second ≡ o → Tried b g a
   of_bytes x e m None h = record {
     bytes = None;
     found = tt;
@@ -95,20 +95,20 @@ module _ (b g : ℕ) (a : Action) (first : OperandFits a.first) (second : Operan
     none = tt;
   }
 
-  of_mnemonic : (x : Choice) → choice_at (entry_of b) b g ≡ Some x → (s : Bool) → sameb the_type x.row.mnemonic a.mnemonic ≡ s → Tried b g a
-  of_mnemonic x e true h = of_bytes x e (same_true the_type tt x.row.mnemonic a.mnemonic h) (bytes_of x a.first a.second) refl
+  of_mnemonic : (x : Choice) → choice_at (entry_of b) b g ≡ Some x → (s : Bool) → sameb the_type x.template.mnemonic a.mnemonic ≡ s → Tried b g a
+  of_mnemonic x e true h = of_bytes x e (same_true the_type tt x.template.mnemonic a.mnemonic h) (bytes_of x a.first a.second) refl
   of_mnemonic x e false h = record {
     bytes = None;
     found = tt;
-    none = λ c k. so_not (sameb the_type x.row.mnemonic a.mnemonic) h (true_same the_type x.row.mnemonic a.mnemonic (ap (λ (y : Choice). y.row.mnemonic) (sym (of_choice b g a x c e k)) ∙ k.mnemonic));
+    none = λ c k. so_not (sameb the_type x.template.mnemonic a.mnemonic) h (true_same the_type x.template.mnemonic a.mnemonic (ap (λ (y : Choice). y.template.mnemonic) (sym (of_choice b g a x c e k)) ∙ k.mnemonic));
   }
 
-  of_row : (o : Option Choice) → choice_at (entry_of b) b g ≡ o → Tried b g a
-  of_row None h = record { bytes = None; found = tt; none = λ c k. some_none (choice_at (entry_of b) b g) k.choice h k.is_choice }
-  of_row (Some x) h = of_mnemonic x h (sameb the_type x.row.mnemonic a.mnemonic) refl
+  of_template : (o : Option Choice) → choice_at (entry_of b) b g ≡ o → Tried b g a
+  of_template None h = record { bytes = None; found = tt; none = λ c k. some_none (choice_at (entry_of b) b g) k.choice h k.is_choice }
+  of_template (Some x) h = of_mnemonic x h (sameb the_type x.template.mnemonic a.mnemonic) refl
 
   tried : Tried b g a
-  tried = of_row (choice_at (entry_of b) b g) refl
+  tried = of_template (choice_at (entry_of b) b g) refl
 
 record HasBest (n : ℕ) (ks : List Key) (a : Action) : Type 0 where
   bytes : Option (List ℕ)
@@ -161,11 +161,11 @@ may_short : (f : Bool) (m : Fields) (d : List ℕ) → MaySpellFields f m d → 
 may_short true m d s = fields_short m d s
 may_short false m d s = rw s.1 (omega arith)
 
-row_short : (e : OpcodeEntry) (m : Fields) (d : List ℕ) (r : Row) → HasRow e m d r → length d ≤ 3
-row_short Unlisted m d r h = absurd h
-row_short (Plain p) m d r h = may_short (has_fields p) m d h.1
-row_short (Group g) m d r h = fields_short m d h.1
-row_short (Second c p) m d r h = rw h.2 (omega arith)
+template_short : (e : OpcodeEntry) (m : Fields) (d : List ℕ) (r : Template) → HasTemplate e m d r → length d ≤ 3
+template_short Unlisted m d r h = absurd h
+template_short (Plain p) m d r h = may_short (has_fields p) m d h.1
+template_short (Group g) m d r h = fields_short m d h.1
+template_short (Second c p) m d r h = rw h.2 (omega arith)
 
 part_short : (k : OperandKind) (m : Fields) (o : Operand) (d : List ℕ) → Fills k m o d → length d ≤ 4
 part_short is.Nothing m o d h = rw h.1 (omega arith)
@@ -188,7 +188,7 @@ part_short is.One m o d h = rw h.1 (omega arith)
 action_short : (a : Action) (d : List ℕ) → SpellsAction a d → length d ≤ 12
 action_short a d s =
     rw (s.parts, length-append, length-append)
-    (omega (arith, row_short (entry_of s.first_byte) s.fields s.behind s.row s.has_row, part_short s.row.first s.fields a.first s.first_part s.first, part_short s.row.second s.fields a.second s.second_part s.second))
+    (omega (arith, template_short (entry_of s.first_byte) s.fields s.behind s.template s.has_template, part_short s.template.first s.fields a.first s.first_part s.first, part_short s.template.second s.fields a.second s.second_part s.second))
 
 -- four prefixes at most, and twelve bytes
 pub spelled_short : (i : Ins) (bytes : List ℕ) → Spells i bytes → length bytes ≤ 16

@@ -1,4 +1,4 @@
--- The kept prefixes and the least row's bytes are the least spelling.
+-- The kept prefixes and the least template's bytes are the least spelling.
 use Rattle.std.proofs.Common.{◌≡◌, ℕ, ◌^◌, ◌<◌, ◌≤◌, Bool, true, false, List, ◌++◌, length, Option, Some, None, refl, sym, subst, arith, inl, inr}
 use Rattle.std.specs.Prelude.{map, IfSome, IsSomeAnd}
 use Rattle.std.proofs.lemmas.Bool.{cases_lt, lt-ltb, le-ltb}
@@ -15,18 +15,18 @@ use Rattle.dm_ins.specs.declared.operand.Operand.{Operand}
 use Rattle.dm_ins.specs.declared.keys.Key.{Key}
 use Rattle.dm_ins.specs.declared.table.OperandKind.{OperandKind}
 use Rattle.dm_ins.specs.declared.table.OperandKind.TheVariants as is
-use Rattle.dm_ins.specs.declared.table.Row.{Row}
+use Rattle.dm_ins.specs.declared.table.Template.{Template}
 use Rattle.dm_ins.specs.declared.table.OpcodeEntry.{OpcodeEntry}
 use Rattle.dm_ins.specs.declared.table.OpcodeEntry.TheVariants.{Unlisted, Plain, Group, Second}
 use Rattle.dm_ins.specs.Table.{entry_of}
-use Rattle.dm_ins.specs.Spelling.{sign_extended, SpellsMemory, Fills, has_fields, MaySpellFields, HasRow, SpellsAction, prefix_byte, no_prefix, kept, SpellsPrefixed, register, at_place}
+use Rattle.dm_ins.specs.Spelling.{sign_extended, SpellsMemory, Fills, has_fields, MaySpellFields, HasTemplate, SpellsAction, prefix_byte, no_prefix, kept, SpellsPrefixed, register, at_place}
 use Rattle.dm_ins.specs.Order.{before}
 use Rattle.dm_ins.specs.inner.Search.{OperandFits, IsLeast, CandidateAt, prefix_list, segment_list, lock_list, repeat_list}
 use Rattle.dm_ins.proofs.Order.{not_longer, not_shorter, not_before_append}
 use Rattle.dm_ins.proofs.KeptPrefixes.{prefixes_least}
 use Rattle.dm_ins.proofs.Demands.{AtMost}
-use Rattle.dm_ins.proofs.Least.{action_least, row_fits}
-use Rattle.dm_ins.proofs.Rows.{action_sound}
+use Rattle.dm_ins.proofs.Least.{action_least, template_fits}
+use Rattle.dm_ins.proofs.Templates.{action_sound}
 use Rattle.dm_ins.proofs.NoneLeftOut.{choice_fits, none_left_out}
 
 -- ---- what is spelled has numbers that fit
@@ -44,7 +44,7 @@ memory_fits a mode rm d (inr (inr (inl h))) = rw h.3 (extended_fits h.1 h.2)
 memory_fits a mode rm d (inr (inr (inr (inl h)))) = rw h.3 h.2
 memory_fits a mode rm d (inr (inr (inr (inr h)))) = rw h.1 tt
 
-fields_fit : (e : OpcodeEntry) (m : Fields) (d : List ℕ) (r : Row) → HasRow e m d r → MemoryFits m.memory
+fields_fit : (e : OpcodeEntry) (m : Fields) (d : List ℕ) (r : Template) → HasTemplate e m d r → MemoryFits m.memory
 fields_fit Unlisted m d r h = absurd h
 fields_fit (Plain p) m d r h = by (has_fields p) h.1
   where
@@ -83,9 +83,9 @@ operand_fits is.One m o d lt f h = rw h.0 tt
 -- the numbers of an instruction of the table fit their types
 pub action_fits : (a : Action) (d : List ℕ) → SpellsAction a d → OperandFits a.first × OperandFits a.second
 action_fits a d h =
-    let r = row_fits (entry_of h.first_byte) h.fields h.behind h.row h.has_row in
-    let f = fields_fit (entry_of h.first_byte) h.fields h.behind h.row h.has_row in
-    (operand_fits h.row.first h.fields a.first h.first_part r.0 f h.first, operand_fits h.row.second h.fields a.second h.second_part r.0 f h.second)
+    let r = template_fits (entry_of h.first_byte) h.fields h.behind h.template h.has_template in
+    let f = fields_fit (entry_of h.first_byte) h.fields h.behind h.template h.has_template in
+    (operand_fits h.template.first h.fields a.first h.first_part r.0 f h.first, operand_fits h.template.second h.fields a.second h.second_part r.0 f h.second)
 
 -- ---- the least spelling
 
@@ -129,7 +129,7 @@ candidate_of a d s =
       is_candidate = record { choice = l.choice; is_choice = l.is_choice; mnemonic = l.mnemonic; is_bytes = l.is_bytes; first_fits = f.0; second_fits = f.1 };
     }
 
--- the least bytes are no more than those of any row
+-- the least bytes are no more than those of any template
 covers : (a : Action) (o : Option (List ℕ)) (b g : ℕ) (c : List ℕ) → IsLeast a o → CandidateAt b g a c → IsSomeAnd o (λ v. before c v ≡ false)
 covers a o b g c best h =
     let s = none_left_out a.mnemonic b g h.choice h.is_choice h.mnemonic in

@@ -22,7 +22,7 @@ use Rattle.dm_ins.specs.declared.action.Action.{Action}
 use Rattle.dm_ins.specs.declared.fields.Fields.{Fields}
 use Rattle.dm_ins.specs.declared.table.OperandKind.{OperandKind}
 use Rattle.dm_ins.specs.declared.table.OperandKind.TheVariants as is
-use Rattle.dm_ins.specs.declared.table.Row.{Row}
+use Rattle.dm_ins.specs.declared.table.Template.{Template}
 use Rattle.dm_ins.specs.declared.table.OpcodeEntry.{OpcodeEntry}
 use Rattle.dm_ins.specs.declared.table.OpcodeEntry.TheVariants.{Unlisted, Plain, Group, Second}
 use Rattle.dm_ins.specs.Registers.{bases}
@@ -133,7 +133,7 @@ Fills (is.Word r) m o d = (o ≡ operand.WordRegister r) × (d ≡ [])
 Fills (is.TheSegment r) m o d = (o ≡ operand.SegmentRegister r) × (d ≡ [])
 Fills is.One m o d = (o ≡ operand.One) × (d ≡ [])
 
--- ---- rows
+-- ---- templates
 
 -- whether an operand of the kind is read from the mod r/m byte, wholly or in part
 abbrev pub uses_fields : OperandKind → Bool
@@ -143,39 +143,40 @@ uses_fields is.Memory = true
 uses_fields (is.Escape r) = true
 uses_fields _ = false
 
--- whether the row has a mod r/m byte
-abbrev pub has_fields : Row → Bool
+-- whether the template has a mod r/m byte
+abbrev pub has_fields : Template → Bool
 has_fields r = if uses_fields r.first then true else uses_fields r.second
 
--- the fields of a row that uses none
+-- the fields of a template that uses none
 abbrev pub no_fields : Fields
 no_fields = record { register = 0; rm = 0; memory = None }
 
--- the mod r/m byte of a row that has one, and its displacement; no bytes for a row that has none
+-- the mod r/m byte of a template that has one, and its displacement; no bytes for a template that has none
 abbrev pub MaySpellFields : Bool → Fields → List ℕ → Type 0
 MaySpellFields true m d = SpellsFields m d
 MaySpellFields false m d = (m ≡ no_fields) × (d ≡ [])
 
--- the row r that a first byte's entry has where the mod r/m byte has the fields m, and the bytes d
+-- the template r that a first byte's entry has where the mod r/m byte has the fields m, and the bytes d
 -- between the first byte and the operands'
-abbrev pub HasRow : OpcodeEntry → Fields → List ℕ → Row → Type 0
-HasRow Unlisted m d r = ⊥
-HasRow (Plain p) m d r = (r ≡ p) × MaySpellFields (has_fields p) m d
-HasRow (Group g) m d r = (member_of g m.register ≡ Some r) × SpellsFields m d
-HasRow (Second c p) m d r = (r ≡ p) × (m ≡ no_fields) × (d ≡ c ∷ [])
+abbrev pub HasTemplate : OpcodeEntry → Fields → List ℕ → Template → Type 0
+HasTemplate Unlisted m d r = ⊥
+HasTemplate (Plain p) m d r = (r ≡ p) × MaySpellFields (has_fields p) m d
+HasTemplate (Group g) m d r = (member_of g m.register ≡ Some r) × SpellsFields m d
+HasTemplate (Second c p) m d r = (r ≡ p) × (m ≡ no_fields) × (d ≡ c ∷ [])
 
--- the bytes spell the action: the first byte of a row, its mod r/m byte or second byte, and then what its operands need
+-- the bytes spell the action: the first byte of a template, its mod r/m byte or second byte, and then what its operands
+-- need
 pub record SpellsAction (a : Action) (bytes : List ℕ) : Type 0 where
   pub first_byte : ℕ
   pub fields : Fields
-  pub row : Row
+  pub template : Template
   pub behind : List ℕ
   pub first_part : List ℕ
   pub second_part : List ℕ
-  pub has_row : HasRow (entry_of first_byte) fields behind row
-  pub mnemonic : a.mnemonic ≡ row.mnemonic
-  pub first : Fills row.first fields a.first first_part
-  pub second : Fills row.second fields a.second second_part
+  pub has_template : HasTemplate (entry_of first_byte) fields behind template
+  pub mnemonic : a.mnemonic ≡ template.mnemonic
+  pub first : Fills template.first fields a.first first_part
+  pub second : Fills template.second fields a.second second_part
   pub parts : bytes ≡ first_byte ∷ behind ++ (first_part ++ second_part)
 
 -- ---- prefixed actions

@@ -14,7 +14,7 @@ use Rattle.dm_ins.specs.declared.action.Mnemonic.{Mnemonic}
 use Rattle.dm_ins.specs.declared.action.Mnemonic.TheVariants as op
 use Rattle.dm_ins.specs.declared.table.OperandKind.{OperandKind}
 use Rattle.dm_ins.specs.declared.table.OperandKind.TheVariants as is
-use Rattle.dm_ins.specs.declared.table.Row.{Row}
+use Rattle.dm_ins.specs.declared.table.Template.{Template}
 use Rattle.dm_ins.specs.declared.table.OpcodeEntry.{OpcodeEntry}
 use Rattle.dm_ins.specs.declared.table.OpcodeEntry.TheVariants.{Unlisted, Plain, Group, Second}
 use Rattle.dm_ins.specs.Registers.{word_registers, byte_registers}
@@ -99,33 +99,34 @@ DX = is.Word Dx
 abbrev pub S : SegmentRegister → OperandKind
 S r = is.TheSegment r
 
--- a row: its mnemonic, and the kinds of its two operands
-abbrev pub row : Mnemonic → OperandKind → OperandKind → Row
-row m a b = record { mnemonic = m; first = a; second = b }
+-- a template: its mnemonic, and the kinds of its two operands
+abbrev pub template : Mnemonic → OperandKind → OperandKind → Template
+template m a b = record { mnemonic = m; first = a; second = b }
 
--- an entry of one row with two operands
+-- an entry of one template with two operands
 abbrev pub two_operands : Mnemonic → OperandKind → OperandKind → OpcodeEntry
-two_operands m a b = Plain (row m a b)
+two_operands m a b = Plain (template m a b)
 
--- an entry of one row with one operand
+-- an entry of one template with one operand
 abbrev pub one_operand : Mnemonic → OperandKind → OpcodeEntry
 one_operand m a = two_operands m a is.Nothing
 
--- an entry of one row with no operand
+-- an entry of one template with no operand
 abbrev pub bare : Mnemonic → OpcodeEntry
 bare m = one_operand m is.Nothing
 
--- ---- runs of rows that differ by a number
+-- ---- runs of templates that differ by a number
 
 -- the arithmetic mnemonics, in the order of their numbers: reg fields 0 to 7
 abbrev pub arithmetics : List Mnemonic
 arithmetics = op.Add ∷ op.Or ∷ op.Adc ∷ op.Sbb ∷ op.And ∷ op.Sub ∷ op.Xor ∷ op.Cmp ∷ []
 
--- the mnemonics of the conditional jumps, in the order of their first bytes 70h to 7Fh; 16 rows
+-- the mnemonics of the conditional jumps, in the order of their first bytes 70h to 7Fh; 16 templates
 abbrev pub conditions : List Mnemonic
 conditions = op.Jo ∷ op.Jno ∷ op.Jb ∷ op.Jae ∷ op.Jz ∷ op.Jnz ∷ op.Jbe ∷ op.Ja ∷ op.Js ∷ op.Jns ∷ op.Jp ∷ op.Jnp ∷ op.Jl ∷ op.Jge ∷ op.Jle ∷ op.Jg ∷ []
 
--- the entries of an arithmetic mnemonic with six first bytes in a row: E and G, G and E, accumulator and immediate
+-- the entries of an arithmetic mnemonic with six first bytes, one after the other: E and G, G and E, accumulator and
+-- immediate
 abbrev pub six : Mnemonic → List OpcodeEntry
 six m = two_operands m Eb Gb ∷ two_operands m Ew Gw ∷ two_operands m Gb Eb ∷ two_operands m Gw Ew ∷ two_operands m AL Ib ∷ two_operands m AX Iw ∷ []
 
@@ -133,23 +134,23 @@ six m = two_operands m Eb Gb ∷ two_operands m Ew Gw ∷ two_operands m Gb Eb �
 abbrev pub each_word : (WordRegister → OpcodeEntry) → List OpcodeEntry
 each_word f = map f word_registers
 
--- a group of arithmetic with an immediate, 80h to 83h: a row for each reg field, with operands of the kinds a and b; 4
--- groups, 32 rows
-abbrev pub immediate : OperandKind → OperandKind → List (Option Row)
-immediate a b = (map (λ m. Some (row m a b)) arithmetics)
+-- a group of arithmetic with an immediate, 80h to 83h: a template for each reg field, with operands of the kinds a and
+-- b; 4 groups, 32 templates
+abbrev pub immediate : OperandKind → OperandKind → List (Option Template)
+immediate a b = (map (λ m. Some (template m a b)) arithmetics)
 
--- a group of shifts and rotates by 1 or by CL, D0h to D3h, with operands of the kinds a and b; 4 groups, 28 rows (/6 is
--- not listed)
-abbrev pub shifts : OperandKind → OperandKind → List (Option Row)
-shifts a b = (map (λ m. Some (row m a b)) (op.Rol ∷ op.Ror ∷ op.Rcl ∷ op.Rcr ∷ op.Shl ∷ op.Shr ∷ []) ++ None ∷ Some (row op.Sar a b) ∷ [])
+-- a group of shifts and rotates by 1 or by CL, D0h to D3h, with operands of the kinds a and b; 4 groups, 28 templates
+-- (/6 is not listed)
+abbrev pub shifts : OperandKind → OperandKind → List (Option Template)
+shifts a b = (map (λ m. Some (template m a b)) (op.Rol ∷ op.Ror ∷ op.Rcl ∷ op.Rcr ∷ op.Shl ∷ op.Shr ∷ []) ++ None ∷ Some (template op.Sar a b) ∷ [])
 
 -- a group of TEST, NOT, NEG, MUL, IMUL, DIV and IDIV, F6h and F7h, with an operand of the kind e, and an immediate i
--- for TEST; 2 groups, 14 rows (/1 is not listed)
-abbrev pub unary : OperandKind → OperandKind → List (Option Row)
-unary e i = (Some (row op.Test e i) ∷ None ∷ map (λ m. Some (row m e is.Nothing)) (op.Not ∷ op.Neg ∷ op.Mul ∷ op.Imul ∷ op.Div ∷ op.Idiv ∷ []))
+-- for TEST; 2 groups, 14 templates (/1 is not listed)
+abbrev pub unary : OperandKind → OperandKind → List (Option Template)
+unary e i = (Some (template op.Test e i) ∷ None ∷ map (λ m. Some (template m e is.Nothing)) (op.Not ∷ op.Neg ∷ op.Mul ∷ op.Imul ∷ op.Div ∷ op.Idiv ∷ []))
 
--- a group with a row for the reg field 0 alone: POP 8Fh, MOV C6h and C7h
-abbrev pub zeroth : Row → List (Option Row)
+-- a group with a template for the reg field 0 alone: POP 8Fh, MOV C6h and C7h
+abbrev pub zeroth : Template → List (Option Template)
 zeroth r = (Some r ∷ None ∷ None ∷ None ∷ None ∷ None ∷ None ∷ None ∷ [])
 
 -- the two entries of a string instruction, by bytes and by words
@@ -206,7 +207,7 @@ entries =
     ++ Unlisted ∷ Unlisted ∷ one_operand op.Retf Iw ∷ bare op.Retf ∷ bare op.Int3 ∷ one_operand op.Int Ib ∷ bare op.Into ∷ bare op.Iret ∷ []
     -- D0
     ++ Group 9 ∷ Group 10 ∷ Group 11 ∷ Group 12 ∷ []
-    ++ Second 0x0A (row op.Aam is.Nothing is.Nothing) ∷ Second 0x0A (row op.Aad is.Nothing is.Nothing) ∷ Unlisted ∷ bare op.Xlat ∷ []
+    ++ Second 0x0A (template op.Aam is.Nothing is.Nothing) ∷ Second 0x0A (template op.Aad is.Nothing is.Nothing) ∷ Unlisted ∷ bare op.Xlat ∷ []
     ++ map (λ n. two_operands op.Esc (is.Escape n) Ew) (0 ∷ 1 ∷ 2 ∷ 3 ∷ 4 ∷ 5 ∷ 6 ∷ 7 ∷ [])
     -- E0
     ++ one_operand op.Loopne Db ∷ one_operand op.Loope Db ∷ one_operand op.Loop Db ∷ one_operand op.Jcxz Db ∷ []
@@ -224,21 +225,21 @@ unfoldable pub entry_of : ℕ → OpcodeEntry
 entry_of b = slice_index_or entries b Unlisted
 
 -- the groups in the order of their first bytes: 80 81 82 83, 8C, 8E, 8F C6 C7, D0 D1 D2 D3, F6 F7, FE,
--- FF; in each, for the reg fields 0 to 7, a row or None
-abbrev pub groups : List (List (Option Row))
+-- FF; in each, for the reg fields 0 to 7, a template or None
+abbrev pub groups : List (List (Option Template))
 groups =
     immediate Eb Ib ∷ immediate Ew Iw ∷ immediate Eb Ib ∷ immediate Ew Is
-    ∷ (Some (row op.Mov Ew (S Es)) ∷ Some (row op.Mov Ew (S Cs)) ∷ Some (row op.Mov Ew (S Ss)) ∷ Some (row op.Mov Ew (S Ds)) ∷ None ∷ None ∷ None ∷ None ∷ [])
-    ∷ (Some (row op.Mov (S Es) Ew) ∷ None ∷ Some (row op.Mov (S Ss) Ew) ∷ Some (row op.Mov (S Ds) Ew) ∷ None ∷ None ∷ None ∷ None ∷ [])
-    ∷ zeroth (row op.Pop Ew is.Nothing) ∷ zeroth (row op.Mov Eb Ib) ∷ zeroth (row op.Mov Ew Iw)
+    ∷ (Some (template op.Mov Ew (S Es)) ∷ Some (template op.Mov Ew (S Cs)) ∷ Some (template op.Mov Ew (S Ss)) ∷ Some (template op.Mov Ew (S Ds)) ∷ None ∷ None ∷ None ∷ None ∷ [])
+    ∷ (Some (template op.Mov (S Es) Ew) ∷ None ∷ Some (template op.Mov (S Ss) Ew) ∷ Some (template op.Mov (S Ds) Ew) ∷ None ∷ None ∷ None ∷ None ∷ [])
+    ∷ zeroth (template op.Pop Ew is.Nothing) ∷ zeroth (template op.Mov Eb Ib) ∷ zeroth (template op.Mov Ew Iw)
     ∷ shifts Eb One ∷ shifts Ew One ∷ shifts Eb CL ∷ shifts Ew CL
     ∷ unary Eb Ib ∷ unary Ew Iw
-    ∷ (Some (row op.Inc Eb is.Nothing) ∷ Some (row op.Dec Eb is.Nothing) ∷ None ∷ None ∷ None ∷ None ∷ None ∷ None ∷ [])
-    ∷ (Some (row op.Inc Ew is.Nothing) ∷ Some (row op.Dec Ew is.Nothing) ∷ Some (row op.Call Ew is.Nothing) ∷ Some (row op.CallFar M is.Nothing) ∷ Some (row op.Jmp Ew is.Nothing) ∷ Some (row op.JmpFar M is.Nothing) ∷ Some (row op.Push Ew is.Nothing) ∷ None ∷ [])
+    ∷ (Some (template op.Inc Eb is.Nothing) ∷ Some (template op.Dec Eb is.Nothing) ∷ None ∷ None ∷ None ∷ None ∷ None ∷ None ∷ [])
+    ∷ (Some (template op.Inc Ew is.Nothing) ∷ Some (template op.Dec Ew is.Nothing) ∷ Some (template op.Call Ew is.Nothing) ∷ Some (template op.CallFar M is.Nothing) ∷ Some (template op.Jmp Ew is.Nothing) ∷ Some (template op.JmpFar M is.Nothing) ∷ Some (template op.Push Ew is.Nothing) ∷ None ∷ [])
     ∷ []
 
--- the row of the group g that the reg field r chooses, None if it has none there
-unfoldable pub member_of : ℕ → ℕ → Option Row
+-- the template of the group g that the reg field r chooses, None if it has none there
+unfoldable pub member_of : ℕ → ℕ → Option Template
 member_of g r = slice_index_or (slice_index_or groups g []) r None
 
 -- if the entry is a group, P holds of the group's number

@@ -87,7 +87,7 @@ fn number(width: Width, operand: Operand) -> Option<u8>
     }
 }
 
-/// Whether the widths of a row's memory operand and of a given one are the same.
+/// Whether the widths of a template's memory operand and of a given one are the same.
 fn is_as_wide(a: Width, b: Width) -> bool
     ensures { result ≡ same_width a b }
 {
@@ -129,7 +129,7 @@ fn is_register(width: Width, operand: Operand) -> bool
 }
 
 /// Whether an operand may be of the kind: where this is false, `demand_for` returns None. It is the quick test that
-/// rules out most rows of a mnemonic.
+/// rules out most templates of a mnemonic.
 #[inline(always)]
 #[tactic(auto, unfolding(crate::specs::inner::Search::demand_of))]
 pub fn may_be(kind: OperandKind, operand: Operand) -> bool
@@ -169,7 +169,7 @@ pub fn may_be(kind: OperandKind, operand: Operand) -> bool
     }
 }
 
-/// What an operand asks of the bytes where a row has this kind, None if it is not of the kind.
+/// What an operand asks of the bytes where a template has this kind, None if it is not of the kind.
 #[tactic(auto, unfolding(crate::specs::inner::Search::demand_of))]
 pub fn demand_for(kind: OperandKind, operand: Operand) -> Option<Demand>
     ensures value { result ≡ demand_of kind operand }

@@ -7,7 +7,7 @@ ghost use Rattle.dm_ins.specs.Preferred.{IsPreferred};
 ghost use Rattle.dm_ins.specs.inner.Search.{prefix_list};
 
 use crate::action::Action;
-use crate::fill::RowBytes;
+use crate::fill::ActionBytes;
 use crate::ins::Ins;
 use crate::operand::SegmentRegister;
 use crate::prefix::{Prefixes, Repeat};
@@ -38,7 +38,7 @@ fn put_prefixes(out: &mut ArrayVec<u8, 16>, prefixes: Prefixes)
 }
 
 /// Appends the bytes of the action, which come after the prefixes.
-fn append(out: &mut ArrayVec<u8, 16>, bytes: &RowBytes)
+fn append(out: &mut ArrayVec<u8, 16>, bytes: &ActionBytes)
     requires { array_vec_len out.old + 12 ≤ 16 }
     ensures { out.new.items ≡ out.old.items ++ bytes.now.items }
 {
@@ -47,7 +47,7 @@ fn append(out: &mut ArrayVec<u8, 16>, bytes: &RowBytes)
 }
 
 /// The bytes of the prefixes, in rising order, and after them those of the action.
-fn whole(prefixes: Prefixes, bytes: &RowBytes) -> ArrayVec<u8, 16>
+fn whole(prefixes: Prefixes, bytes: &ActionBytes) -> ArrayVec<u8, 16>
     ensures { result.items ≡ map prefix_byte (prefix_list prefixes) ++ bytes.now.items }
 {
     let mut out = ArrayVec::new();
@@ -69,7 +69,7 @@ pub fn encode(ins: &Ins) -> ArrayVec<u8, 16>
 }
 
 /// The instruction of these parts, as `Ins::new` makes it, with its bytes, as `encode` chooses them; None exactly where
-/// no row of the table has the action. The rows are searched once for both.
+/// no template of the table has the action. The templates are searched once for both.
 pub fn new_encoded(prefixes: Prefixes, action: Action) -> Option<(Ins, ArrayVec<u8, 16>)>
     ensures parts { IfSome result (λ r. (r.0.prefixes ≡ prefixes) × (r.0.action ≡ action)) }
     ensures bytes { IfSome result (λ r. IsPreferred r.0 r.1.items) }

@@ -1,4 +1,4 @@
-//! The bytes of a row filled with its operands, with the shortest displacement.
+//! The bytes of a template filled with its operands, with the shortest displacement.
 
 ghost use Rattle.std.specs.Prelude.{◌≡◌, ◌+◌, ◌<◌, ◌≤◌, ◌++◌, IfSome, IsSome, IsFalse, None};
 ghost use Rattle.arrayvec.specs.ArrayVec.{array_vec_len};
@@ -7,21 +7,21 @@ ghost use Rattle.dm_ins.specs.inner.Search.{OperandFits, PlaceFits, behind_bytes
 
 use crate::demand::{Data, RegisterOrMemory, demand_for, has_no_base, may_be};
 use crate::operand::{Address, Base, Operand, extend};
-use crate::table::Row;
+use crate::table::Template;
 use arrayvec::ArrayVec;
 
 /// The bytes of an action: the first one, at most three for the mod r/m byte with its displacement,
 /// and at most four for each operand.
-pub type RowBytes = ArrayVec<u8, 12>;
+pub type ActionBytes = ArrayVec<u8, 12>;
 
-/// One row of the table under its first byte.
+/// One template of the table under its first byte.
 #[derive(Clone, Copy)]
 pub struct Choice {
     pub opcode: u8,
-    pub row: Row,
-    /// The reg field that chooses the row in its group.
+    pub template: Template,
+    /// The reg field that chooses the template in its group.
     pub register: Option<u8>,
-    /// The second byte of a row that fixes it (AAM, AAD).
+    /// The second byte of a template that fixes it (AAM, AAD).
     pub second: Option<u8>,
 }
 
@@ -44,7 +44,7 @@ fn rm_field(base: Base) -> u8
 }
 
 /// Appends a word of a displacement or of an operand, its low byte first.
-fn put_word(out: &mut RowBytes, n: u16)
+fn put_word(out: &mut ActionBytes, n: u16)
     requires { array_vec_len out.old + 2 ≤ 12 }
     ensures items { out.new.items ≡ out.old.items ++ word_bytes n }
     ensures len { array_vec_len out.new ≡ array_vec_len out.old + 2 }
@@ -54,7 +54,7 @@ fn put_word(out: &mut RowBytes, n: u16)
 }
 
 /// Appends the bytes of an operand after the mod r/m byte and its displacement, each word low byte first.
-fn put_data(out: &mut RowBytes, tail: Data)
+fn put_data(out: &mut ActionBytes, tail: Data)
     requires { array_vec_len out.old + 4 ≤ 12 }
     ensures items { out.new.items ≡ out.old.items ++ data_bytes tail }
     ensures within { array_vec_len out.new ≤ array_vec_len out.old + 4 }
@@ -72,7 +72,7 @@ fn put_data(out: &mut RowBytes, tail: Data)
 
 /// Appends the mod r/m byte of the two fields and the displacement `n`: one byte if that extends to it by sign, else a
 /// word.
-fn put_displaced(out: &mut RowBytes, register: u8, rm: u8, n: u16)
+fn put_displaced(out: &mut ActionBytes, register: u8, rm: u8, n: u16)
     requires room { array_vec_len out.old + 3 ≤ 12 }
     requires register { register < 8 }
     requires rm { rm < 8 }
@@ -90,7 +90,7 @@ fn put_displaced(out: &mut RowBytes, register: u8, rm: u8, n: u16)
 }
 
 /// Appends the mod r/m byte of a memory operand, with `register` as reg field, and its shortest displacement.
-fn put_memory(out: &mut RowBytes, register: u8, address: Address)
+fn put_memory(out: &mut ActionBytes, register: u8, address: Address)
     requires room { array_vec_len out.old + 3 ≤ 12 }
     requires register { register < 8 }
     ensures items { out.new.items ≡ out.old.items ++ memory_bytes register address }
@@ -113,7 +113,7 @@ fn put_memory(out: &mut RowBytes, register: u8, address: Address)
 /// Appends the mod r/m byte of a register or memory operand, with `register` as reg field, and its displacement if it
 /// has one.
 #[tactic(auto, unfolding(crate::specs::inner::Search::fields_bytes))]
-fn put_fields(out: &mut RowBytes, register: u8, place: RegisterOrMemory)
+fn put_fields(out: &mut ActionBytes, register: u8, place: RegisterOrMemory)
     requires room { array_vec_len out.old + 3 ≤ 12 }
     requires register { register < 8 }
     requires place { PlaceFits place }
@@ -149,10 +149,10 @@ fn first_place(a: Option<RegisterOrMemory>, b: Option<RegisterOrMemory>) -> Opti
 }
 
 /// Appends what comes between the first byte and the operands' bytes: a mod r/m byte with its displacement if there are
-/// a reg field (`register`) and a register or memory operand (`place`), else the second byte of a row that fixes it,
-/// else nothing.
+/// a reg field (`register`) and a register or memory operand (`place`), else the second byte of a template that fixes
+/// it, else nothing.
 fn put_behind(
-    out: &mut RowBytes,
+    out: &mut ActionBytes,
     register: Option<u8>,
     place: Option<RegisterOrMemory>,
     second: Option<u8>,
@@ -174,26 +174,26 @@ fn put_behind(
     }
 }
 
-/// Whether the operands may be of the row's kinds: where this is false, `fill` returns None. It is the quick test
+/// Whether the operands may be of the template's kinds: where this is false, `fill` returns None. It is the quick test
 /// before any bytes are made.
 #[inline(always)]
 pub fn may_fill(choice: &Choice, first: Operand, second: Operand) -> bool
     ensures { IsFalse result → bytes_of choice.now first second ≡ None }
 {
-    may_be(choice.row.first, first) && may_be(choice.row.second, second)
+    may_be(choice.template.first, first) && may_be(choice.template.second, second)
 }
 
-/// The bytes of the row with these operands, None if they are not of its kinds.
+/// The bytes of the template with these operands, None if they are not of its kinds.
 #[inline(never)]
 #[tactic(auto, unfolding(crate::specs::inner::Search::bytes_of))]
-pub fn fill(choice: Choice, first: Operand, second: Operand) -> Option<RowBytes>
+pub fn fill(choice: Choice, first: Operand, second: Operand) -> Option<ActionBytes>
     requires { IfSome choice.register (λ n. n < 8) }
     ensures bytes { seen_bytes result ≡ bytes_of choice first second }
     ensures first { IsSome result → OperandFits first }
     ensures second { IsSome result → OperandFits second }
 {
-    let d = demand_for(choice.row.first, first)?;
-    let e = demand_for(choice.row.second, second)?;
+    let d = demand_for(choice.template.first, first)?;
+    let e = demand_for(choice.template.second, second)?;
     let register = first_number(choice.register, first_number(d.register, e.register));
     let place = first_place(d.place, e.place);
     let mut out = ArrayVec::new();

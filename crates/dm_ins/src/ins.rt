@@ -13,14 +13,14 @@ use crate::search::least;
 pub struct Ins {
     pub prefixes: Prefixes,
     pub action: Action,
-    /// Some row of the table spells the action.
+    /// Some template of the table spells the action.
     pub ghost has_spelling: { ∥ ((bytes : List ℕ) × SpellsAction action bytes) ∥₁ },
 }
 
 impl Ins {
     ghost use Rattle.std.specs.Prelude.{◌≡◌, IfSome, IfNone};
 
-    /// The instruction of these parts, or None exactly where no row of the table has the action.
+    /// The instruction of these parts, or None exactly where no template of the table has the action.
     pub fn new(prefixes: Prefixes, action: Action) -> Option<Self>
         ensures parts { IfSome result (λ ins. (ins.prefixes ≡ prefixes) × (ins.action ≡ action)) }
         ensures none { IfNone result ((bytes : List ℕ) → SpellsAction action bytes → ⊥) }

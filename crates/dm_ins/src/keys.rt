@@ -1,4 +1,4 @@
-//! Where the rows of each mnemonic stand in the table (Intel 8086 Family User's Manual, section 4, tables 4-12 and
+//! Where the templates of each mnemonic stand in the table (Intel 8086 Family User's Manual, section 4, tables 4-12 and
 //! 4-13).
 
 ghost use Rattle.std.specs.Prelude.{◌≡◌, true};
@@ -7,7 +7,7 @@ ghost use Rattle.dm_ins.specs.inner.Keys.{keyed, has_field};
 
 use crate::action::Mnemonic;
 
-/// The first byte and the reg field under which a row stands. Outside the groups the reg field is 0.
+/// The first byte and the reg field under which a template stands. Outside the groups the reg field is 0.
 #[derive(Clone, Copy, Debug, PartialEq, Eq)]
 pub struct Key {
     pub opcode: u8,
@@ -21,7 +21,7 @@ macro_rules! keys {
     };
 }
 
-/// The keys of the rows that have the mnemonic, in the order of their first bytes and reg fields.
+/// The keys of the templates that have the mnemonic, in the order of their first bytes and reg fields.
 #[tactic(auto, unfolding(crate::specs::inner::Keys::keyed))]
 pub fn keys_of(mnemonic: Mnemonic) -> &'static [Key]
     ensures keys { result.now ≡ keyed mnemonic }

@@ -1,4 +1,4 @@
-//! Instructions of the 8086: the table of their rows, their operands, and the bytes that spell them.
+//! Instructions of the 8086: the table of their templates, their operands, and the bytes that spell them.
 #![tactic(auto)]
 
 pub mod action;

@@ -27,9 +27,9 @@ use Rattle.dm_lines.specs.declared.term.Term.TheVariants as term
 use Rattle.dm_lines.specs.declared.statement.Instruction.{Instruction}
 use Rattle.dm_lines.specs.Words.{reserved}
 use Rattle.dm_lines.specs.inner.Words.{all_words, spelling_of, meaning_of, keyword_token}
-use Rattle.dm_lines.proofs.Rows.{reserved_is}
+use Rattle.dm_lines.proofs.ReservedPairs.{reserved_is}
 use Rattle.dm_lines.specs.Tokens.{uppercase, is_word_byte, digit_of, magnitude_of, number_of, padded_of, or_name, word_token, closed, joined_to, then_list, sign_tokens, inside_quotes, lexed, tokens_of}
-use Rattle.dm_lines.specs.Operands.{minus, amount_of, added_of, parsed_value, amount_word, base_at, based, onto, is_close, inside, memory_of, far_pointer, term_from_number, term_of, begin, is_comma, parts, term_pair, terms_of}
+use Rattle.dm_lines.specs.Operands.{minus, amount_of, added_of, parsed_value, amount_word, base_at, based_term, onto, is_close, inside, memory_of, far_pointer, term_from_number, term_of, begin, is_comma, parts, term_pair, terms_of}
 use Rattle.dm_lines.specs.Statements as line
 use Rattle.dm_lines.specs.Statements.{Item, Statement, instruction, list_of_one, letters, bytes_item, word_items, mnemonic_at, prefixed, exchanges, is_memory, with_terms, operated, after_prefixes, instruction_of, item_of, statement_of, line_statement}
 use Rattle.dm_lines.specs.Laws.{AmountFits, TermFits, ItemFits, NumbersFit}
@@ -186,7 +186,7 @@ base_fits (t.Word Bp ∷ ts) h = h.1
 base_fits (t.Word Bx ∷ ts) h = h.1
 base_fits _ h = tt
 
-based_fits : (s : Size) (o : Option (Base × List Token)) (ts : List Token) → Holds RestFits o → TokensFit ts → Holds TermFits (based s o ts)
+based_fits : (s : Size) (o : Option (Base × List Token)) (ts : List Token) → Holds RestFits o → TokensFit ts → Holds TermFits (based_term s o ts)
 based_fits s None ts h k = map_holds ValueFits TermFits (parsed_value ts) (term.Address s) (value_fits ts k) (λ v m. m)
 based_fits s (Some b) ts h k = map_holds AmountFits TermFits (added_of b.1) (term.Memory s b.0) (added_fits b.1 h) (λ n m. m)
 

@@ -11,15 +11,15 @@ use Rattle.dm_ins.specs.declared.action.Action.{Action}
 use Rattle.dm_ins.specs.declared.fields.Fields.{Fields}
 use Rattle.dm_ins.specs.declared.table.OperandKind.{OperandKind}
 use Rattle.dm_ins.specs.declared.table.OperandKind.TheVariants as is
-use Rattle.dm_ins.specs.declared.table.Row.{Row}
+use Rattle.dm_ins.specs.declared.table.Template.{Template}
 use Rattle.dm_ins.specs.Spelling.{register, at_place, Fills, SpellsAction}
 use Rattle.dm_ins.proofs.TableRules.{both_true}
-use Rattle.dm_decode.proofs.words.Rows.{if_row, entry_all, rows_all, of_row}
+use Rattle.dm_decode.proofs.words.Templates.{if_template, entry_all, templates_all, of_template}
 use Rattle.dm_lines.specs.Statements.{is_memory, exchanges}
 use Rattle.dm_lines.specs.Own.{own_term}
 use Rattle.dm_lines.proofs.Stated.{is_nothing, CanBeWritten}
 
--- ---- a test of every row
+-- ---- a test of every template
 
 unfoldable names_nothing : OperandKind → Bool
 names_nothing is.Nothing = true
@@ -32,11 +32,11 @@ names_no_memory (is.Direct w) = false
 names_no_memory _ = true
 
 -- the first operand is there where the second one is, and memory is not the second where operands are exchanged
-unfoldable row_is_written : Row → Bool
-row_is_written r = (if names_nothing r.first then names_nothing r.second else true) && (if exchanges r.mnemonic then names_no_memory r.second else true)
+unfoldable template_is_written : Template → Bool
+template_is_written r = (if names_nothing r.first then names_nothing r.second else true) && (if exchanges r.mnemonic then names_no_memory r.second else true)
 
-all_are_written : rows_all row_is_written ≡ true
-unfolding rows_all entry_all if_row row_is_written names_nothing names_no_memory
+all_are_written : templates_all template_is_written ≡ true
+unfolding templates_all entry_all if_template template_is_written names_nothing names_no_memory
 all_are_written = refl
 
 -- ---- operands
@@ -126,10 +126,10 @@ where_false true d f = f refl
 where_false false d f = refl
 
 pub can_be_written : (a : Action) (x : List ℕ) (next : ℕ) → SpellsAction a x → CanBeWritten a next
-unfolding row_is_written
+unfolding template_is_written
 can_be_written a x next s =
-    let t = both_true _ _ (of_row row_is_written s.first_byte s.fields s.behind s.row all_are_written s.has_row) in
+    let t = both_true _ _ (of_template template_is_written s.first_byte s.fields s.behind s.template all_are_written s.has_template) in
     record {
-      alone = λ h. named_nothing s.row.second s.fields a.second s.second_part s.second (where_true (names_nothing s.row.first) (names_nothing s.row.second) t.0 (nothing_is_named s.row.first s.fields a.first s.first_part s.first h));
-      in_place = where_false (exchanges a.mnemonic) (is_memory (own_term a next a.second)) (λ e. named_no_memory a next s.row.second s.fields a.second s.second_part s.second (where_true (exchanges s.row.mnemonic) (names_no_memory s.row.second) t.1 (subst (λ (m : Mnemonic). exchanges m ≡ true) s.mnemonic e)));
+      alone = λ h. named_nothing s.template.second s.fields a.second s.second_part s.second (where_true (names_nothing s.template.first) (names_nothing s.template.second) t.0 (nothing_is_named s.template.first s.fields a.first s.first_part s.first h));
+      in_place = where_false (exchanges a.mnemonic) (is_memory (own_term a next a.second)) (λ e. named_no_memory a next s.template.second s.fields a.second s.second_part s.second (where_true (exchanges s.template.mnemonic) (names_no_memory s.template.second) t.1 (subst (λ (m : Mnemonic). exchanges m ≡ true) s.mnemonic e)));
     }

@@ -10,4 +10,4 @@ pub mod TextRead
 pub mod Data
 pub mod Fitting
 mod Reserved
-mod Rows
+mod ReservedPairs

@@ -61,10 +61,10 @@ PiecesAreRead = (ps : List Piece) (comment : List ℕ) → parted false ps ≡ t
 
 -- ---- instructions
 
--- the operand that an instruction's text is read as (`own_term`) is written as what that text shows (`written_of` of
+-- the operand that an instruction's text is read as (`own_term`) is written as what that text shows (`shown_operand` of
 -- `dm_decode::words`), wherever the instruction stands
 abbrev pub OwnTermsAreWritten : Type 0
-OwnTermsAreWritten = (a : Action) (next place : ℕ) (o : Operand) → written_of a.mnemonic (own_term a next o) place next ≡ Some (read.written_of a next o)
+OwnTermsAreWritten = (a : Action) (next place : ℕ) (o : Operand) → written_of a.mnemonic (own_term a next o) place next ≡ Some (read.shown_operand a next o)
 
 -- the number, without its sign, is below 65,536
 abbrev pub AmountFits : Amount → Type 0

@@ -62,13 +62,13 @@ base_at _ = None
 
 -- the memory operand with these registers, if there are any, and the number added to them; else with a number or
 -- label
-abbrev pub based : Size → Option (Base × List Token) → List Token → Option Term
-based s (Some b) ts = option_map (term.Memory s b.0) (added_of b.1)
-based s None ts = option_map (term.Address s) (parsed_value ts)
+abbrev pub based_term : Size → Option (Base × List Token) → List Token → Option Term
+based_term s (Some b) ts = option_map (term.Memory s b.0) (added_of b.1)
+based_term s None ts = option_map (term.Address s) (parsed_value ts)
 
 -- the memory operand with these tokens between its brackets and this size word before them
 abbrev pub memory_operand : Size → List Token → Option Term
-memory_operand s ts = based s (base_at ts) ts
+memory_operand s ts = based_term s (base_at ts) ts
 
 -- a token in front of those that `inside` finds between brackets; None without them
 abbrev pub onto : Token → Option (List Token) → Option (List Token)

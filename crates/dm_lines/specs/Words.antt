@@ -47,4 +47,4 @@ reserved_words =
 
 -- the token of a word in upper case; None if it is not reserved
 unfoldable pub reserved : List ℕ → Option Token
-reserved w = option_map (λ (row : List ℕ × Token). row.1) (named (λ (row : List ℕ × Token). row.0) reserved_words w)
+reserved w = option_map (λ (pair : List ℕ × Token). pair.1) (named (λ (pair : List ℕ × Token). pair.0) reserved_words w)

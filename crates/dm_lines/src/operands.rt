@@ -2,7 +2,7 @@
 //! section 2.9). None says that the tokens are no operand, number or value.
 
 ghost use Rattle.std.specs.Prelude.{◌≡◌, ◌<◌, ◌≤◌, ◌+◌, ◌∷◌, length, IfSome, None, option_map};
-ghost use Rattle.dm_lines.specs.Operands.{is_close, is_comma, minus, amount_of, added_of, parsed_value, amount_word, inside, base_at, based, memory_operand, memory_of, far_pointer, term_from_number, term_of, parts, term_pair, terms_of};
+ghost use Rattle.dm_lines.specs.Operands.{is_close, is_comma, minus, amount_of, added_of, parsed_value, amount_word, inside, base_at, based_term, memory_operand, memory_of, far_pointer, term_from_number, term_of, parts, term_pair, terms_of};
 ghost use Rattle.dm_lines.specs.inner.Operands.{seen, option_now, parts_behind};
 
 use crate::term::{Amount, Expression, Term};

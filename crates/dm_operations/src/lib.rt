@@ -33,7 +33,7 @@ pub use shifts::{
 };
 pub use shown::{shown_byte, shown_bytes, shown_word};
 pub use stack::{
-    InterruptOperation, StackOperation, act_on_interrupt, interrupt, interrupt_low,
+    InterruptOperation, StackOperation, execute_interrupt, interrupt, interrupt_low,
     interrupt_shown, pop_flags, pop_return_shown, pop_to, push_flags, push_register,
     push_return_shown, return_low, return_shown,
 };

@@ -1,4 +1,4 @@
--- What the getters of `clap` read of the rows.
+-- What the getters of `clap` read of the arguments.
 use Rattle.std.proofs.Common.{◌≡◌, ℕ, Option, Some, None, Result, IfOk, option_map, refl, sym, ok_or}
 use Rattle.std.specs.Borrow.{Bor}
 use Rattle.std.specs.Str.Parse.{ParsesUnsigned, ExplainsUnsignedError, HasUnsignedDigitsIfOk}

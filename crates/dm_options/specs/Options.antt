@@ -1,5 +1,5 @@
--- What the options of a command line are, by the rows that `clap` finds in its words: a row has an argument's name and
--- its texts.
+-- What the options of a command line are, by the arguments that `clap` finds in its words: each has a name and its
+-- texts.
 use Rattle.std.specs.Prelude.{◌≡◌, ℕ, ◌<◌, ◌^◌, Bool, true, false, List, Option, Some, None, ⊤, MatchOption, codes, map, option_map}
 use Rattle.std.specs.Str.Parse.{IsNumeral, digits_value, without_leading_plus}
 use Rattle.clap.specs.Words.{IsAmong, Kinds, Row, Text, all_of, first_of, kind_of, one_of}
@@ -29,33 +29,33 @@ pub record IsGiven (text : Option Text) (b : Bool) : Type 0 where
   pub not_given : text ≡ Some (codes "false") → b ≡ false
   pub unknown : text ≡ None → b ≡ false
 
--- o has the values of the options and files that `dm run`, `dm check`, `dm debug` and `dm gdb` share, as the rows have
--- them
-pub record HasMachineOptions (rows : List Row) (o : MachineOptions) : Type 0 where
-  pub steps : HasNumber 64 (one_of (codes "steps") rows) o.steps
-  pub ems_pages : HasNumber 32 (one_of (codes "ems") rows) o.ems_pages
-  pub xms_kib : HasNumber 32 (one_of (codes "xms") rows) o.xms_kib
-  pub upper : IsGiven (one_of (codes "upper") rows) o.upper
-  pub tail : first_of (codes "tail") rows ≡ Some o.tail.now
-  pub files : all_of (codes "files") rows ≡ Some (map (λ s. s.now) o.files.items)
+-- o has the values of the options and files that `dm run`, `dm check`, `dm debug` and `dm gdb` share, as the
+-- arguments have them
+pub record HasMachineOptions (arguments : List Row) (o : MachineOptions) : Type 0 where
+  pub steps : HasNumber 64 (one_of (codes "steps") arguments) o.steps
+  pub ems_pages : HasNumber 32 (one_of (codes "ems") arguments) o.ems_pages
+  pub xms_kib : HasNumber 32 (one_of (codes "xms") arguments) o.xms_kib
+  pub upper : IsGiven (one_of (codes "upper") arguments) o.upper
+  pub tail : first_of (codes "tail") arguments ≡ Some o.tail.now
+  pub files : all_of (codes "files") arguments ≡ Some (map (λ s. s.now) o.files.items)
 
--- o has the values of the options and files of `dm debug` and `dm gdb`, as the rows have them
-pub record HasDebugOptions (rows : List Row) (o : DebugOptions) : Type 0 where
-  pub machine : HasMachineOptions rows o.machine
-  pub input : first_of (codes "input") rows ≡ option_map (λ s. s.now) o.input
+-- o has the values of the options and files of `dm debug` and `dm gdb`, as the arguments have them
+pub record HasDebugOptions (arguments : List Row) (o : DebugOptions) : Type 0 where
+  pub machine : HasMachineOptions arguments o.machine
+  pub input : first_of (codes "input") arguments ≡ option_map (λ s. s.now) o.input
 
--- o has the values of the options and files of `dm check`, as the rows have them
-pub record HasCheckOptions (rows : List Row) (o : CheckOptions) : Type 0 where
-  pub machine : HasMachineOptions rows o.machine
-  pub no_free : IsGiven (one_of (codes "no-free") rows) o.no_free
-  pub json : IsGiven (one_of (codes "json") rows) o.json
+-- o has the values of the options and files of `dm check`, as the arguments have them
+pub record HasCheckOptions (arguments : List Row) (o : CheckOptions) : Type 0 where
+  pub machine : HasMachineOptions arguments o.machine
+  pub no_free : IsGiven (one_of (codes "no-free") arguments) o.no_free
+  pub json : IsGiven (one_of (codes "json") arguments) o.json
 
--- o has the two paths of `dm asm`, as the rows have them
-pub record HasAsmOptions (rows : List Row) (o : AsmOptions) : Type 0 where
-  pub input : first_of (codes "in") rows ≡ Some o.input.now
-  pub output : first_of (codes "out") rows ≡ Some o.output.now
+-- o has the two paths of `dm asm`, as the arguments have them
+pub record HasAsmOptions (arguments : List Row) (o : AsmOptions) : Type 0 where
+  pub input : first_of (codes "in") arguments ≡ Some o.input.now
+  pub output : first_of (codes "out") arguments ≡ Some o.output.now
 
--- these are the options of a subcommand, by its name and its rows
+-- these are the options of a subcommand, by its name and its arguments
 abbrev pub HasOptions : Text × List Row → Options → Type 0
 HasOptions given (command.Run o) = (given.0 ≡ codes "run") × HasMachineOptions given.1 o
 HasOptions given (command.Debug o) = (given.0 ≡ codes "debug") × HasDebugOptions given.1 o

@@ -130,7 +130,7 @@ fn rotate_through_carry_drops_the_top_bit(rt: HostRuntime) {
     );
 }
 
-/// Definitions: dm_alu Shifts shift_value shifted moves one_move to_left to_right
+/// Definitions: dm_alu Shifts shift_value after_moves moves one_move to_left to_right
 #[test]
 fn shift_count_is_not_masked(rt: HostRuntime) {
     let clear = Flags::from_word(CLEAR);
@@ -383,7 +383,7 @@ fn folded_shifts(checksum: u32, operation: ShiftOperation, carry: bool, count: u
     checksum
 }
 
-/// Definitions: dm_alu Shifts shift_value shifted moves one_move to_left to_right flags_after_shift flags_of_move
+/// Definitions: dm_alu Shifts shift_value after_moves moves one_move to_left to_right flags_after_shift flags_of_move
 /// Definitions: dm_alu Shifts overflow_after_shift second_bit differ
 #[test]
 fn shifts_of_all_bytes_by_0_to_31(rt: HostRuntime) {

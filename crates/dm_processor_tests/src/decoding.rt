@@ -243,8 +243,8 @@ fn is_prefix(byte: u8) -> bool {
 }
 
 /// Definitions: dm_ins Ins Spells
-/// Definitions: dm_ins Table entries entry_of groups member_of row two_operands one_operand bare each_word pair zeroth six arithmetics
-/// Definitions: dm_ins Table immediate shifts unary conditions
+/// Definitions: dm_ins Table entries entry_of groups member_of template two_operands one_operand bare each_word pair
+/// Definitions: dm_ins Table zeroth six arithmetics immediate shifts unary conditions
 /// Definitions: dm_decode Decoded Decodes
 #[test]
 fn each_first_and_second_byte_is_listed_or_not(rt: HostRuntime) {
@@ -294,7 +294,7 @@ fn check(
 /// Definitions: dm_ins Table entries entry_of Eb Ew Gb Gw M Ib Iw Is Db Dw Ob Ow Ap One AL CL AX DX S
 /// Definitions: dm_decode Decoded Decodes
 #[test]
-fn operands_stand_in_the_order_of_their_row(rt: HostRuntime) {
+fn operands_stand_in_the_order_of_their_template(rt: HostRuntime) {
     let al = Operand::ByteRegister(ByteRegister::Al);
     let ah = Operand::ByteRegister(ByteRegister::Ah);
     let cl = Operand::ByteRegister(ByteRegister::Cl);

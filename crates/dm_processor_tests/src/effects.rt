@@ -679,7 +679,7 @@ fn exchanges_pointers_and_conversions(rt: HostRuntime) -> Result<(), Fail> {
     check(&rt, rt.alloc(), TRANSFERS_OF_DATA)
 }
 
-/// Definitions: dm_cpu Guest up down at_ip on_cpu with_flags; dm_exec Effect effect act next_of HaltKeeps
+/// Definitions: dm_cpu Guest up down at_ip on_cpu with_flags; dm_exec Effect effect operation_effect next_of HaltKeeps
 #[test]
 fn instructions_with_no_effect(rt: HostRuntime) -> Result<(), Fail> {
     check(&rt, rt.alloc(), NOTHING)
@@ -724,7 +724,7 @@ fn logic_clears_carry_and_keeps_adjust(rt: HostRuntime) -> Result<(), Fail> {
     check(&rt, rt.alloc(), BITWISE)
 }
 
-/// Definitions: dm_alu Shifts shift_value shifted moves one_move to_left to_right flags_after_shift flags_of_move
+/// Definitions: dm_alu Shifts shift_value after_moves moves one_move to_left to_right flags_after_shift flags_of_move
 /// Definitions: dm_alu Shifts overflow_after_shift second_bit differ
 /// Definitions: dm_operations Shifts shifted
 #[test]

@@ -20,12 +20,12 @@ fn check(
         first,
         second,
     };
-    let ins = Ins::new(prefixes, action).expect(rt, "no row has this action");
+    let ins = Ins::new(prefixes, action).expect(rt, "no template has this action");
     assert_eq!(rt; encode(&ins).as_slice(), bytes);
 }
 
 /// Definitions: dm_ins Ins Spells
-/// Definitions: dm_ins Spelling SpellsAction HasRow MaySpellFields has_fields uses_fields no_fields SpellsFields
+/// Definitions: dm_ins Spelling SpellsAction HasTemplate MaySpellFields has_fields uses_fields no_fields SpellsFields
 /// Definitions: dm_ins Spelling SpellsMemory based direct word_bytes sign_extended
 /// Definitions: dm_ins Order before; dm_ins Preferred IsPreferred
 #[test]
@@ -136,10 +136,10 @@ fn encode_puts_the_kept_prefixes_in_the_order_of_their_bytes(rt: HostRuntime) {
     );
 }
 
-/// Definitions: dm_ins Spelling SpellsAction HasRow MaySpellFields has_fields uses_fields no_fields
+/// Definitions: dm_ins Spelling SpellsAction HasTemplate MaySpellFields has_fields uses_fields no_fields
 /// Definitions: dm_ins Table groups member_of
 #[test]
-fn actions_with_no_row_are_no_instructions(rt: HostRuntime) {
+fn actions_with_no_template_are_no_instructions(rt: HostRuntime) {
     let ax = Operand::WordRegister(WordRegister::Ax);
     for (mnemonic, first, second) in [
         (Mnemonic::CallFar, ax, Operand::Nothing),

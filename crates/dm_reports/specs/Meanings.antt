@@ -10,14 +10,14 @@ use Rattle.dm_findings.specs.declared.finding.Act.TheVariants as act
 
 -- the meaning of error code 01h of a function of INT 21h, behind a comma: a function that is served does not take what
 -- AL or BX has
-abbrev pub invalid_meaning : Function → List ℕ
-invalid_meaning Unknown = codes ", no such function"
-invalid_meaning _ = codes ", no such subfunction or value"
+abbrev pub invalid_function_meaning : Function → List ℕ
+invalid_function_meaning Unknown = codes ", no such function"
+invalid_function_meaning _ = codes ", no such subfunction or value"
 
 -- the meaning of an error code of the function of INT 21h with this number, behind a comma; empty for another code
 abbrev pub dos_meaning : ℕ → ℕ → List ℕ
 dos_meaning number code =
-    if code == 0x01 then invalid_meaning (function_of number) else
+    if code == 0x01 then invalid_function_meaning (function_of number) else
     if code == 0x02 then codes ", no such program" else
     if code == 0x07 then codes ", no valid block list" else
     if code == 0x08 then codes ", not enough memory" else

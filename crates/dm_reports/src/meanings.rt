@@ -2,15 +2,15 @@
 //! appendix A; XMS 3.0, error code index).
 
 ghost use Rattle.std.specs.Prelude.{◌≡◌};
-ghost use Rattle.dm_reports.specs.Meanings.{dos_meaning, expanded_meaning, extended_meaning, invalid_meaning, meaning_text};
+ghost use Rattle.dm_reports.specs.Meanings.{dos_meaning, expanded_meaning, extended_meaning, invalid_function_meaning, meaning_text};
 
 use dm_findings::{Act, Call};
 use dm_services::{Function, function_of};
 
 /// The meaning of error code 01h of a function of INT 21h, behind a comma: a function that is served does not take what
 /// AL or BX has.
-fn invalid_meaning(function: Function) -> &'static [u8]
-    ensures { result.now ≡ invalid_meaning function }
+fn invalid_function_meaning(function: Function) -> &'static [u8]
+    ensures { result.now ≡ invalid_function_meaning function }
 {
     match function {
         Function::Unknown => b", no such function",
@@ -23,7 +23,7 @@ fn dos_meaning(number: u8, code: u8) -> &'static [u8]
     ensures { result.now ≡ dos_meaning number code }
 {
     match code {
-        0x01 => invalid_meaning(function_of(number)),
+        0x01 => invalid_function_meaning(function_of(number)),
         0x02 => b", no such program",
         0x07 => b", no valid block list",
         0x08 => b", not enough memory",

@@ -2,7 +2,7 @@
 -- Source: GDB manual, "GDB Remote Serial Protocol", "Packets" (`m`, `Z`).
 use Rattle.std.specs.Prelude.{ℕ, ◌==◌, ◌||◌, if◌then◌else◌, List, [], ◌∷◌, ◌++◌, length, take, drop, Option, Some, None}
 use Rattle.std.specs.Str.{bytes_eq}
-use Rattle.dm_requests.specs.commands.Numbers.{◌>>=◌, number_of}
+use Rattle.dm_requests.specs.commands.Numbers.{◌>>=◌, hexadecimal_number}
 use Rattle.dm_requests.specs.declared.request.WatchedAccess.{WatchedAccess}
 use Rattle.dm_requests.specs.declared.request.WatchedAccess.TheVariants.{Execute, Write, Read, Either}
 use Rattle.dm_requests.specs.declared.request.Point.{Point}
@@ -16,8 +16,8 @@ cut_at separator front (b ∷ bs) = if b == separator then Some (front, bs) else
 abbrev pub two_numbers : List ℕ → Option (ℕ × ℕ)
 two_numbers bytes = do
   parts ← cut_at 44 [] bytes
-  first ← number_of parts.0
-  second ← number_of parts.1
+  first ← hexadecimal_number parts.0
+  second ← hexadecimal_number parts.1
   Some (first, second)
 
 -- the bytes after a prefix; None if they do not begin with it

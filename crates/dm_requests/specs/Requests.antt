@@ -3,7 +3,7 @@
 use Rattle.std.specs.Option.{option_map_or}
 use Rattle.std.specs.Prelude.{ℕ, ◌==◌, if◌then◌else◌, List, [], ◌∷◌, length, codes, Option}
 use Rattle.hex.specs.Hex.{decode_of}
-use Rattle.dm_requests.specs.commands.Numbers.{number_of, if_good}
+use Rattle.dm_requests.specs.commands.Numbers.{hexadecimal_number, if_good}
 use Rattle.dm_requests.specs.declared.request.Point.{Point}
 use Rattle.dm_requests.specs.declared.request.Request.{Request}
 use Rattle.dm_requests.specs.declared.request.Request.TheVariants as request
@@ -27,7 +27,7 @@ set_memory_of bytes =
 
 -- `p N`, without its `p`
 abbrev pub register_of : List ℕ → Request
-register_of bytes = if_read (number_of bytes) request.Register
+register_of bytes = if_read (hexadecimal_number bytes) request.Register
 
 -- `P`, by its number and its bytes; None if they were not spelled
 abbrev pub set_register_with : Option ℕ → Option (List ℕ) → Request
@@ -36,7 +36,7 @@ set_register_with number bytes = if_read number (λ n. if_read bytes (request.Se
 -- `P N=BYTES`, without its `P`
 abbrev pub set_register_of : List ℕ → Request
 set_register_of bytes =
-    if_read (cut_at 61 [] bytes) (λ parts. set_register_with (number_of parts.0) (if_good (decode_of parts.1)))
+    if_read (cut_at 61 [] bytes) (λ parts. set_register_with (hexadecimal_number parts.0) (if_good (decode_of parts.1)))
 
 -- `G BYTES`, without its `G`
 abbrev pub set_registers_of : List ℕ → Request

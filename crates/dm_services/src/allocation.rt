@@ -34,7 +34,7 @@ pub(crate) fn answer(parts: &mut Parts, carry: bool)
 
 /// 48h: allocates BX paragraphs for the present process; AX becomes the segment of the block, and CF is clear. On an
 /// error, 7 or 8, AX is the error code, CF is set and memory stays; for error 8, BX is the size of the largest free
-/// block that the strategy allows, in paragraphs, where free blocks in a row count as one.
+/// block that the strategy allows, in paragraphs, where adjacent free blocks count as one.
 pub(crate) fn allocate(parts: &mut Parts)
     ensures { Allocation parts.old (record { stop = None; state = parts.new }) }
 {

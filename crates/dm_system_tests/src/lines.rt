@@ -176,13 +176,13 @@ fn spaces_part_words(rt: HostRuntime) -> Result<(), Fail> {
 }
 
 /// Definitions: dm_requests commands.Commands alone with_one with_two at_address
-/// Definitions: dm_requests commands.Numbers number_of digits_of up_to word_from_digits
+/// Definitions: dm_requests commands.Numbers hexadecimal_number digits_of up_to word_from_digits
 #[test]
 fn numbers_are_hexadecimal(rt: HostRuntime) -> Result<(), Fail> {
     check(&rt, rt.alloc(), NUMBERS)
 }
 
-/// Definitions: dm_requests commands.Numbers number_of digits_of up_to word_from_digits logical_address parts_of
+/// Definitions: dm_requests commands.Numbers hexadecimal_number digits_of up_to word_from_digits logical_address parts_of
 #[test]
 fn addresses_are_two_words(rt: HostRuntime) -> Result<(), Fail> {
     check(&rt, rt.alloc(), ADDRESSES)

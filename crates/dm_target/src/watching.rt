@@ -189,7 +189,7 @@ fn pause_at(stop: Stop, hit: Option<Point>) -> Option<Pause>
 }
 
 /// Makes the step of an instruction, and looks at what it touches.
-fn perform(history: &mut History, watches: &[Point]) -> Option<Pause>
+fn look_at_instruction(history: &mut History, watches: &[Point]) -> Option<Pause>
     requires { entry_point_at history.old.machine.cpu.cs history.old.machine.cpu.ip ≡ None }
     ensures looks { Looks watches.now history.old.machine result history.new.machine }
     ensures beginning { history.new.beginning ≡ history.old.beginning }
@@ -201,7 +201,7 @@ fn perform(history: &mut History, watches: &[Point]) -> Option<Pause>
 }
 
 /// Makes the step of a service or driver, and looks at what it changes; makes none if the watched bytes cannot be kept.
-fn act(alloc: Global, history: &mut History, watches: &[Point]) -> Option<Pause>
+fn look_at_call(alloc: Global, history: &mut History, watches: &[Point]) -> Option<Pause>
     requires there { (what : EntryPoint) × (entry_point_at history.old.machine.cpu.cs history.old.machine.cpu.ip ≡ Some what) }
     requires watched { watches.now ≢ [] }
     ensures looks { Looks watches.now history.old.machine result history.new.machine }
@@ -229,7 +229,7 @@ pub(crate) fn look(alloc: Global, history: &mut History, watches: &[Point]) -> O
     }
     let cpu = history.machine().cpu();
     match entry_point_at(cpu.cs, cpu.ip) {
-        Some(_) => act(alloc, history, watches),
-        None => perform(history, watches),
+        Some(_) => look_at_call(alloc, history, watches),
+        None => look_at_instruction(history, watches),
     }
 }

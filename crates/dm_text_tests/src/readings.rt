@@ -280,7 +280,7 @@ fn counts_are_one_or_cl(rt: HostRuntime) -> Result<(), Fail> {
 
 /// Definitions: dm_decode words.Words AreWords IsWritten IsNumber
 #[test]
-fn operands_are_those_of_a_row(rt: HostRuntime) -> Result<(), Fail> {
+fn operands_are_those_of_a_template(rt: HostRuntime) -> Result<(), Fail> {
     check(&rt, OPERANDS)
 }
 

@@ -302,7 +302,7 @@ fn instructions_with_no_operand(rt: HostRuntime) -> Result<(), Fail> {
 }
 
 /// Definitions: dm_decode Texts action_pieces is_nop mnemonic_pieces
-/// Definitions: dm_decode Names name_of word_name byte_name segment_name; dm_exec Effect effect act
+/// Definitions: dm_decode Names name_of word_name byte_name segment_name; dm_exec Effect effect operation_effect
 /// Definitions: dm_exec Operation operation_of
 #[test]
 fn each_mnemonic_has_a_row(rt: HostRuntime) -> Result<(), Fail> {

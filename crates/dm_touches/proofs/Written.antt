@@ -23,7 +23,7 @@ use Rattle.dm_exec.specs.declared.operation.StringOperation.TheVariants as strin
 use Rattle.dm_exec.specs.Moves.{moved, exchanged, pointer_loaded, port_input, move_effect}
 use Rattle.dm_exec.specs.Jumps.{jumped, jumped_where, jumped_if, looped, far_jumped, called, far_called, returned, transferred}
 use Rattle.dm_exec.specs.Strings.{once, string_effect}
-use Rattle.dm_exec.specs.Effect.{act, effect}
+use Rattle.dm_exec.specs.Effect.{operation_effect, effect}
 use Rattle.dm_touches.specs.declared.elements.FarAddress.{FarAddress}
 use Rattle.dm_touches.specs.declared.elements.Elements.{Elements}
 use Rattle.dm_touches.specs.Elements.{bytes_of, nothing}
@@ -73,83 +73,83 @@ string_keeps w g override (Some repeat) operation start = unless_keeps (g.cpu.cx
 
 -- ---- each instruction
 
-act_keeps : (g : Guest) (p : Prefixes) (start : ℕ) (m : Mnemonic) (a b : Operand) → KeepsOthers g.memory (act g p start (operation_of m) a b).memory (bytes_of (writes_by g p (access_of m) a b))
+operation_effect_keeps : (g : Guest) (p : Prefixes) (start : ℕ) (m : Mnemonic) (a b : Operand) → KeepsOthers g.memory (operation_effect g p start (operation_of m) a b).memory (bytes_of (writes_by g p (access_of m) a b))
 unfolding operation_of access_of writes_by move_effect moved exchanged pointer_loaded port_input stack_effect popped_into flags_popped arithmetic sum_into difference_into compared logic_into tested incremented decremented negated complemented shifted multiplied divided jumped_if looped transferred jumped far_jumped called far_called returned far_returned interrupt_effect interrupt_return push
-act_keeps g p start op.Push a b = keeps_push g _
-act_keeps g p start op.Pushf a b = keeps_push g _
-act_keeps g p start op.Call a b = keeps_push g _
-act_keeps g p start op.CallFar a b = keeps_two g.memory _ (pushed g.cpu) (pushed_second g.cpu) (keeps_pushes g _ _)
-act_keeps g p start op.Int a b = keeps_interrupt g _
-act_keeps g p start op.Int3 a b = keeps_interrupt g 3
-act_keeps g p start op.Into a b = into_keeps g.cpu.flags.overflow g
-act_keeps g p start op.Div a b = division_keeps _ g _
-act_keeps g p start op.Idiv a b = division_keeps _ g _
-act_keeps g p start op.Xchg a b = keeps_operands g p.segment a b _ _
-act_keeps g p start op.Cmp a b = keeps_all g.memory
-act_keeps g p start op.Test a b = keeps_all g.memory
-act_keeps g p start op.Mul a b = keeps_all g.memory
-act_keeps g p start op.Imul a b = keeps_all g.memory
-act_keeps g p start op.Aaa a b = keeps_all g.memory
-act_keeps g p start op.Aad a b = keeps_all g.memory
-act_keeps g p start op.Aam a b = keeps_all g.memory
-act_keeps g p start op.Aas a b = keeps_all g.memory
-act_keeps g p start op.Daa a b = keeps_all g.memory
-act_keeps g p start op.Das a b = keeps_all g.memory
-act_keeps g p start op.Cbw a b = keeps_all g.memory
-act_keeps g p start op.Cwd a b = keeps_all g.memory
-act_keeps g p start op.Lahf a b = keeps_all g.memory
-act_keeps g p start op.Sahf a b = keeps_all g.memory
-act_keeps g p start op.Xlat a b = keeps_all g.memory
-act_keeps g p start op.Popf a b = keeps_all g.memory
-act_keeps g p start op.Jmp a b = keeps_all g.memory
-act_keeps g p start op.JmpShort a b = keeps_all g.memory
-act_keeps g p start op.JmpFar a b = keeps_all g.memory
-act_keeps g p start op.Ret a b = keeps_all g.memory
-act_keeps g p start op.Retf a b = keeps_all g.memory
-act_keeps g p start op.Iret a b = keeps_all g.memory
-act_keeps g p start op.Clc a b = keeps_all g.memory
-act_keeps g p start op.Cld a b = keeps_all g.memory
-act_keeps g p start op.Cli a b = keeps_all g.memory
-act_keeps g p start op.Cmc a b = keeps_all g.memory
-act_keeps g p start op.Stc a b = keeps_all g.memory
-act_keeps g p start op.Std a b = keeps_all g.memory
-act_keeps g p start op.Sti a b = keeps_all g.memory
-act_keeps g p start op.Esc a b = keeps_all g.memory
-act_keeps g p start op.Output a b = keeps_all g.memory
-act_keeps g p start op.Wait a b = keeps_all g.memory
-act_keeps g p start op.Hlt a b = keeps_all g.memory
-act_keeps g p start op.Jo a b = jump_keeps _ g p.segment a
-act_keeps g p start op.Jno a b = jump_keeps _ g p.segment a
-act_keeps g p start op.Jb a b = jump_keeps _ g p.segment a
-act_keeps g p start op.Jae a b = jump_keeps _ g p.segment a
-act_keeps g p start op.Jz a b = jump_keeps _ g p.segment a
-act_keeps g p start op.Jnz a b = jump_keeps _ g p.segment a
-act_keeps g p start op.Jbe a b = jump_keeps _ g p.segment a
-act_keeps g p start op.Ja a b = jump_keeps _ g p.segment a
-act_keeps g p start op.Js a b = jump_keeps _ g p.segment a
-act_keeps g p start op.Jns a b = jump_keeps _ g p.segment a
-act_keeps g p start op.Jp a b = jump_keeps _ g p.segment a
-act_keeps g p start op.Jnp a b = jump_keeps _ g p.segment a
-act_keeps g p start op.Jl a b = jump_keeps _ g p.segment a
-act_keeps g p start op.Jge a b = jump_keeps _ g p.segment a
-act_keeps g p start op.Jle a b = jump_keeps _ g p.segment a
-act_keeps g p start op.Jg a b = jump_keeps _ g p.segment a
-act_keeps g p start op.Loop a b = jump_keeps _ (on_cpu g _) p.segment a
-act_keeps g p start op.Loope a b = jump_keeps _ (on_cpu g _) p.segment a
-act_keeps g p start op.Loopne a b = jump_keeps _ (on_cpu g _) p.segment a
-act_keeps g p start op.Jcxz a b = jump_keeps _ (on_cpu g _) p.segment a
-act_keeps g p start op.Movsb a b = string_keeps _ g p.segment p.repeat string.Move start
-act_keeps g p start op.Movsw a b = string_keeps _ g p.segment p.repeat string.Move start
-act_keeps g p start op.Cmpsb a b = string_keeps _ g p.segment p.repeat string.Compare start
-act_keeps g p start op.Cmpsw a b = string_keeps _ g p.segment p.repeat string.Compare start
-act_keeps g p start op.Stosb a b = string_keeps _ g p.segment p.repeat string.Store start
-act_keeps g p start op.Stosw a b = string_keeps _ g p.segment p.repeat string.Store start
-act_keeps g p start op.Lodsb a b = string_keeps _ g p.segment p.repeat string.Load start
-act_keeps g p start op.Lodsw a b = string_keeps _ g p.segment p.repeat string.Load start
-act_keeps g p start op.Scasb a b = string_keeps _ g p.segment p.repeat string.Scan start
-act_keeps g p start op.Scasw a b = string_keeps _ g p.segment p.repeat string.Scan start
-act_keeps g p start _ a b = keeps_operand g _ p.segment a _ (record { bx = refl; bp = refl; si = refl; di = refl; es = refl; cs = refl; ss = refl; ds = refl }) refl
+operation_effect_keeps g p start op.Push a b = keeps_push g _
+operation_effect_keeps g p start op.Pushf a b = keeps_push g _
+operation_effect_keeps g p start op.Call a b = keeps_push g _
+operation_effect_keeps g p start op.CallFar a b = keeps_two g.memory _ (pushed g.cpu) (pushed_second g.cpu) (keeps_pushes g _ _)
+operation_effect_keeps g p start op.Int a b = keeps_interrupt g _
+operation_effect_keeps g p start op.Int3 a b = keeps_interrupt g 3
+operation_effect_keeps g p start op.Into a b = into_keeps g.cpu.flags.overflow g
+operation_effect_keeps g p start op.Div a b = division_keeps _ g _
+operation_effect_keeps g p start op.Idiv a b = division_keeps _ g _
+operation_effect_keeps g p start op.Xchg a b = keeps_operands g p.segment a b _ _
+operation_effect_keeps g p start op.Cmp a b = keeps_all g.memory
+operation_effect_keeps g p start op.Test a b = keeps_all g.memory
+operation_effect_keeps g p start op.Mul a b = keeps_all g.memory
+operation_effect_keeps g p start op.Imul a b = keeps_all g.memory
+operation_effect_keeps g p start op.Aaa a b = keeps_all g.memory
+operation_effect_keeps g p start op.Aad a b = keeps_all g.memory
+operation_effect_keeps g p start op.Aam a b = keeps_all g.memory
+operation_effect_keeps g p start op.Aas a b = keeps_all g.memory
+operation_effect_keeps g p start op.Daa a b = keeps_all g.memory
+operation_effect_keeps g p start op.Das a b = keeps_all g.memory
+operation_effect_keeps g p start op.Cbw a b = keeps_all g.memory
+operation_effect_keeps g p start op.Cwd a b = keeps_all g.memory
+operation_effect_keeps g p start op.Lahf a b = keeps_all g.memory
+operation_effect_keeps g p start op.Sahf a b = keeps_all g.memory
+operation_effect_keeps g p start op.Xlat a b = keeps_all g.memory
+operation_effect_keeps g p start op.Popf a b = keeps_all g.memory
+operation_effect_keeps g p start op.Jmp a b = keeps_all g.memory
+operation_effect_keeps g p start op.JmpShort a b = keeps_all g.memory
+operation_effect_keeps g p start op.JmpFar a b = keeps_all g.memory
+operation_effect_keeps g p start op.Ret a b = keeps_all g.memory
+operation_effect_keeps g p start op.Retf a b = keeps_all g.memory
+operation_effect_keeps g p start op.Iret a b = keeps_all g.memory
+operation_effect_keeps g p start op.Clc a b = keeps_all g.memory
+operation_effect_keeps g p start op.Cld a b = keeps_all g.memory
+operation_effect_keeps g p start op.Cli a b = keeps_all g.memory
+operation_effect_keeps g p start op.Cmc a b = keeps_all g.memory
+operation_effect_keeps g p start op.Stc a b = keeps_all g.memory
+operation_effect_keeps g p start op.Std a b = keeps_all g.memory
+operation_effect_keeps g p start op.Sti a b = keeps_all g.memory
+operation_effect_keeps g p start op.Esc a b = keeps_all g.memory
+operation_effect_keeps g p start op.Output a b = keeps_all g.memory
+operation_effect_keeps g p start op.Wait a b = keeps_all g.memory
+operation_effect_keeps g p start op.Hlt a b = keeps_all g.memory
+operation_effect_keeps g p start op.Jo a b = jump_keeps _ g p.segment a
+operation_effect_keeps g p start op.Jno a b = jump_keeps _ g p.segment a
+operation_effect_keeps g p start op.Jb a b = jump_keeps _ g p.segment a
+operation_effect_keeps g p start op.Jae a b = jump_keeps _ g p.segment a
+operation_effect_keeps g p start op.Jz a b = jump_keeps _ g p.segment a
+operation_effect_keeps g p start op.Jnz a b = jump_keeps _ g p.segment a
+operation_effect_keeps g p start op.Jbe a b = jump_keeps _ g p.segment a
+operation_effect_keeps g p start op.Ja a b = jump_keeps _ g p.segment a
+operation_effect_keeps g p start op.Js a b = jump_keeps _ g p.segment a
+operation_effect_keeps g p start op.Jns a b = jump_keeps _ g p.segment a
+operation_effect_keeps g p start op.Jp a b = jump_keeps _ g p.segment a
+operation_effect_keeps g p start op.Jnp a b = jump_keeps _ g p.segment a
+operation_effect_keeps g p start op.Jl a b = jump_keeps _ g p.segment a
+operation_effect_keeps g p start op.Jge a b = jump_keeps _ g p.segment a
+operation_effect_keeps g p start op.Jle a b = jump_keeps _ g p.segment a
+operation_effect_keeps g p start op.Jg a b = jump_keeps _ g p.segment a
+operation_effect_keeps g p start op.Loop a b = jump_keeps _ (on_cpu g _) p.segment a
+operation_effect_keeps g p start op.Loope a b = jump_keeps _ (on_cpu g _) p.segment a
+operation_effect_keeps g p start op.Loopne a b = jump_keeps _ (on_cpu g _) p.segment a
+operation_effect_keeps g p start op.Jcxz a b = jump_keeps _ (on_cpu g _) p.segment a
+operation_effect_keeps g p start op.Movsb a b = string_keeps _ g p.segment p.repeat string.Move start
+operation_effect_keeps g p start op.Movsw a b = string_keeps _ g p.segment p.repeat string.Move start
+operation_effect_keeps g p start op.Cmpsb a b = string_keeps _ g p.segment p.repeat string.Compare start
+operation_effect_keeps g p start op.Cmpsw a b = string_keeps _ g p.segment p.repeat string.Compare start
+operation_effect_keeps g p start op.Stosb a b = string_keeps _ g p.segment p.repeat string.Store start
+operation_effect_keeps g p start op.Stosw a b = string_keeps _ g p.segment p.repeat string.Store start
+operation_effect_keeps g p start op.Lodsb a b = string_keeps _ g p.segment p.repeat string.Load start
+operation_effect_keeps g p start op.Lodsw a b = string_keeps _ g p.segment p.repeat string.Load start
+operation_effect_keeps g p start op.Scasb a b = string_keeps _ g p.segment p.repeat string.Scan start
+operation_effect_keeps g p start op.Scasw a b = string_keeps _ g p.segment p.repeat string.Scan start
+operation_effect_keeps g p start _ a b = keeps_operand g _ p.segment a _ (record { bx = refl; bp = refl; si = refl; di = refl; es = refl; cs = refl; ss = refl; ds = refl }) refl
 
 pub writes_listed : WritesAreListed
 unfolding effect writes
-writes_listed g i length = act_keeps (at_ip g (up g.cpu.ip length)) i.prefixes g.cpu.ip i.action.mnemonic i.action.first i.action.second
+writes_listed g i length = operation_effect_keeps (at_ip g (up g.cpu.ip length)) i.prefixes g.cpu.ip i.action.mnemonic i.action.first i.action.second

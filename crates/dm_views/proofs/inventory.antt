@@ -1,4 +1,4 @@
-pub mod ArenaRows
+pub mod ArenaRecords
 pub mod ArenaLists
-pub mod NumberedRows
+pub mod NumberedRecords
 pub mod ArenaOnce

@@ -1,4 +1,4 @@
-pub mod Rows
+pub mod Records
 pub mod Arena
 pub mod Pages
 pub mod Extended

@@ -145,7 +145,7 @@ turn_consistent x k i new t l u = record {
   line = l.line;
 }
 
--- ---- rows
+-- ---- calls
 
 pub record Keeps {A : Type 0} (x : Extended) (r : Result (A × Extended) Status) : Type 0 where
   pub kept : IsConsistent (state_after x r)
@@ -161,7 +161,7 @@ need_keeps x (Some v) e f l h = h v refl
 refused : {A : Type 0} (x : Extended) (e : Status) → IsConsistent x → Keeps {A = A} x (Err e)
 refused x e l = record { kept = l }
 
--- ---- rows of the tables alone
+-- ---- calls that change the tables alone
 
 pub record KeepsTables {A E : Type 0} (x : Extended) (r : Result (A × Tables) E) : Type 0 where
   pub kept : IsConsistent (extended (state_after x.xms r) x.memory)
@@ -450,10 +450,10 @@ enable_locally_keeps : (x : Extended) → IsConsistent x → Keeps x (enable_loc
 unfolding enable_locally
 enable_locally_keeps x l = enabled_if x (x.xms.local == 0xFFFF) l
 
-abbrev disabled_row : Extended → Bool → Bool → (Result (Unit {0}) Status × Extended)
-disabled_row x b c = cond b (Err LineError, x) (cond c (Err LineStillOn) (Ok tt), switched x x.xms.global (x.xms.local - 1))
+abbrev disabled_result : Extended → Bool → Bool → (Result (Unit {0}) Status × Extended)
+disabled_result x b c = cond b (Err LineError, x) (cond c (Err LineStillOn) (Ok tt), switched x x.xms.global (x.xms.local - 1))
 
-disabled_if : (x : Extended) (b c : Bool) → IsConsistent x → IsConsistent (disabled_row x b c).1
+disabled_if : (x : Extended) (b c : Bool) → IsConsistent x → IsConsistent (disabled_result x b c).1
 disabled_if x true c l = l
 disabled_if x false c l = switched_keeps x x.xms.global (x.xms.local - 1) l
 

@@ -122,7 +122,7 @@ no_block [] i = refl
 no_block (p ∷ ps) zero = refl
 no_block (p ∷ ps) (suc i) = no_block ps i
 
--- ---- rows
+-- ---- calls
 
 record Leaves {A E : Type 0} (x : Extended) (r : Result (A × Extended) E) : Type 0 where
   pub kept : LeavesOutside x (state_after x r)
@@ -142,7 +142,7 @@ then_leaves x (Err e) f h = record { kept = leaves_all x }
 refused : {A E : Type 0} (x : Extended) (e : E) → Leaves {A = A} x (Err e)
 refused x e = record { kept = leaves_all x }
 
--- ---- rows of the tables alone
+-- ---- calls that change the tables alone
 
 record LeavesTables {A E : Type 0} (xms : Tables) (r : Result (A × Tables) E) : Type 0 where
   pub kept : (state_after xms r).handles ≡ xms.handles
@@ -292,10 +292,10 @@ enable_locally_leaves : (x : Extended) → Leaves x (enable_locally x)
 unfolding enable_locally
 enable_locally_leaves x = enabled_if x (x.xms.local == 0xFFFF)
 
-abbrev disabled_row : Extended → Bool → Bool → (Result (Unit {0}) Status × Extended)
-disabled_row x b c = cond b (Err LineError, x) (cond c (Err LineStillOn) (Ok tt), switched x x.xms.global (x.xms.local - 1))
+abbrev disabled_result : Extended → Bool → Bool → (Result (Unit {0}) Status × Extended)
+disabled_result x b c = cond b (Err LineError, x) (cond c (Err LineStillOn) (Ok tt), switched x x.xms.global (x.xms.local - 1))
 
-disabled_if : (x : Extended) (b c : Bool) → LeavesOutside x (disabled_row x b c).1
+disabled_if : (x : Extended) (b c : Bool) → LeavesOutside x (disabled_result x b c).1
 disabled_if x true c = leaves_all x
 disabled_if x false c = switched_leaves x x.xms.global (x.xms.local - 1)
 

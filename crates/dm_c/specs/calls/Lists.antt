@@ -9,8 +9,8 @@ use Rattle.dm_views.specs.declared.inventory.extended.ExtendedBlock.{ExtendedBlo
 use Rattle.dm_views.specs.declared.inventory.extended.UpperBlock.{UpperBlock}
 use Rattle.dm_views.specs.declared.inventory.findings.FoundRecord.{FoundRecord}
 use Rattle.dm_views.specs.inventory.Arena.{IsListedArena}
-use Rattle.dm_views.specs.inventory.Pages.{truth_number, handle_rows, window_rows}
-use Rattle.dm_views.specs.inventory.Extended.{extended_rows, upper_rows}
+use Rattle.dm_views.specs.inventory.Pages.{truth_number, handle_records, window_records}
+use Rattle.dm_views.specs.inventory.Extended.{extended_records, upper_records}
 use Rattle.dm_views.specs.inventory.Findings.{record_of}
 use Rattle.dm_host.specs.declared.refusal.Refusal.{Refusal}
 use Rattle.dm_host.specs.declared.refusal.Refusal.TheVariants.{Memory}
@@ -31,33 +31,33 @@ end_of (Some segment) = record { destroyed = 1; at = segment }
 -- the records that Lists holds of the machine are copied to the front of the buffer, if they fit, and `wanted` is how
 -- many they are; or the call is refused, and buffer and `wanted` stay
 pub data GivesRecords {A : Type 0} (h : Hosted) (Lists : State → List A → Type 0) (Refused : Refusal → Type 0) (before after : List A) (wanted_before wanted status : ℕ) : Type 0 where
-  listed : (rows : List A) → Shows h (λ s. Lists s rows) → GivesItems rows before after wanted status → GivesRecords h Lists Refused before after wanted_before wanted status
+  listed : (records : List A) → Shows h (λ s. Lists s records) → GivesItems records before after wanted status → GivesRecords h Lists Refused before after wanted_before wanted status
   refused : (why : Refusal) → Refused why → status ≡ status_of why → after ≡ before → wanted ≡ wanted_before → GivesRecords h Lists Refused before after wanted_before wanted status
 
 -- `dm_c_blocks`: the headers of the arena are copied to the front of the buffer, if they fit, `wanted` is how many they
 -- are, and `end` is how their lists end; if no program is loaded or an allocation failed, nothing changes
 pub data BlocksTo (h : Hosted) (before after : List ArenaBlock) (wanted_before wanted : ℕ) (end_before end : ListEnd) (status : ℕ) (g : Hosted) : Type 0 where
-  listed : (rows : List ArenaBlock) (broken : Option ℕ) → Shows h (λ s. IsListedArena s.upper s.memory rows broken) → GivesItems rows before after wanted status → end ≡ end_of broken → g ≡ h
+  listed : (records : List ArenaBlock) (broken : Option ℕ) → Shows h (λ s. IsListedArena s.upper s.memory records broken) → GivesItems records before after wanted status → end ≡ end_of broken → g ≡ h
       → BlocksTo h before after wanted_before wanted end_before end status g
   refused : (why : Refusal) → IsNotListed h why → status ≡ status_of why → after ≡ before → wanted ≡ wanted_before → end ≡ end_before → g ≡ h
       → BlocksTo h before after wanted_before wanted end_before end status g
 
 -- `dm_c_page_handles`: the handles of expanded memory in use, by rising number
 abbrev pub PageHandlesTo : Hosted → List PageHandle → List PageHandle → ℕ → ℕ → ℕ → Hosted → Type 0
-PageHandlesTo h before after wanted_before wanted status g = GivesRecords h (λ s rows. rows ≡ handle_rows s.ems) (IsNotListed h) before after wanted_before wanted status × (g ≡ h)
+PageHandlesTo h before after wanted_before wanted status g = GivesRecords h (λ s records. records ≡ handle_records s.ems) (IsNotListed h) before after wanted_before wanted status × (g ≡ h)
 
 -- `dm_c_windows`: what the four windows of the page frame show
 abbrev pub WindowsTo : Hosted → List Window → List Window → ℕ → ℕ → ℕ → Hosted → Type 0
-WindowsTo h before after wanted_before wanted status g = GivesRecords h (λ s rows. rows ≡ window_rows s.ems s.memory) (IsNotLoaded h) before after wanted_before wanted status × (g ≡ h)
+WindowsTo h before after wanted_before wanted status g = GivesRecords h (λ s records. records ≡ window_records s.ems s.memory) (IsNotLoaded h) before after wanted_before wanted status × (g ≡ h)
 
 -- `dm_c_extended_blocks`: the blocks of the handles of extended memory in use, by rising handle
 abbrev pub ExtendedBlocksTo : Hosted → List ExtendedBlock → List ExtendedBlock → ℕ → ℕ → ℕ → Hosted → Type 0
 ExtendedBlocksTo h before after wanted_before wanted status g =
-    GivesRecords h (λ s rows. rows ≡ extended_rows s.xms s.memory) (IsNotListed h) before after wanted_before wanted status × (g ≡ h)
+    GivesRecords h (λ s records. records ≡ extended_records s.xms s.memory) (IsNotListed h) before after wanted_before wanted status × (g ≡ h)
 
 -- `dm_c_upper_blocks`: the upper memory blocks of the extended memory driver, by rising segment
 abbrev pub UpperBlocksTo : Hosted → List UpperBlock → List UpperBlock → ℕ → ℕ → ℕ → Hosted → Type 0
-UpperBlocksTo h before after wanted_before wanted status g = GivesRecords h (λ s rows. rows ≡ upper_rows s.xms) (IsNotListed h) before after wanted_before wanted status × (g ≡ h)
+UpperBlocksTo h before after wanted_before wanted status g = GivesRecords h (λ s records. records ≡ upper_records s.xms) (IsNotListed h) before after wanted_before wanted status × (g ≡ h)
 
 -- `dm_c_high_memory`: whether A20 is on, and whether the high memory area is taken (1 or 0); if no program is loaded,
 -- nothing changes

@@ -19,10 +19,10 @@ use Rattle.dm_ins.specs.declared.prefix.Prefixes.{Prefixes}
 use Rattle.dm_ins.specs.declared.prefix.Repeat.TheVariants.{NotEqual, Equal}
 use Rattle.dm_ins.specs.declared.table.OpcodeEntry.{OpcodeEntry}
 use Rattle.dm_ins.specs.declared.table.OpcodeEntry.TheVariants.{Plain}
-use Rattle.dm_ins.specs.declared.table.Row.{Row}
+use Rattle.dm_ins.specs.declared.table.Template.{Template}
 use Rattle.dm_ins.specs.declared.table.OperandKind.TheVariants as is
-use Rattle.dm_ins.specs.Table.{entry_of, row}
-use Rattle.dm_ins.specs.Spelling.{prefix_byte, HasRow, Fills, SpellsAction}
+use Rattle.dm_ins.specs.Table.{entry_of, template}
+use Rattle.dm_ins.specs.Spelling.{prefix_byte, HasTemplate, Fills, SpellsAction}
 use Rattle.dm_cpu.specs.Guest.{Guest, guest, at_ip, up}
 use Rattle.dm_cpu.specs.Operands.{value_of}
 use Rattle.dm_touches.specs.declared.access.Access.{Access}
@@ -45,7 +45,7 @@ pub record IsInt (a : Action) (n : ℕ) : Type 0 where
   pub number : a.first ≡ operand.ByteValue n
   pub fits : n < 256
 
-entry_int : entry_of 0xCD ≡ Plain (row op.Int is.ByteValue is.Nothing)
+entry_int : entry_of 0xCD ≡ Plain (template op.Int is.ByteValue is.Nothing)
 unfolding entry_of
 entry_int = refl
 
@@ -85,12 +85,12 @@ action_is a k n rest body x e =
     let whole : 0xCD ∷ take k (n ∷ rest) ≡ x.first_byte ∷ x.behind ++ (x.first_part ++ x.second_part) = e ∙ x.parts in
     let first_byte : 0xCD ≡ x.first_byte = same_head 0xCD x.first_byte (take k (n ∷ rest)) (x.behind ++ (x.first_part ++ x.second_part)) whole in
     let others : take k (n ∷ rest) ≡ x.behind ++ (x.first_part ++ x.second_part) = same_tail 0xCD x.first_byte (take k (n ∷ rest)) (x.behind ++ (x.first_part ++ x.second_part)) whole in
-    let entry : entry_of x.first_byte ≡ Plain (row op.Int is.ByteValue is.Nothing) = ap entry_of (sym first_byte) ∙ entry_int in
-    let has : HasRow (Plain (row op.Int is.ByteValue is.Nothing)) x.fields x.behind x.row = subst (λ (o : OpcodeEntry). HasRow o x.fields x.behind x.row) entry x.has_row in
-    let fills : Fills is.ByteValue x.fields a.first x.first_part = subst (λ (r : Row). Fills r.first x.fields a.first x.first_part) has.0 x.first in
+    let entry : entry_of x.first_byte ≡ Plain (template op.Int is.ByteValue is.Nothing) = ap entry_of (sym first_byte) ∙ entry_int in
+    let has : HasTemplate (Plain (template op.Int is.ByteValue is.Nothing)) x.fields x.behind x.template = subst (λ (o : OpcodeEntry). HasTemplate o x.fields x.behind x.template) entry x.has_template in
+    let fills : Fills is.ByteValue x.fields a.first x.first_part = subst (λ (r : Template). Fills r.first x.fields a.first x.first_part) has.0 x.first in
     let none : x.behind ≡ [] = has.1.1 in
     let part : x.first_part ≡ fills.0 ∷ [] = fills.3 in
-    number_is a k fills.0 n rest x.second_part (x.mnemonic ∙ ap (λ (r : Row). r.mnemonic) has.0) fills.2 fills.1
+    number_is a k fills.0 n rest x.second_part (x.mnemonic ∙ ap (λ (r : Template). r.mnemonic) has.0) fills.2 fills.1
     (others ∙ ap (λ (d : List ℕ). d ++ (x.first_part ++ x.second_part)) none ∙ ap (λ (d : List ℕ). d ++ x.second_part) part)
 
 spelled_by : (a : Action) (k n : ℕ) (rest : List ℕ) (ps : List Prefix) (body : List ℕ) → SpellsAction a body → take k (0xCD ∷ n ∷ rest) ≡ map prefix_byte ps ++ body → IsInt a n

@@ -78,7 +78,7 @@ register_alike m Word n p h = h
 abbrev Exchanged : OperandKind → Fields → Operand → List ℕ → Type 0
 Exchanged k g p d = (e : List ℕ) × Fills k g p e × (length e ≡ length d)
 
--- an operand of the row's kind is exchanged; the fields may change in their memory
+-- an operand of the template's kind is exchanged; the fields may change in their memory
 pub exchanged : (m : Mnemonic) (k : OperandKind) (f g : Fields) (o p : Operand) (d : List ℕ) → f.register < 8 → g.register ≡ f.register → suits m k ≡ true → uses_memory k ≡ false → Alike m o p → OperandFits p → Known m p → Fills k f o d → Exchanged k g p d
 unfolding Alike Known suits uses_memory
 exchanged m is.Nothing f g o p d lt r s u al fit kn h = (d, ((rw h.0 at al), h.1), refl)

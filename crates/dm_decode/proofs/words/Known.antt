@@ -1,4 +1,4 @@
--- What is known of the values of an instruction of the table beyond their types, by the rows of its mnemonic.
+-- What is known of the values of an instruction of the table beyond their types, by the templates of its mnemonic.
 use Rattle.std.proofs.Common.{◌≡◌, ℕ, ◌<◌, ◌^◌, Bool, true, false, ◌&&◌, List, Option, Some, None, refl, sym, subst, arith}
 use Rattle.dm_ins.specs.declared.operand.Width.{Width}
 use Rattle.dm_ins.specs.declared.operand.Width.TheVariants.{Byte, Word}
@@ -11,14 +11,14 @@ use Rattle.dm_ins.specs.declared.action.Action.{Action}
 use Rattle.dm_ins.specs.declared.fields.Fields.{Fields}
 use Rattle.dm_ins.specs.declared.table.OperandKind.{OperandKind}
 use Rattle.dm_ins.specs.declared.table.OperandKind.TheVariants as is
-use Rattle.dm_ins.specs.declared.table.Row.{Row}
+use Rattle.dm_ins.specs.declared.table.Template.{Template}
 use Rattle.dm_ins.specs.Table.{entry_of}
 use Rattle.dm_ins.specs.Spelling.{sign_extended, register, at_place, Fills, SpellsAction}
 use Rattle.dm_ins.specs.inner.Search.{OperandFits}
 use Rattle.dm_ins.proofs.TableRules.{both_true}
 use Rattle.dm_ins.proofs.Shortest.{action_fits}
 use Rattle.dm_decode.specs.words.StandIns.{is_move}
-use Rattle.dm_decode.proofs.words.Rows.{if_row, entry_all, rows_all, of_row, register_fits}
+use Rattle.dm_decode.proofs.words.Templates.{if_template, entry_all, templates_all, of_template, register_fits}
 
 -- ---- one form of target, of byte and of word for each mnemonic
 
@@ -41,7 +41,7 @@ unfolding opposite
 is_opposite true e = absurd cc
 is_opposite false e = refl
 
--- a kind of operand that the rows of a mnemonic may have
+-- a kind of operand that the templates of a mnemonic may have
 unfoldable pub suits : Mnemonic → OperandKind → Bool
 suits m is.Short = opposite (is_near m)
 suits m is.Near = is_near m
@@ -50,11 +50,11 @@ suits m is.ByteValue = opposite (is_escape m)
 suits m is.SignedValue = opposite (is_move m)
 suits m _ = true
 
-unfoldable pub row_suits : Row → Bool
-row_suits r = suits r.mnemonic r.first && suits r.mnemonic r.second
+unfoldable pub template_suits : Template → Bool
+template_suits r = suits r.mnemonic r.first && suits r.mnemonic r.second
 
-pub all_suit : rows_all row_suits ≡ true
-unfolding rows_all entry_all if_row row_suits suits is_near is_escape opposite
+pub all_suit : templates_all template_suits ≡ true
+unfolding templates_all entry_all if_template template_suits suits is_near is_escape opposite
 all_suit = refl
 
 -- ---- what is known of a value
@@ -105,14 +105,14 @@ pub record KnownAction (a : Action) : Type 0 where
   pub second_fits : OperandFits a.second
 
 pub known_action : (a : Action) (x : List ℕ) → SpellsAction a x → KnownAction a
-unfolding row_suits
+unfolding template_suits
 known_action a x s =
-    let suit = both_true _ _ (of_row row_suits s.first_byte s.fields s.behind s.row all_suit s.has_row) in
-    let lt = register_fits (entry_of s.first_byte) s.fields s.behind s.row s.has_row in
+    let suit = both_true _ _ (of_template template_suits s.first_byte s.fields s.behind s.template all_suit s.has_template) in
+    let lt = register_fits (entry_of s.first_byte) s.fields s.behind s.template s.has_template in
     let fit = action_fits a x s in
     record {
-      first = subst (λ (m : Mnemonic). Known m a.first) (sym s.mnemonic) (known s.row.mnemonic s.row.first s.fields a.first s.first_part lt suit.0 s.first);
-      second = subst (λ (m : Mnemonic). Known m a.second) (sym s.mnemonic) (known s.row.mnemonic s.row.second s.fields a.second s.second_part lt suit.1 s.second);
+      first = subst (λ (m : Mnemonic). Known m a.first) (sym s.mnemonic) (known s.template.mnemonic s.template.first s.fields a.first s.first_part lt suit.0 s.first);
+      second = subst (λ (m : Mnemonic). Known m a.second) (sym s.mnemonic) (known s.template.mnemonic s.template.second s.fields a.second s.second_part lt suit.1 s.second);
       first_fits = fit.0;
       second_fits = fit.1;
     }

@@ -1,4 +1,4 @@
--- Words are one instruction at most: a test of each two rows of the table.
+-- Words are one instruction at most: a test of each two templates of the table.
 use Rattle.std.proofs.Common.{◌≡◌, ℕ, Bool, true, false, List, [], ◌∷◌, Option, Some, None, nat_eq, nat_lt, ◌&&◌, ◌||◌, refl, sym, ap, subst, ◌∙◌, inl, inr}
 use Rattle.std.specs.Prelude.{if◌then◌else◌, IsSomeAnd}
 use Rattle.std.specs.List.{list_all}
@@ -14,7 +14,7 @@ use Rattle.dm_ins.specs.declared.action.Action.{Action}
 use Rattle.dm_ins.specs.declared.fields.Fields.{Fields}
 use Rattle.dm_ins.specs.declared.table.OperandKind.{OperandKind}
 use Rattle.dm_ins.specs.declared.table.OperandKind.TheVariants as is
-use Rattle.dm_ins.specs.declared.table.Row.{Row}
+use Rattle.dm_ins.specs.declared.table.Template.{Template}
 use Rattle.dm_ins.specs.Spelling.{direct, register, at_place, Fills, SpellsAction}
 use Rattle.dm_ins.proofs.TableRules.{both_true}
 use Rattle.dm_decode.specs.Texts.{is_shift, is_general}
@@ -25,7 +25,7 @@ use Rattle.dm_decode.specs.declared.words.written.Written.{Written}
 use Rattle.dm_decode.specs.declared.words.written.Written.TheVariants as w
 use Rattle.dm_decode.specs.words.Words.{IsNumber, IsWritten, width_word, jump_word, word_before}
 use Rattle.dm_decode.specs.words.Laws.{WordsAreOne}
-use Rattle.dm_decode.proofs.words.Rows.{if_row, entry_all, rows_all, of_row}
+use Rattle.dm_decode.proofs.words.Templates.{if_template, entry_all, templates_all, of_template}
 
 -- ---- sorts of operands
 
@@ -164,14 +164,14 @@ implies false b = true
 agree : Mnemonic → ℕ → ℕ → Mnemonic → ℕ → ℕ → Bool
 agree m s t n x y = implies (alike (class m) (looks s) (looks t) (word_code m s t s) (word_code m s t t) n x y) (nat_eq s x && nat_eq t y)
 
-row_agrees : Mnemonic → ℕ → ℕ → Row → Bool
-row_agrees m s t r = list_all (λ x. list_all (λ y. agree m s t r.mnemonic x y) (sorts r.second)) (sorts r.first)
+template_agrees : Mnemonic → ℕ → ℕ → Template → Bool
+template_agrees m s t r = list_all (λ x. list_all (λ y. agree m s t r.mnemonic x y) (sorts r.second)) (sorts r.first)
 
-row_fits : Row → Bool
-row_fits r = list_all (λ s. list_all (λ t. rows_all (row_agrees r.mnemonic s t)) (sorts r.second)) (sorts r.first)
+template_fits : Template → Bool
+template_fits r = list_all (λ s. list_all (λ t. templates_all (template_agrees r.mnemonic s t)) (sorts r.second)) (sorts r.first)
 
-all_fit : rows_all row_fits ≡ true
-unfolding rows_all entry_all if_row row_fits row_agrees agree alike implies word_code memory_word size_code general looks class sorts register_sort memory_sort
+all_fit : templates_all template_fits ≡ true
+unfolding templates_all entry_all if_template template_fits template_agrees agree alike implies word_code memory_word size_code general looks class sorts register_sort memory_sort
 all_fit = refl
 
 -- ---- from the test to the law
@@ -185,14 +185,14 @@ if_alike false c e h = absurd cc
 same_sorts : (a b : Action) (x y : List ℕ) → SpellsAction a x → SpellsAction b y →
     alike (class a.mnemonic) (looks (sort a.first)) (looks (sort a.second)) (word_code a.mnemonic (sort a.first) (sort a.second) (sort a.first)) (word_code a.mnemonic (sort a.first) (sort a.second) (sort a.second)) b.mnemonic (sort b.first) (sort b.second) ≡ true
     → (nat_eq (sort a.first) (sort b.first) && nat_eq (sort a.second) (sort b.second)) ≡ true
-unfolding row_fits row_agrees agree
+unfolding template_fits template_agrees agree
 same_sorts a b x y p q e =
-    let f = of_row row_fits p.first_byte p.fields p.behind p.row all_fit p.has_row in
-    let g = of_kind (λ s. list_all (λ t. rows_all (row_agrees p.row.mnemonic s t)) (sorts p.row.second)) p.row.first p.fields a.first p.first_part p.first f in
-    let h = of_kind (λ t. rows_all (row_agrees p.row.mnemonic (sort a.first) t)) p.row.second p.fields a.second p.second_part p.second g in
-    let i = of_row (row_agrees p.row.mnemonic (sort a.first) (sort a.second)) q.first_byte q.fields q.behind q.row h q.has_row in
-    let j = of_kind (λ s. list_all (λ t. agree p.row.mnemonic (sort a.first) (sort a.second) q.row.mnemonic s t) (sorts q.row.second)) q.row.first q.fields b.first q.first_part q.first i in
-    let k = of_kind (λ t. agree p.row.mnemonic (sort a.first) (sort a.second) q.row.mnemonic (sort b.first) t) q.row.second q.fields b.second q.second_part q.second j in
+    let f = of_template template_fits p.first_byte p.fields p.behind p.template all_fit p.has_template in
+    let g = of_kind (λ s. list_all (λ t. templates_all (template_agrees p.template.mnemonic s t)) (sorts p.template.second)) p.template.first p.fields a.first p.first_part p.first f in
+    let h = of_kind (λ t. templates_all (template_agrees p.template.mnemonic (sort a.first) t)) p.template.second p.fields a.second p.second_part p.second g in
+    let i = of_template (template_agrees p.template.mnemonic (sort a.first) (sort a.second)) q.first_byte q.fields q.behind q.template h q.has_template in
+    let j = of_kind (λ s. list_all (λ t. agree p.template.mnemonic (sort a.first) (sort a.second) q.template.mnemonic s t) (sorts q.template.second)) q.template.first q.fields b.first q.first_part q.first i in
+    let k = of_kind (λ t. agree p.template.mnemonic (sort a.first) (sort a.second) q.template.mnemonic (sort b.first) t) q.template.second q.fields b.second q.second_part q.second j in
     let l : agree a.mnemonic (sort a.first) (sort a.second) b.mnemonic (sort b.first) (sort b.second) ≡ true = rw (p.mnemonic, q.mnemonic) k in
     if_alike _ _ e l
 

@@ -7,7 +7,7 @@ use Rattle.dm_ins.specs.declared.operand.Operand.{Operand}
 use Rattle.dm_ins.specs.declared.operand.Operand.TheVariants as operand
 use Rattle.dm_ins.specs.declared.action.Action.{Action}
 use Rattle.dm_decode.specs.words.Words.{IsWritten, word_before, word_written}
-use Rattle.dm_decode.specs.words.Own.{written_of, words_of_action}
+use Rattle.dm_decode.specs.words.Own.{shown_operand, words_of_action}
 use Rattle.dm_decode.specs.words.Laws.{OwnWordsAreRead}
 use Rattle.dm_ins.specs.inner.Search.{OperandFits}
 use Rattle.dm_ins.proofs.Shortest.{action_fits}
@@ -18,7 +18,7 @@ back next d p q = omega arith
 own_byte : (n : ℕ) → n < 256 → IsSomeAnd (if nat_lt n 256 then Some n else None) (λ b. operand.ByteValue n ≡ operand.ByteValue b)
 own_byte n lt = rw (lt-ltb n 256 lt) refl
 
-own_written : (a : Action) (next : ℕ) (o : Operand) → next < 2 ^ 16 → OperandFits o → IsWritten (written_of a next o) o
+own_written : (a : Action) (next : ℕ) (o : Operand) → next < 2 ^ 16 → OperandFits o → IsWritten (shown_operand a next o) o
 own_written a next operand.Nothing p f = refl
 own_written a next (operand.ByteRegister r) p f = refl
 own_written a next (operand.WordRegister r) p f = refl
@@ -31,7 +31,7 @@ own_written a next (operand.Target d) p f = inr (inr (inl (rw (back next d p f) 
 own_written a next operand.One p f = inr (inr (inr (refl, refl)))
 own_written a next (operand.FarTarget n s) p f = refl
 
-own_word : (a : Action) (next : ℕ) (o : Operand) → word_written (written_of a next o) ≡ word_before a o
+own_word : (a : Action) (next : ℕ) (o : Operand) → word_written (shown_operand a next o) ≡ word_before a o
 own_word a next operand.Nothing = refl
 own_word a next (operand.ByteRegister r) = refl
 own_word a next (operand.WordRegister r) = refl

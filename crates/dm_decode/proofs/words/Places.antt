@@ -10,11 +10,11 @@ use Rattle.dm_ins.specs.declared.action.Mnemonic.{Mnemonic}
 use Rattle.dm_ins.specs.declared.fields.Fields.{Fields}
 use Rattle.dm_ins.specs.declared.table.OperandKind.{OperandKind}
 use Rattle.dm_ins.specs.declared.table.OperandKind.TheVariants as is
-use Rattle.dm_ins.specs.declared.table.Row.{Row}
+use Rattle.dm_ins.specs.declared.table.Template.{Template}
 use Rattle.dm_ins.specs.declared.table.OpcodeEntry.{OpcodeEntry}
 use Rattle.dm_ins.specs.declared.table.OpcodeEntry.TheVariants.{Unlisted, Plain, Group, Second}
 use Rattle.dm_ins.specs.Registers.{bases}
-use Rattle.dm_ins.specs.Spelling.{word_bytes, direct, based, at_place, Fills, SpellsMemory, SpellsFields, HasRow, MaySpellFields, has_fields, no_fields}
+use Rattle.dm_ins.specs.Spelling.{word_bytes, direct, based, at_place, Fills, SpellsMemory, SpellsFields, HasTemplate, MaySpellFields, has_fields, no_fields}
 use Rattle.dm_ins.specs.inner.Search.{OperandFits}
 use Rattle.dm_ins.proofs.TableRules.{passes}
 use Rattle.dm_decode.specs.words.StandIns.{has_no_base}
@@ -88,15 +88,15 @@ may_move : (b : Bool) (f g : Fields) (d : List ℕ) → MovedFields f g → MayS
 may_move true f g d h s = fields_moved f g d h s
 may_move false f g d h s = no_memory f g h s.0
 
-row_moved : (en : OpcodeEntry) (f g : Fields) (d : List ℕ) (r : Row) → MovedFields f g → HasRow en f d r → AsLong (λ (e : List ℕ). HasRow en g e r) d
-row_moved Unlisted f g d r h s = absurd s
-row_moved (Plain p) f g d r h s = let m = may_move (has_fields p) f g d h s.1 in (m.0, (s.0, m.1), m.2)
-row_moved (Group n) f g d r h s = let m = fields_moved f g d h s.1 in (m.0, (rw (same_register f g (inr h)) s.0, m.1), m.2)
-row_moved (Second c p) f g d r h s = no_memory f g h s.1
+template_moved : (en : OpcodeEntry) (f g : Fields) (d : List ℕ) (r : Template) → MovedFields f g → HasTemplate en f d r → AsLong (λ (e : List ℕ). HasTemplate en g e r) d
+template_moved Unlisted f g d r h s = absurd s
+template_moved (Plain p) f g d r h s = let m = may_move (has_fields p) f g d h s.1 in (m.0, (s.0, m.1), m.2)
+template_moved (Group n) f g d r h s = let m = fields_moved f g d h s.1 in (m.0, (rw (same_register f g (inr h)) s.0, m.1), m.2)
+template_moved (Second c p) f g d r h s = no_memory f g h s.1
 
-pub still_row : (en : OpcodeEntry) (f g : Fields) (d : List ℕ) (r : Row) → Moved f g → HasRow en f d r → AsLong (λ (e : List ℕ). HasRow en g e r) d
-still_row en f g d r (inl e) s = (d, rw e s, refl)
-still_row en f g d r (inr h) s = row_moved en f g d r h s
+pub still_template : (en : OpcodeEntry) (f g : Fields) (d : List ℕ) (r : Template) → Moved f g → HasTemplate en f d r → AsLong (λ (e : List ℕ). HasTemplate en g e r) d
+still_template en f g d r (inl e) s = (d, rw e s, refl)
+still_template en f g d r (inr h) s = template_moved en f g d r h s
 
 -- ---- the operand that the mod r/m byte places in memory
 

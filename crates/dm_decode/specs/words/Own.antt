@@ -21,18 +21,18 @@ numeral_of next n = record {
 }
 
 -- an operand of an action as its text shows it; a target is written as the offset that it leads to
-abbrev pub written_of : Action → ℕ → Operand → Written
-written_of a next operand.Nothing = w.Nothing
-written_of a next (operand.ByteRegister r) = w.ByteRegister r
-written_of a next (operand.WordRegister r) = w.WordRegister r
-written_of a next (operand.SegmentRegister r) = w.SegmentRegister r
-written_of a next (operand.Memory v m) = w.Memory (size_word a v) m
-written_of a next (operand.ByteValue n) = w.Number (numeral_of next n)
-written_of a next (operand.WordValue n) = w.Number (numeral_of next n)
-written_of a next (operand.Target d) = w.Number (numeral_of next ((next + d) % 65536))
-written_of a next operand.One = w.Number (numeral_of next 1)
-written_of a next (operand.FarTarget n s) = w.Far s n
+abbrev pub shown_operand : Action → ℕ → Operand → Written
+shown_operand a next operand.Nothing = w.Nothing
+shown_operand a next (operand.ByteRegister r) = w.ByteRegister r
+shown_operand a next (operand.WordRegister r) = w.WordRegister r
+shown_operand a next (operand.SegmentRegister r) = w.SegmentRegister r
+shown_operand a next (operand.Memory v m) = w.Memory (size_word a v) m
+shown_operand a next (operand.ByteValue n) = w.Number (numeral_of next n)
+shown_operand a next (operand.WordValue n) = w.Number (numeral_of next n)
+shown_operand a next (operand.Target d) = w.Number (numeral_of next ((next + d) % 65536))
+shown_operand a next operand.One = w.Number (numeral_of next 1)
+shown_operand a next (operand.FarTarget n s) = w.Far s n
 
 -- the mnemonic and the operands that the text of an action shows
 unfoldable pub words_of_action : Action → ℕ → Words
-words_of_action a next = record { mnemonic = a.mnemonic; first = written_of a next a.first; second = written_of a next a.second }
+words_of_action a next = record { mnemonic = a.mnemonic; first = shown_operand a next a.first; second = shown_operand a next a.second }

@@ -1,6 +1,6 @@
--- For the search of the rows that finds the least spelling, and no part of what is promised: the contracts of `encode`
--- and `Ins::new` speak of the spelling alone (Spelling.antt, Ins.antt). Which bytes each row has for some operands,
--- with the shortest displacement, and which of several is the least.
+-- For the search of the templates that finds the least spelling, and no part of what is promised: the contracts of
+-- `encode` and `Ins::new` speak of the spelling alone (Spelling.antt, Ins.antt). Which bytes each template has for some
+-- operands, with the shortest displacement, and which of several is the least.
 use Rattle.std.specs.Prelude.{◌^◌, ◌≡◌, ℕ, ◌+◌, ◌*◌, ◌/◌, ◌%◌, ◌<◌, Bool, true, false, List, [], ◌∷◌, ◌++◌, Option, Some, None, IfSome, IsSomeAnd, ◌==◌, if◌then◌else◌, length}
 use Rattle.dm_ins.specs.declared.operand.Width.{Width}
 use Rattle.dm_ins.specs.declared.operand.Width.TheVariants.{Byte, Word}
@@ -51,7 +51,7 @@ abbrev pub is_direct : Base → Bool
 is_direct Direct = true
 is_direct _ = false
 
--- the widths of a row's memory operand and of a given one are the same
+-- the widths of a template's memory operand and of a given one are the same
 abbrev pub same_width : Width → Width → Bool
 same_width Byte Byte = true
 same_width Word Word = true
@@ -80,7 +80,7 @@ asks_place p = record { register = None; place = Some p; tail = data_is.Nothing 
 abbrev pub as_signed : ℕ → Option Demand
 as_signed n = if sign_extended (n % 256) == n then Some (asks_data (data_is.Byte (n % 256))) else None
 
--- what an operand asks of the bytes where a row has this kind, None if it is not of the kind
+-- what an operand asks of the bytes where a template has this kind, None if it is not of the kind
 unfoldable pub demand_of : OperandKind → Operand → Option Demand
 demand_of is.Nothing operand.Nothing = Some (asks_data data_is.Nothing)
 demand_of is.Nothing _ = None
@@ -148,34 +148,34 @@ abbrev pub either : {A : Type 0} → Option A → Option A → Option A
 either None b = b
 either (Some x) b = Some x
 
--- the second byte of a row that fixes it (AAM, AAD), if there is one
+-- the second byte of a template that fixes it (AAM, AAD), if there is one
 abbrev pub second_bytes : Option ℕ → List ℕ
 second_bytes None = []
 second_bytes (Some c) = c ∷ []
 
 -- the bytes between the first one and the operands' own: the mod r/m byte and its displacement if a reg field and a
--- register or memory operand are asked for, else the second byte of a row that fixes it, else none
+-- register or memory operand are asked for, else the second byte of a template that fixes it, else none
 abbrev pub behind_bytes : Option ℕ → Option RegisterOrMemory → Option ℕ → List ℕ
 behind_bytes (Some r) (Some p) c = fields_bytes r p
 behind_bytes (Some r) None c = second_bytes c
 behind_bytes None p c = second_bytes c
 
--- the bytes of a row filled with two operands, None if they are not of its kinds
+-- the bytes of a template filled with two operands, None if they are not of its kinds
 unfoldable pub bytes_of : Choice → Operand → Operand → Option (List ℕ)
 bytes_of c one two = do
-  d ← demand_of c.row.first one
-  e ← demand_of c.row.second two
+  d ← demand_of c.template.first one
+  e ← demand_of c.template.second two
   Some (c.opcode ∷ behind_bytes (either c.register (either d.register e.register)) (either d.place e.place) c.second ++ (data_bytes d.tail ++ data_bytes e.tail))
 
--- the row that the entry of the first byte b has under the reg field r, None if it has none; a row outside the groups
--- stands under the reg field 0 alone
+-- the template that the entry of the first byte b has under the reg field r, None if it has none; a template outside
+-- the groups stands under the reg field 0 alone
 abbrev pub choice_at : OpcodeEntry → ℕ → ℕ → Option Choice
 choice_at Unlisted b r = None
-choice_at (Plain p) b r = if r == 0 then Some (record { opcode = b; row = p; register = None; second = None }) else None
+choice_at (Plain p) b r = if r == 0 then Some (record { opcode = b; template = p; register = None; second = None }) else None
 choice_at (Group g) b r = do
   p ← member_of g r
-  Some (record { opcode = b; row = p; register = Some r; second = None })
-choice_at (Second c p) b r = if r == 0 then Some (record { opcode = b; row = p; register = None; second = Some c }) else None
+  Some (record { opcode = b; template = p; register = Some r; second = None })
+choice_at (Second c p) b r = if r == 0 then Some (record { opcode = b; template = p; register = None; second = Some c }) else None
 
 -- the number of a register is below 8
 abbrev pub PlaceFits : RegisterOrMemory → Type 0
@@ -200,11 +200,11 @@ OperandFits (operand.Target n) = n < 2 ^ 16
 OperandFits (operand.FarTarget n s) = (n < 2 ^ 16) × (s < 2 ^ 16)
 OperandFits _ = Unit {0}
 
--- c are the bytes that the row under the first byte b and the reg field g has for the action a
+-- c are the bytes that the template under the first byte b and the reg field g has for the action a
 pub record CandidateAt (b g : ℕ) (a : Action) (c : List ℕ) : Type 0 where
   pub choice : Choice
   pub is_choice : choice_at (entry_of b) b g ≡ Some choice
-  pub mnemonic : choice.row.mnemonic ≡ a.mnemonic
+  pub mnemonic : choice.template.mnemonic ≡ a.mnemonic
   pub is_bytes : bytes_of choice a.first a.second ≡ Some c
   pub first_fits : OperandFits a.first
   pub second_fits : OperandFits a.second
@@ -216,17 +216,17 @@ better_of None new = new
 better_of (Some a) None = Some a
 better_of (Some a) (Some b) = if before b a then Some b else Some a
 
--- the row under the key at index n of a list has the bytes c for an action
+-- the template under the key at index n of a list has the bytes c for an action
 abbrev pub Under : List Key → ℕ → Action → List ℕ → Type 0
 Under ks n a c = CandidateAt (key_at ks n).opcode (key_at ks n).register a c
 
--- o is bytes that some row has for the action, and no row under the first n keys of a list has lesser ones; None only
--- if those rows have none
+-- o is bytes that some template has for the action, and no template under the first n keys of a list has lesser ones;
+-- None only if those templates have none
 pub record Best (n : ℕ) (ks : List Key) (a : Action) (o : Option (List ℕ)) : Type 0 where
   pub found : IfSome o (λ v. (b g : ℕ) × CandidateAt b g a v)
   pub least : (k : ℕ) (c : List ℕ) → k < n → Under ks k a c → IsSomeAnd o (λ v. before c v ≡ false)
 
--- o is the least of the bytes that the rows of its mnemonic have for the action, None if they have none
+-- o is the least of the bytes that the templates of its mnemonic have for the action, None if they have none
 abbrev pub IsLeast : Action → Option (List ℕ) → Type 0
 IsLeast a o = Best (length (keyed a.mnemonic)) (keyed a.mnemonic) a o
 

@@ -22,7 +22,7 @@ use Rattle.dm_laws.proofs.footprints.Values.{Same, in_first, in_second, same_val
 use Rattle.dm_laws.proofs.footprints.Stores.{done_operand}
 use Rattle.dm_laws.proofs.footprints.Targets.{has_target}
 use Rattle.dm_laws.proofs.footprints.Control.{same_quotient}
-use Rattle.dm_laws.proofs.footprints.Effects.{act_done}
+use Rattle.dm_laws.proofs.footprints.Effects.{operation_effect_done}
 
 -- ---- where an instruction reads and writes
 
@@ -54,7 +54,7 @@ effects_depend g h i length a =
     let m : Memory = g.memory in
     let n : Memory = h.memory in
     let x = access_of i.action.mnemonic in
-    let d = act_done c m n i.prefixes g.cpu.ip i.action.mnemonic i.action.first i.action.second (record { word = a.word; map = a.map; target = has_target i; bytes = a.bytes }) in
+    let d = operation_effect_done c m n i.prefixes g.cpu.ip i.action.mnemonic i.action.first i.action.second (record { word = a.word; map = a.map; target = has_target i; bytes = a.bytes }) in
     let F : Cpu → Type 0 = λ k. DoesTheSame g (guest k n) i length in
     subst F (sym a.registers) (record {
       same_reads = same_reads c m n i.prefixes x i.action.first i.action.second a.bytes;

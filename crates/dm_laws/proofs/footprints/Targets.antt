@@ -17,8 +17,8 @@ use Rattle.dm_ins.specs.declared.table.OperandKind.{OperandKind}
 use Rattle.dm_ins.specs.declared.table.OperandKind.TheVariants as is
 use Rattle.dm_ins.specs.declared.table.OpcodeEntry.{OpcodeEntry}
 use Rattle.dm_ins.specs.declared.table.OpcodeEntry.TheVariants.{Unlisted, Plain, Group, Second}
-use Rattle.dm_ins.specs.declared.table.Row.{Row}
-use Rattle.dm_ins.specs.Spelling.{Fills, HasRow, SpellsAction, register}
+use Rattle.dm_ins.specs.declared.table.Template.{Template}
+use Rattle.dm_ins.specs.Spelling.{Fills, HasTemplate, SpellsAction, register}
 use Rattle.dm_ins.specs.Table.{entries, entry_of, groups, member_of}
 use Rattle.dm_ins.proofs.TableRules.{passes}
 
@@ -58,7 +58,7 @@ goes_by_operand _ = false
 abbrev pub HasTarget : Mnemonic → Operand → Type 0
 HasTarget m o = cond (goes_by_operand m) (is_memory o) false ≡ false
 
--- ---- rows
+-- ---- templates
 
 -- an operand of the kind may be in memory
 abbrev may_be_memory : OperandKind → Bool
@@ -67,33 +67,33 @@ may_be_memory is.Memory = true
 may_be_memory (is.Direct w) = true
 may_be_memory _ = false
 
-row_fits : Row → Bool
-row_fits r = cond (goes_by_operand r.mnemonic) (not (may_be_memory r.first)) true
+template_fits : Template → Bool
+template_fits r = cond (goes_by_operand r.mnemonic) (not (may_be_memory r.first)) true
 
 entry_fits : OpcodeEntry → Bool
 entry_fits Unlisted = true
-entry_fits (Plain r) = row_fits r
+entry_fits (Plain r) = template_fits r
 entry_fits (Group g) = true
-entry_fits (Second c r) = row_fits r
+entry_fits (Second c r) = template_fits r
 
-member_fits : Option Row → Bool
+member_fits : Option Template → Bool
 member_fits None = true
-member_fits (Some r) = row_fits r
+member_fits (Some r) = template_fits r
 
 all_entries_fit : (b : ℕ) → entry_fits (entry_of b) ≡ true
-unfolding entry_of entry_fits row_fits
+unfolding entry_of entry_fits template_fits
 all_entries_fit b = passes entry_fits Unlisted refl entries b refl
 
 all_members_fit : (g r : ℕ) → member_fits (member_of g r) ≡ true
-unfolding member_of member_fits row_fits
+unfolding member_of member_fits template_fits
 all_members_fit g r = passes member_fits None refl _ r (passes (list_all member_fits) _ refl groups g refl)
 
-row_of : (e : OpcodeEntry) (m : Fields) (d : List ℕ) (r : Row) → entry_fits e ≡ true → HasRow e m d r → row_fits r ≡ true
+template_of : (e : OpcodeEntry) (m : Fields) (d : List ℕ) (r : Template) → entry_fits e ≡ true → HasTemplate e m d r → template_fits r ≡ true
 unfolding entry_fits member_fits
-row_of Unlisted m d r e h = absurd h
-row_of (Plain p) m d r e h = ap row_fits h.0 ∙ e
-row_of (Group g) m d r e h = subst (λ (o : Option Row). member_fits o ≡ true) h.0 (all_members_fit g m.register)
-row_of (Second c p) m d r e h = ap row_fits h.0 ∙ e
+template_of Unlisted m d r e h = absurd h
+template_of (Plain p) m d r e h = ap template_fits h.0 ∙ e
+template_of (Group g) m d r e h = subst (λ (o : Option Template). member_fits o ≡ true) h.0 (all_members_fit g m.register)
+template_of (Second c p) m d r e h = ap template_fits h.0 ∙ e
 
 -- ---- operands
 
@@ -123,14 +123,14 @@ chosen : (b k memory : Bool) → cond b (not k) true ≡ true → (not k ≡ tru
 chosen true k memory e f = f e
 chosen false k memory e f = refl
 
-row_target : (r : Row) (m : Fields) (o : Operand) (d : List ℕ) → row_fits r ≡ true → Fills r.first m o d → HasTarget r.mnemonic o
-unfolding row_fits
-row_target r m o d e f = chosen (goes_by_operand r.mnemonic) (may_be_memory r.first) (is_memory o) e (λ k. apart r.first m o d k f)
+template_target : (r : Template) (m : Fields) (o : Operand) (d : List ℕ) → template_fits r ≡ true → Fills r.first m o d → HasTarget r.mnemonic o
+unfolding template_fits
+template_target r m o d e f = chosen (goes_by_operand r.mnemonic) (may_be_memory r.first) (is_memory o) e (λ k. apart r.first m o d k f)
 
 action_target : (a : Action) (bytes : List ℕ) → SpellsAction a bytes → HasTarget a.mnemonic a.first
 action_target a bytes s =
-    let fits : row_fits s.row ≡ true = row_of (entry_of s.first_byte) s.fields s.behind s.row (all_entries_fit s.first_byte) s.has_row in
-    subst (λ (m : Mnemonic). HasTarget m a.first) (sym s.mnemonic) (row_target s.row s.fields a.first s.first_part fits s.first)
+    let fits : template_fits s.template ≡ true = template_of (entry_of s.first_byte) s.fields s.behind s.template (all_entries_fit s.first_byte) s.has_template in
+    subst (λ (m : Mnemonic). HasTarget m a.first) (sym s.mnemonic) (template_target s.template s.fields a.first s.first_part fits s.first)
 
 -- so it is in each instruction
 pub has_target : (i : Ins) → HasTarget i.action.mnemonic i.action.first

@@ -39,7 +39,7 @@ use Rattle.dm_operations.specs.Arithmetic.{arithmetic, difference_in, difference
 use Rattle.dm_operations.specs.Products.{multiplied, with_double}
 use Rattle.dm_exec.specs.declared.operation.Operation.{Operation}
 use Rattle.dm_exec.specs.declared.operation.Operation.TheVariants as is
-use Rattle.dm_exec.specs.Effect.{act, effect}
+use Rattle.dm_exec.specs.Effect.{operation_effect, effect}
 use Rattle.dm_exec.specs.Operation.{operation_of}
 use Rattle.dm_laws.specs.instructions.Decimals.{InstructionsComputeInDecimal, IsOfByte, IsOnAl, accumulator_of, after_both, carry_in, difference_mnemonic, first_byte, second_byte, sum_mnemonic}
 
@@ -127,9 +127,9 @@ taken g ip override o c h =
     ∙ ap₂ (λ a b. record { ax = word_of_halves (ah_of g.cpu.ax) (difference_value Byte a b c); flags = flags_after_difference Byte a b c g.cpu.flags }) (al-value (at_ip g ip) override) (byte-in-same g ip override o)
 
 -- each instruction on the accumulator
-effect-as : (g : Guest) (i : Ins) (k : ℕ) (x : Operation) → operation_of i.action.mnemonic ≡ x → effect g i k ≡ act (at_ip g (up g.cpu.ip k)) i.prefixes g.cpu.ip x i.action.first i.action.second
+effect-as : (g : Guest) (i : Ins) (k : ℕ) (x : Operation) → operation_of i.action.mnemonic ≡ x → effect g i k ≡ operation_effect (at_ip g (up g.cpu.ip k)) i.prefixes g.cpu.ip x i.action.first i.action.second
 unfolding effect
-effect-as g i k x e = ap (λ (z : Operation). act (at_ip g (up g.cpu.ip k)) i.prefixes g.cpu.ip z i.action.first i.action.second) e
+effect-as g i k x e = ap (λ (z : Operation). operation_effect (at_ip g (up g.cpu.ip k)) i.prefixes g.cpu.ip z i.action.first i.action.second) e
 
 sum-operation : (c : Bool) → operation_of (sum_mnemonic c) ≡ is.Arithmetic (if c then AddWithCarry else Add)
 unfolding operation_of
@@ -141,25 +141,25 @@ unfolding operation_of
 difference-operation true = refl
 difference-operation false = refl
 
-sum-act : (g : Guest) (ip : ℕ) (override : Option SegmentRegister) (first o : Operand) (c : Bool) → first ≡ operand.ByteRegister Al → g.cpu.ax < 65536 → accumulator_of (arithmetic (at_ip g ip) override (if c then AddWithCarry else Add) first o) ≡ by_addition (accumulator_of g) (value_in Byte g override o) (carry_in c g)
+sum-effect : (g : Guest) (ip : ℕ) (override : Option SegmentRegister) (first o : Operand) (c : Bool) → first ≡ operand.ByteRegister Al → g.cpu.ax < 65536 → accumulator_of (arithmetic (at_ip g ip) override (if c then AddWithCarry else Add) first o) ≡ by_addition (accumulator_of g) (value_in Byte g override o) (carry_in c g)
 unfolding arithmetic sum_into width_of
-sum-act g ip override first o true e h = ap (λ f. accumulator_of (sum_in (width_of f) (at_ip g ip) g.cpu.flags.carry override f override o)) e ∙ summed g ip override o g.cpu.flags.carry h
-sum-act g ip override first o false e h = ap (λ f. accumulator_of (sum_in (width_of f) (at_ip g ip) false override f override o)) e ∙ summed g ip override o false h
+sum-effect g ip override first o true e h = ap (λ f. accumulator_of (sum_in (width_of f) (at_ip g ip) g.cpu.flags.carry override f override o)) e ∙ summed g ip override o g.cpu.flags.carry h
+sum-effect g ip override first o false e h = ap (λ f. accumulator_of (sum_in (width_of f) (at_ip g ip) false override f override o)) e ∙ summed g ip override o false h
 
-difference-act : (g : Guest) (ip : ℕ) (override : Option SegmentRegister) (first o : Operand) (c : Bool) → first ≡ operand.ByteRegister Al → g.cpu.ax < 65536 → accumulator_of (arithmetic (at_ip g ip) override (if c then SubtractWithBorrow else Subtract) first o) ≡ subtracted (accumulator_of g) (value_in Byte g override o) (carry_in c g)
+difference-effect : (g : Guest) (ip : ℕ) (override : Option SegmentRegister) (first o : Operand) (c : Bool) → first ≡ operand.ByteRegister Al → g.cpu.ax < 65536 → accumulator_of (arithmetic (at_ip g ip) override (if c then SubtractWithBorrow else Subtract) first o) ≡ subtracted (accumulator_of g) (value_in Byte g override o) (carry_in c g)
 unfolding arithmetic difference_into width_of
-difference-act g ip override first o true e h = ap (λ f. accumulator_of (difference_in (width_of f) (at_ip g ip) g.cpu.flags.carry override f override o)) e ∙ taken g ip override o g.cpu.flags.carry h
-difference-act g ip override first o false e h = ap (λ f. accumulator_of (difference_in (width_of f) (at_ip g ip) false override f override o)) e ∙ taken g ip override o false h
+difference-effect g ip override first o true e h = ap (λ f. accumulator_of (difference_in (width_of f) (at_ip g ip) g.cpu.flags.carry override f override o)) e ∙ taken g ip override o g.cpu.flags.carry h
+difference-effect g ip override first o false e h = ap (λ f. accumulator_of (difference_in (width_of f) (at_ip g ip) false override f override o)) e ∙ taken g ip override o false h
 
 sum-is : (g : Guest) (i : Ins) (k : ℕ) (c : Bool) → IsOnAl i (sum_mnemonic c) → g.cpu.ax < 65536 → accumulator_of (effect g i k) ≡ by_addition (accumulator_of g) (second_byte g i) (carry_in c g)
 sum-is g i k c s h =
     ap accumulator_of (effect-as g i k _ (ap operation_of s.mnemonic_is ∙ sum-operation c))
-    ∙ sum-act g (up g.cpu.ip k) i.prefixes.segment i.action.first i.action.second c s.first_is h
+    ∙ sum-effect g (up g.cpu.ip k) i.prefixes.segment i.action.first i.action.second c s.first_is h
 
 difference-is : (g : Guest) (i : Ins) (k : ℕ) (c : Bool) → IsOnAl i (difference_mnemonic c) → g.cpu.ax < 65536 → accumulator_of (effect g i k) ≡ subtracted (accumulator_of g) (second_byte g i) (carry_in c g)
 difference-is g i k c s h =
     ap accumulator_of (effect-as g i k _ (ap operation_of s.mnemonic_is ∙ difference-operation c))
-    ∙ difference-act g (up g.cpu.ip k) i.prefixes.segment i.action.first i.action.second c s.first_is h
+    ∙ difference-effect g (up g.cpu.ip k) i.prefixes.segment i.action.first i.action.second c s.first_is h
 
 adjust-is : (g : Guest) (j : Ins) (n : ℕ) (a : Adjustment) → operation_of j.action.mnemonic ≡ is.Adjust a → accumulator_of (effect g j n) ≡ adjusted_in a (accumulator_of g)
 unfolding adjusted

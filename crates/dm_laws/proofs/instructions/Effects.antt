@@ -50,7 +50,7 @@ use Rattle.dm_operations.specs.Products.{multiplied, after_division, divided, wi
 use Rattle.dm_operations.specs.Adjustments.{adjusted}
 use Rattle.dm_exec.specs.Jumps.{jumped, jumped_where, jumped_if, counted_down, looped, far_jumped, called, far_called, returned, target_of, transferred}
 use Rattle.dm_exec.specs.Strings.{counted, destination_passed, ends, once, onward, source, source_passed, string_effect, with_comparison}
-use Rattle.dm_exec.specs.Effect.{act, effect}
+use Rattle.dm_exec.specs.Effect.{operation_effect, effect}
 use Rattle.dm_laws.specs.instructions.WellFormed.{HasWords, IsWellFormed}
 use Rattle.dm_laws.proofs.instructions.Values.{adjusted-below, complement-below, difference-below, flags-below, logic-below, product-below, quotient-below, shift-below, size-word, sum-below}
 use Rattle.dm_laws.proofs.instructions.Operands.{AreValues, accumulated, accumulator-below, address-below, byte-below, far_segment-below, peek-below, peek16-below, poke16-below, read-below, stored, value-below, value_in-below, with_byte-words, with_segment-words, written-bytes}
@@ -334,27 +334,27 @@ string_kept w g override (Some r) x start h f =
 
 -- ---- all instructions
 
-act_kept : (g : Guest) (p : Prefixes) (start : ℕ) (x : Operation) (a b : Operand) → start < 65536 → IsWellFormed g → AreValues a → AreValues b → IsWellFormed (act g p start x a b)
+operation_effect_kept : (g : Guest) (p : Prefixes) (start : ℕ) (x : Operation) (a b : Operand) → start < 65536 → IsWellFormed g → AreValues a → AreValues b → IsWellFormed (operation_effect g p start x a b)
 unfolding adjusted
-act_kept g p start (is.Move x) a b h w u v = move_kept g p.segment x a b w u v
-act_kept g p start (is.Stack x) a b h w u v = stack_kept g p.segment x a w u
-act_kept g p start (is.Arithmetic x) a b h w u v = arithmetic_kept g p.segment x a b w
-act_kept g p start (is.Shift x) a b h w u v = shift_kept g p.segment x a b w
-act_kept g p start (is.Multiply s) a b h w u v = product_kept g p.segment s a w
-act_kept g p start (is.Divide s) a b h w u v = division_kept g p.segment s a w
-act_kept g p start (is.Adjust x) a b h w u v =
+operation_effect_kept g p start (is.Move x) a b h w u v = move_kept g p.segment x a b w u v
+operation_effect_kept g p start (is.Stack x) a b h w u v = stack_kept g p.segment x a w u
+operation_effect_kept g p start (is.Arithmetic x) a b h w u v = arithmetic_kept g p.segment x a b w
+operation_effect_kept g p start (is.Shift x) a b h w u v = shift_kept g p.segment x a b w
+operation_effect_kept g p start (is.Multiply s) a b h w u v = product_kept g p.segment s a w
+operation_effect_kept g p start (is.Divide s) a b h w u v = division_kept g p.segment s a w
+operation_effect_kept g p start (is.Adjust x) a b h w u v =
     let y = adjusted-below x g.cpu.ax g.cpu.flags in
     record { registers = (let r = w.registers in omega arith); memory = w.memory }
-act_kept g p start (is.JumpIf x y) a b h w u v = jump_if_kept g p.segment x y a w u
-act_kept g p start (is.Loop x) a b h w u v = loop_kept g p.segment x a w u
-act_kept g p start (is.Transfer x) a b h w u v = transfer_kept g p.segment x a w u
-act_kept g p start (is.Interrupt x) a b h w u v = interrupt_kept g p.segment x a w
-act_kept g p start (is.String x y) a b h w u v = string_kept y g p.segment p.repeat x start h w
-act_kept g p start (is.Flag x) a b h w u v = flagged g _ w
-act_kept g p start is.Nothing a b h w u v = w
-act_kept g p start is.Halt a b h w u v = at g start h w
+operation_effect_kept g p start (is.JumpIf x y) a b h w u v = jump_if_kept g p.segment x y a w u
+operation_effect_kept g p start (is.Loop x) a b h w u v = loop_kept g p.segment x a w u
+operation_effect_kept g p start (is.Transfer x) a b h w u v = transfer_kept g p.segment x a w u
+operation_effect_kept g p start (is.Interrupt x) a b h w u v = interrupt_kept g p.segment x a w
+operation_effect_kept g p start (is.String x y) a b h w u v = string_kept y g p.segment p.repeat x start h w
+operation_effect_kept g p start (is.Flag x) a b h w u v = flagged g _ w
+operation_effect_kept g p start is.Nothing a b h w u v = w
+operation_effect_kept g p start is.Halt a b h w u v = at g start h w
 
 pub effect_kept : (g : Guest) (i : Ins) (len : ℕ) → IsWellFormed g → AreValues i.action.first → AreValues i.action.second → IsWellFormed (effect g i len)
 unfolding effect
 effect_kept g i len w u v =
-    act_kept (at_ip g (up g.cpu.ip len)) i.prefixes g.cpu.ip (operation_of i.action.mnemonic) i.action.first i.action.second w.registers.ip (at g (up g.cpu.ip len) (omega arith) w) u v
+    operation_effect_kept (at_ip g (up g.cpu.ip len)) i.prefixes g.cpu.ip (operation_of i.action.mnemonic) i.action.first i.action.second w.registers.ip (at g (up g.cpu.ip len) (omega arith) w) u v

@@ -15,7 +15,7 @@ use Rattle.dm_cpu.specs.Values.{accumulator, read_in, with_accumulator, written_
 use Rattle.dm_exec.specs.declared.operation.Operation.{Operation}
 use Rattle.dm_exec.specs.declared.operation.StringOperation.{StringOperation}
 use Rattle.dm_exec.specs.declared.operation.StringOperation.TheVariants.{Compare, Load, Move, Scan, Store}
-use Rattle.dm_exec.specs.Effect.{act, effect}
+use Rattle.dm_exec.specs.Effect.{operation_effect, effect}
 use Rattle.dm_exec.specs.Strings.{counted, destination_passed, ends, once, source, source_passed, string_effect}
 use Rattle.dm_laws.specs.instructions.Repetitions.{IsRepeated, OnlyCounts, RepetitionIsElements, elements, performed, with_cx_ip}
 
@@ -84,7 +84,7 @@ module _ (i : Ins) (len : ℕ) (w : Width) (operation : StringOperation) (s : Is
   effect-is : (g : Guest) → effect g i len ≡ string_effect w (at_ip g (up g.cpu.ip len)) i.prefixes.segment (Some s.repeat) operation g.cpu.ip
   unfolding effect
   effect-is g =
-      ap (λ (x : Operation). act (at_ip g (up g.cpu.ip len)) i.prefixes g.cpu.ip x i.action.first i.action.second) s.string
+      ap (λ (x : Operation). operation_effect (at_ip g (up g.cpu.ip len)) i.prefixes g.cpu.ip x i.action.first i.action.second) s.string
       ∙ ap (λ (p : Option Repeat). string_effect w (at_ip g (up g.cpu.ip len)) i.prefixes.segment p operation g.cpu.ip) s.prefixed
 
   -- one repetition, where CX is not 0

@@ -7,10 +7,10 @@ use Rattle.dm_ins.specs.declared.operand.Operand.{Operand}
 use Rattle.dm_ins.specs.declared.fields.Fields.{Fields}
 use Rattle.dm_ins.specs.declared.table.OperandKind.{OperandKind}
 use Rattle.dm_ins.specs.declared.table.OperandKind.TheVariants as is
-use Rattle.dm_ins.specs.declared.table.Row.{Row}
+use Rattle.dm_ins.specs.declared.table.Template.{Template}
 use Rattle.dm_ins.specs.declared.table.OpcodeEntry.{OpcodeEntry}
 use Rattle.dm_ins.specs.declared.table.OpcodeEntry.TheVariants.{Unlisted, Plain, Group, Second}
-use Rattle.dm_ins.specs.Spelling.{Fills, HasRow, MaySpellFields, SpellsAction, at_place, has_fields, register}
+use Rattle.dm_ins.specs.Spelling.{Fills, HasTemplate, MaySpellFields, SpellsAction, at_place, has_fields, register}
 use Rattle.dm_ins.specs.Table.{entry_of}
 use Rattle.dm_ins.specs.declared.action.Action.{Action}
 use Rattle.dm_laws.specs.instructions.WellFormed.{InstructionsKeepWellFormed}
@@ -22,11 +22,11 @@ may-small : (b : Bool) (m : Fields) (d : List ℕ) → MaySpellFields b m d → 
 may-small true m d s = s.register_fits
 may-small false m d s = (let x : m.register ≡ 0 = ap (λ z. z.register) s.0 in omega arith)
 
-row-small : (e : OpcodeEntry) (m : Fields) (d : List ℕ) (r : Row) → HasRow e m d r → m.register < 8
-row-small Unlisted m d r h = absurd h
-row-small (Plain p) m d r h = may-small (has_fields p) m d h.1
-row-small (Group g) m d r h = h.1.register_fits
-row-small (Second c p) m d r h = (let x : m.register ≡ 0 = ap (λ z. z.register) h.1 in omega arith)
+template-small : (e : OpcodeEntry) (m : Fields) (d : List ℕ) (r : Template) → HasTemplate e m d r → m.register < 8
+template-small Unlisted m d r h = absurd h
+template-small (Plain p) m d r h = may-small (has_fields p) m d h.1
+template-small (Group g) m d r h = h.1.register_fits
+template-small (Second c p) m d r h = (let x : m.register ≡ 0 = ap (λ z. z.register) h.1 in omega arith)
 
 register-values : (w : Width) (n : ℕ) → AreValues (register w n)
 register-values Byte n = tt
@@ -55,10 +55,10 @@ fills-values (is.TheSegment r) m o d h f = subst AreValues (sym f.0) tt
 fills-values is.One m o d h f = subst AreValues (sym f.0) tt
 
 action-small : (a : Action) (bytes : List ℕ) (s : SpellsAction a bytes) → s.fields.register < 8
-action-small a bytes s = row-small (entry_of s.first_byte) s.fields s.behind s.row s.has_row
+action-small a bytes s = template-small (entry_of s.first_byte) s.fields s.behind s.template s.has_template
 
 pub keeps_well_formed : InstructionsKeepWellFormed
 keeps_well_formed g i bytes len w s =
     let a = s.action in
     let h = action-small i.action s.rest a in
-    effect_kept g i len w (fills-values a.row.first a.fields i.action.first a.first_part h a.first) (fills-values a.row.second a.fields i.action.second a.second_part h a.second)
+    effect_kept g i len w (fills-values a.template.first a.fields i.action.first a.first_part h a.first) (fills-values a.template.second a.fields i.action.second a.second_part h a.second)

@@ -17,7 +17,7 @@ use std::alloc::AllocError;
 const MOST: u16 = 64;
 
 /// Appends the finding about what a program has: it holds it if it stays resident, otherwise it left it.
-fn put(out: &mut Vec<Finding>, resident: bool, kept: Kept) -> Result<(), AllocError>
+fn append_kept(out: &mut Vec<Finding>, resident: bool, kept: Kept) -> Result<(), AllocError>
     ensures { OnOk result (out.new.items ≡ out.old.items ++ told resident kept) }
 {
     if resident {
@@ -42,7 +42,7 @@ fn put_pages(
     if handle == 0 && pages == 0 && !saved {
         return Ok(());
     }
-    put(out, resident, Kept::Handle(handle, pages, saved))
+    append_kept(out, resident, Kept::Handle(handle, pages, saved))
 }
 
 /// Appends what a handle of expanded memory keeps, its pages and its saved map, if it is in use.
@@ -78,7 +78,7 @@ fn put_window(
 {
     let windows = space.windows();
     if windows[window as usize].is_some() {
-        return put(out, resident, Kept::Window(window));
+        return append_kept(out, resident, Kept::Window(window));
     }
     Ok(())
 }
@@ -95,7 +95,7 @@ fn put_block(
 {
     let handle = before + 1;
     match xms.handle(handle) {
-        Some(slot) => put(out, resident, Kept::Block(handle, slot.kib, slot.locks > 0)),
+        Some(slot) => append_kept(out, resident, Kept::Block(handle, slot.kib, slot.locks > 0)),
         None => Ok(()),
     }
 }
@@ -110,7 +110,7 @@ fn put_upper(
     ensures { OnOk result (out.new.items ≡ out.old.items ++ upper_kept resident xms.now number) }
 {
     match xms.upper_block(number as usize) {
-        Some(upper) => put(out, resident, Kept::Upper(upper.segment)),
+        Some(upper) => append_kept(out, resident, Kept::Upper(upper.segment)),
         None => Ok(()),
     }
 }
@@ -125,10 +125,10 @@ fn put_switches(
     ensures { OnOk result (out.new.items ≡ out.old.items ++ switches_kept resident area on) }
 {
     if area {
-        put(out, resident, Kept::Area)?;
+        append_kept(out, resident, Kept::Area)?;
     }
     if on {
-        put(out, resident, Kept::Line)?;
+        append_kept(out, resident, Kept::Line)?;
     }
     Ok(())
 }

@@ -6,7 +6,7 @@ use dm_findings::Finding;
 use std::alloc::AllocError;
 
 /// Appends a finding to `out`. An `Err` is a failed allocation.
-pub fn put(out: &mut Vec<Finding>, finding: Finding) -> Result<(), AllocError>
+pub fn append_finding(out: &mut Vec<Finding>, finding: Finding) -> Result<(), AllocError>
     ensures { OnOk result (out.new.items ≡ out.old.items ++ finding ∷ []) }
 {
     out.push(finding)?;

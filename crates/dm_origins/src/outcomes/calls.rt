@@ -5,7 +5,7 @@
 ghost use Rattle.std.specs.Prelude.{◌≡◌, ◌++◌, OnOk};
 ghost use Rattle.dm_origins.specs.outcomes.Calls.{allocates, frees, resizes, arranges_lists, is_arena_function, ends_for_good, stays_resident, is_ending, is_starting, arranges, call_stays_resident, refusal, refused_by_dos, refused_by_status, refused_by_error, may_be_refused, call_findings, is_stray_handle, is_stray_extended};
 
-use crate::outcomes::appending::put;
+use crate::outcomes::appending::append_finding;
 use dm_cpu::Cpu;
 use dm_drivers::{expanded, extended};
 use dm_findings::{Call, Finding};
@@ -151,10 +151,10 @@ fn put_refused_by_dos(
     }
     let code = after.byte(ByteRegister::Al);
     if code == 8 && (allocates(function) || resizes(function)) {
-        return put(out, Finding::Short(before.bx, after.bx));
+        return append_finding(out, Finding::Short(before.bx, after.bx));
     }
     let stray = (frees(function) || resizes(function)) && code == 0x09;
-    put(out, refusal(stray, code))
+    append_finding(out, refusal(stray, code))
 }
 
 /// Whether the status of a failed function of INT 67h says that the handle whose pages are to be freed is not in use.
@@ -179,7 +179,7 @@ fn put_refused_by_status(
     if status == 0 || status == 0x92 {
         return Ok(());
     }
-    put(out, refusal(is_stray_handle(function, status), status))
+    append_finding(out, refusal(is_stray_handle(function, status), status))
 }
 
 /// Whether the code of a failed function of the extended memory driver says that there is no block to be freed: no
@@ -205,7 +205,7 @@ fn put_refused_by_error(
 {
     let code = after.byte(ByteRegister::Bl);
     if after.ax == 0 && code != 0 {
-        return put(out, refusal(is_stray_extended(function, code), code));
+        return append_finding(out, refusal(is_stray_extended(function, code), code));
     }
     Ok(())
 }
@@ -223,7 +223,7 @@ fn may_be_refused(function: Function) -> bool
 /// Appends what is found of a call, by the registers before and after it: that it failed, that it is interrupt 0, by
 /// which a division error ends the process, or an interrupt that is not served. Of INT 21h, only functions 48h, 49h,
 /// 4Ah, 4Bh and 58h are looked at, and those that are not served.
-pub fn put_of_call(
+pub fn append_call_findings(
     out: &mut Vec<Finding>,
     before: &Cpu,
     after: &Cpu,
@@ -232,7 +232,7 @@ pub fn put_of_call(
     ensures { OnOk result (out.new.items ≡ out.old.items ++ call_findings before.now after.now call) }
 {
     match call {
-        Some(Call::DivideError) => put(out, Finding::DivisionError),
+        Some(Call::DivideError) => append_finding(out, Finding::DivisionError),
         Some(Call::Dos(number)) => {
             let function = function_of(number);
             if may_be_refused(function) {
@@ -248,7 +248,7 @@ pub fn put_of_call(
         Some(Call::ExtendedMemory(number)) => {
             put_refused_by_error(out, extended::function_of(number), after)
         }
-        Some(Call::Interrupt(_)) => put(out, Finding::NotServed),
+        Some(Call::Interrupt(_)) => append_finding(out, Finding::NotServed),
         _ => Ok(()),
     }
 }

@@ -5,6 +5,8 @@ mod appending;
 mod calls;
 mod courses;
 
-pub use appending::put;
-pub use calls::{arranges, call_stays_resident, frees, put_of_call, resizes, stays_resident};
+pub use appending::append_finding;
+pub use calls::{
+    append_call_findings, arranges, call_stays_resident, frees, resizes, stays_resident,
+};
 pub use courses::{ends_process, has_started};

@@ -8,7 +8,7 @@ use Rattle.dm_requests.specs.declared.commands.command.Command.TheVariants as co
 use Rattle.dm_requests.specs.declared.commands.names.CommandName.{CommandName}
 use Rattle.dm_requests.specs.declared.commands.names.CommandName.TheVariants as name
 use Rattle.dm_requests.specs.commands.Words.{words_of}
-use Rattle.dm_requests.specs.commands.Numbers.{◌>>=◌, number_of, up_to, logical_address, bytes_from_digits}
+use Rattle.dm_requests.specs.commands.Numbers.{◌>>=◌, hexadecimal_number, up_to, logical_address, bytes_from_digits}
 use Rattle.dm_requests.specs.commands.Names.{command_word}
 
 -- the command of a line with a name and nothing after it, with defaults for the numbers of G and T; None if the name
@@ -29,16 +29,16 @@ alone _ = None
 abbrev pub with_one : CommandName → List ℕ → Option Command
 with_one name.Unassemble w = option_map (λ a. command.Unassemble a 8) (logical_address w)
 with_one name.Dump w = option_map (λ a. command.Dump a 0x80) (logical_address w)
-with_one name.Go w = option_map command.Go (number_of w)
-with_one name.Trace w = option_map command.Trace (up_to 0x1000 (number_of w))
+with_one name.Go w = option_map command.Go (hexadecimal_number w)
+with_one name.Trace w = option_map command.Trace (up_to 0x1000 (hexadecimal_number w))
 with_one name.Break w = option_map command.Break (logical_address w)
 with_one name.Clear w = option_map command.Clear (logical_address w)
 with_one _ w = None
 
 -- the command of a line with a name (U, D or E), an address and one more word; None if there is none
 abbrev pub at_address : CommandName → LogicalAddress → List ℕ → Option Command
-at_address name.Unassemble a w = option_map (command.Unassemble a) (up_to 0x1000 (number_of w))
-at_address name.Dump a w = option_map (command.Dump a) (up_to 0x10000 (number_of w))
+at_address name.Unassemble a w = option_map (command.Unassemble a) (up_to 0x1000 (hexadecimal_number w))
+at_address name.Dump a w = option_map (command.Dump a) (up_to 0x10000 (hexadecimal_number w))
 at_address name.Enter a w = option_map (command.Enter a) (bytes_from_digits w)
 at_address _ a w = None
 

@@ -19,8 +19,8 @@ digits_of n (b ∷ bs) = do
   digits_of (n * 16 + d) bs
 
 -- the number that one to eight hexadecimal digits spell; None for any other word
-unfoldable pub number_of : List ℕ → Option ℕ
-number_of w = if length w == 0 || nat_lt 8 (length w) then None else digits_of 0 w
+unfoldable pub hexadecimal_number : List ℕ → Option ℕ
+hexadecimal_number w = if length w == 0 || nat_lt 8 (length w) then None else digits_of 0 w
 
 -- the number, if there is one and it is at most `most`; otherwise None
 abbrev pub up_to : ℕ → Option ℕ → Option ℕ
@@ -29,7 +29,7 @@ up_to most (Some n) = if nat_le n most then Some n else None
 
 -- the number that one to eight hexadecimal digits spell, if it is at most FFFFh; otherwise None
 abbrev pub word_from_digits : List ℕ → Option ℕ
-word_from_digits w = up_to 0xFFFF (number_of w)
+word_from_digits w = up_to 0xFFFF (hexadecimal_number w)
 
 -- the bytes before the first colon, with `front` before them, and the bytes after it; None if there is no colon
 abbrev pub parts_of : List ℕ → List ℕ → Option (List ℕ × List ℕ)

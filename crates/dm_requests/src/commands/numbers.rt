@@ -2,7 +2,7 @@
 
 ghost use Rattle.std.specs.Prelude.{◌≡◌, ◌<◌, ◌≤◌, [], IfSome, option_map};
 ghost use Rattle.hex.specs.Hex.{hex_digit_value};
-ghost use Rattle.dm_requests.specs.commands.Numbers.{number_of, up_to, word_from_digits, parts_of, logical_address, bytes_from_digits};
+ghost use Rattle.dm_requests.specs.commands.Numbers.{hexadecimal_number, up_to, word_from_digits, parts_of, logical_address, bytes_from_digits};
 
 use crate::commands::command::{Bytes, LogicalAddress};
 
@@ -26,9 +26,9 @@ fn digit(byte: u8) -> Option<u8>
 }
 
 /// The number that a word of one to eight hexadecimal digits spells; None for any other word.
-#[tactic(auto, unfolding(crate::specs::commands::Numbers::number_of))]
+#[tactic(auto, unfolding(crate::specs::commands::Numbers::hexadecimal_number))]
 pub fn read_number(word: &[u8]) -> Option<u32>
-    ensures { result ≡ number_of word.now }
+    ensures { result ≡ hexadecimal_number word.now }
 {
     if word.is_empty() || DIGITS < word.len() {
         return None;
@@ -42,7 +42,7 @@ pub fn read_number(word: &[u8]) -> Option<u32>
 
 /// The number that a word of one to eight hexadecimal digits spells, if it is at most `most`; otherwise None.
 pub(crate) fn read_up_to(word: &[u8], most: u32) -> Option<u32>
-    ensures value { result ≡ up_to most (number_of word.now) }
+    ensures value { result ≡ up_to most (hexadecimal_number word.now) }
     ensures few { IfSome result (λ n. n ≤ most) }
 {
     let n = read_number(word)?;

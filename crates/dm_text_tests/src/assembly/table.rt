@@ -1,6 +1,6 @@
-//! Each row of the instruction table once: its text as a listing shows it, and its preferred bytes, from the manual
-//! (Intel 8086 Family User's Manual, section 4, tables 4-13 and 4-14), written by hand. Together they are one program,
-//! which is assembled to its bytes and disassembled to its text again.
+//! Each template of the instruction table once: its text as a listing shows it, and its preferred bytes, from the
+//! manual (Intel 8086 Family User's Manual, section 4, tables 4-13 and 4-14), written by hand. Together they are one
+//! program, which is assembled to its bytes and disassembled to its text again.
 //!
 //! A row is a text and its bytes, as `MOV AX,CX| 89 C8`.
 
@@ -377,7 +377,7 @@ fn check_program(rt: &impl Abort, alloc: Global, text: &str, bytes: &[u8]) -> Re
 
 /// Definitions: dm_asm Laws ListingsAssemble ListingsAreAnswered TextsAreSpelled IsSpelled
 #[test]
-fn each_row_of_the_table_is_assembled_and_listed(rt: HostRuntime) -> Result<(), Fail> {
+fn each_template_is_assembled_and_listed(rt: HostRuntime) -> Result<(), Fail> {
     let mut text = String::new(rt.alloc());
     let mut bytes = Vec::new(rt.alloc());
     for rows in TABLE {

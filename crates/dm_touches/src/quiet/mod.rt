@@ -4,5 +4,5 @@
 mod marks;
 mod touch;
 
-pub use marks::{Marks, lets};
+pub use marks::{Marks, is_unmarked};
 pub use touch::{Touch, touch_of};

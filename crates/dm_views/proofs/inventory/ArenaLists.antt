@@ -16,11 +16,11 @@ use Rattle.dm_views.specs.inventory.inner.Telling.{AreWalked, TellsList, end_of}
 
 -- the records of the second list stand behind what stood there
 abbrev pub HasSecond : Memory → List ArenaBlock → List ArenaBlock → Option ℕ → Type 0
-HasSecond m old new broken = (rows : List ArenaBlock) × (new ≡ old ++ rows) × ((L : List Header) → IsArena m first_header L → IsListed m L link_header 1 rows broken)
+HasSecond m old new broken = (records : List ArenaBlock) × (new ≡ old ++ records) × ((L : List Header) → IsArena m first_header L → IsListed m L link_header 1 records broken)
 
-of_walk : (w : Walking) (F : List Header) (walked : Walked) (rows : List ArenaBlock) → AreWalked w F 1 walked rows → IsListed w.memory F (start_of w.second) 1 rows (end_of walked)
-of_walk w F (Broken at) rows x = cut_short at x refl
-of_walk w F (Over v) rows x = whole x.3.0 x.3.1 refl
+of_walk : (w : Walking) (F : List Header) (walked : Walked) (records : List ArenaBlock) → AreWalked w F 1 walked records → IsListed w.memory F (start_of w.second) 1 records (end_of walked)
+of_walk w F (Broken at) records x = cut_short at x refl
+of_walk w F (Over v) records x = whole x.3.0 x.3.1 refl
 
 pub second_told : (m : Memory) (w : Walking) (walked : Walked) (old new : List ArenaBlock) → w.memory ≡ m → w.second ≡ true → TellsList w 1 walked old new → HasSecond m old new (end_of walked)
 second_told m w walked old new same second x = (
@@ -36,23 +36,23 @@ second_told m w walked old new same second x = (
 -- ---- the first list
 
 -- the records of the arena stand behind what stood there
-abbrev pub HasRows : Bool → Memory → List ArenaBlock → List ArenaBlock → Option ℕ → Type 0
-HasRows upper m old new broken = (rows : List ArenaBlock) × (new ≡ old ++ rows) × IsListedArena upper m rows broken
+abbrev pub HasRecords : Bool → Memory → List ArenaBlock → List ArenaBlock → Option ℕ → Type 0
+HasRecords upper m old new broken = (records : List ArenaBlock) × (new ≡ old ++ records) × IsListedArena upper m records broken
 
 -- what is told of the first list
-first_told : (m : Memory) (w : Walking) (walked : Walked) (rows : List ArenaBlock) → w.memory ≡ m → w.second ≡ false → ((F : List Header) → IsBehind w.memory w.second F → AreWalked w F 0 walked rows) → AreWalked (record { memory = m; second = false; at = w.at }) [] 0 walked rows
-first_told m w walked rows same second x =
-    let T : Memory → Bool → Type 0 = λ y b. ((F : List Header) → IsBehind y b F → AreWalked (record { memory = y; second = b; at = w.at }) F 0 walked rows) in
+first_told : (m : Memory) (w : Walking) (walked : Walked) (records : List ArenaBlock) → w.memory ≡ m → w.second ≡ false → ((F : List Header) → IsBehind w.memory w.second F → AreWalked w F 0 walked records) → AreWalked (record { memory = m; second = false; at = w.at }) [] 0 walked records
+first_told m w walked records same second x =
+    let T : Memory → Bool → Type 0 = λ y b. ((F : List Header) → IsBehind y b F → AreWalked (record { memory = y; second = b; at = w.at }) F 0 walked records) in
     let there : T m false = subst (λ (y : Memory). T y false) same (subst (λ (b : Bool). T w.memory b) second x) in
     there [] refl
 
-arena_of : (m : Memory) (L : List Header) (rows : List ArenaBlock) → IsWhole m [] first_header 0 L rows → IsArena m first_header L
-arena_of m L rows x = (x.spelled.0, x.spelled.1)
+arena_of : (m : Memory) (L : List Header) (records : List ArenaBlock) → IsWhole m [] first_header 0 L records → IsArena m first_header L
+arena_of m L records x = (x.spelled.0, x.spelled.1)
 
 spelled_of : (m : Memory) (L : List Header) → IsArena m first_header L → IsSpelledFrom m first_header L
 spelled_of m L a = record { nonempty = a.0.0; spells = a.0.1 }
 
-pub destroyed_told : (upper : Bool) (m : Memory) (w : Walking) (at : ℕ) (walked : Walked) (old new : List ArenaBlock) → w.memory ≡ m → w.second ≡ false → walked ≡ Broken at → TellsList w 0 walked old new → HasRows upper m old new (Some at)
+pub destroyed_told : (upper : Bool) (m : Memory) (w : Walking) (at : ℕ) (walked : Walked) (old new : List ArenaBlock) → w.memory ≡ m → w.second ≡ false → walked ≡ Broken at → TellsList w 0 walked old new → HasRecords upper m old new (Some at)
 destroyed_told upper m w at walked old new same second broken x =
     let told = first_told m w walked x.0 same second x.2 in
     (x.0, x.1, destroyed at (subst (λ (o : Walked). AreWalked (record { memory = m; second = false; at = w.at }) [] 0 o x.0) broken told) refl)
@@ -68,12 +68,12 @@ pub parted_by : (upper linked r : Bool) (m : Memory) → upper ≡ true → ((L 
 parted_by upper linked r m on tells is L a = ap₂ (λ (b c : Bool). b && not c) on (sym (tells L (spelled_of m L a)) ∙ is)
 
 -- the first list is whole
-walked_over : (m : Memory) (w v : Walking) (walked : Walked) (rows : List ArenaBlock) → w.memory ≡ m → w.second ≡ false → walked ≡ Over v → ((F : List Header) → IsBehind w.memory w.second F → AreWalked w F 0 walked rows)
-    → AreWalked (record { memory = m; second = false; at = w.at }) [] 0 (Over v) rows
-walked_over m w v walked rows same second is x =
-    subst (λ (o : Walked). AreWalked (record { memory = m; second = false; at = w.at }) [] 0 o rows) is (first_told m w walked rows same second x)
+walked_over : (m : Memory) (w v : Walking) (walked : Walked) (records : List ArenaBlock) → w.memory ≡ m → w.second ≡ false → walked ≡ Over v → ((F : List Header) → IsBehind w.memory w.second F → AreWalked w F 0 walked records)
+    → AreWalked (record { memory = m; second = false; at = w.at }) [] 0 (Over v) records
+walked_over m w v walked records same second is x =
+    subst (λ (o : Walked). AreWalked (record { memory = m; second = false; at = w.at }) [] 0 o records) is (first_told m w walked records same second x)
 
-pub alone_told : (upper : Bool) (m : Memory) (w v : Walking) (walked : Walked) (old new : List ArenaBlock) → w.memory ≡ m → w.second ≡ false → walked ≡ Over v → TellsList w 0 walked old new → TellsParted upper m false → HasRows upper m old new None
+pub alone_told : (upper : Bool) (m : Memory) (w v : Walking) (walked : Walked) (old new : List ArenaBlock) → w.memory ≡ m → w.second ≡ false → walked ≡ Over v → TellsList w 0 walked old new → TellsParted upper m false → HasRecords upper m old new None
 alone_told upper m w v walked old new same second some x apart =
     let told = walked_over m w v walked x.0 same second some x.2 in
     let L = told.3.0 in
@@ -82,7 +82,7 @@ alone_told upper m w v walked old new same second some x apart =
 two_lists : (upper : Bool) (m : Memory) (L : List Header) (first second : List ArenaBlock) (broken : Option ℕ) → IsWhole m [] first_header 0 L first → is_parted upper L ≡ true → IsListed m L link_header 1 second broken → IsListedArena upper m (first ++ second) broken
 two_lists upper m L first second broken w p s = parted L first second w p s refl
 
-pub parted_told : (upper : Bool) (m : Memory) (w v : Walking) (walked : Walked) (old new all : List ArenaBlock) (broken : Option ℕ) → w.memory ≡ m → w.second ≡ false → walked ≡ Over v → TellsList w 0 walked old new → TellsParted upper m true → HasSecond v.memory new all broken → HasRows upper m old all broken
+pub parted_told : (upper : Bool) (m : Memory) (w v : Walking) (walked : Walked) (old new all : List ArenaBlock) (broken : Option ℕ) → w.memory ≡ m → w.second ≡ false → walked ≡ Over v → TellsList w 0 walked old new → TellsParted upper m true → HasSecond v.memory new all broken → HasRecords upper m old all broken
 parted_told upper m w v walked old new all broken same second some x apart s =
     let told = walked_over m w v walked x.0 same second some x.2 in
     let L = told.3.0 in

@@ -10,7 +10,7 @@ use Rattle.dm_blocks.proofs.OneHeader.{header-unique}
 use Rattle.dm_blocks.proofs.Unique.{chain_unique}
 use Rattle.dm_blocks.proofs.Walks.{no_arena}
 use Rattle.dm_views.specs.declared.inventory.arena.ArenaBlock.{ArenaBlock}
-use Rattle.dm_views.specs.inventory.Arena.{list_rows, front_rows, IsWhole, IsCutShort, IsListed, whole, cut_short, IsListedArena, destroyed, alone, parted}
+use Rattle.dm_views.specs.inventory.Arena.{list_records, front_records, IsWhole, IsCutShort, IsListed, whole, cut_short, IsListedArena, destroyed, alone, parted}
 
 -- behind the headers F and those of the list before them, headers after which none can follow
 record IsStuck (m : Memory) (F before : List Header) (h : ℕ) (P : List Header) (t : ℕ) : Type 0 where
@@ -73,13 +73,13 @@ stuck m F start list at a x = record { path = x.leads.path; clear = x.leads.clea
 cut_once : (m : Memory) (F : List Header) (start list k n : ℕ) (a b : List ArenaBlock) (s t : Option ℕ) → IsCutShort m F start list k a → IsCutShort m F start list n b → s ≡ Some k → t ≡ Some n → AreSame a b s t
 cut_once m F start list k n a b s t x y is same =
     let one = stuck_once m F [] start x.headers k y.headers n (stuck m F start list k a x) (stuck m F start list n b y) in
-    (x.is ∙ ap (λ (X : List Header). front_rows list X) one.headers ∙ sym y.is, is ∙ ap (λ (i : ℕ). Some i) one.at ∙ sym same)
+    (x.is ∙ ap (λ (X : List Header). front_records list X) one.headers ∙ sym y.is, is ∙ ap (λ (i : ℕ). Some i) one.at ∙ sym same)
 
 one_list : (m : Memory) (F : List Header) (start list : ℕ) (L M : List Header) (a b : List ArenaBlock) → IsWhole m F start list L a → IsWhole m F start list M b → L ≡ M
 one_list m F start list L M a b x y = chain_unique m start L M x.spelled.0 y.spelled.0
 
 whole_once : (m : Memory) (F : List Header) (start list : ℕ) (L M : List Header) (a b : List ArenaBlock) → IsWhole m F start list L a → IsWhole m F start list M b → a ≡ b
-whole_once m F start list L M a b x y = x.is ∙ ap (λ (X : List Header). list_rows list X) (one_list m F start list L M a b x y) ∙ sym y.is
+whole_once m F start list L M a b x y = x.is ∙ ap (λ (X : List Header). list_records list X) (one_list m F start list L M a b x y) ∙ sym y.is
 
 either : (m : Memory) (F : List Header) (start list k : ℕ) (L : List Header) (a b : List ArenaBlock) → IsWhole m F start list L a → IsCutShort m F start list k b → ⊥
 either m F start list k L a b x y = no_arena m F start y.headers k y.leads y.none L x.spelled

@@ -1,7 +1,7 @@
 //! The handles of extended memory and the upper memory blocks as records (XMS 3.0). An `Err` is a failed allocation.
 ghost use Rattle.std.specs.Prelude.{◌≡◌, ◌<◌, ◌++◌, OnOk};
-ghost use Rattle.dm_views.specs.inventory.Rows.{row_of};
-ghost use Rattle.dm_views.specs.inventory.Extended.{extended_row, extended_rows, upper_of, upper_rows};
+ghost use Rattle.dm_views.specs.inventory.Records.{record_list};
+ghost use Rattle.dm_views.specs.inventory.Extended.{extended_record, extended_records, upper_of, upper_records};
 
 use dm_space::Space;
 use dm_xms::{Upper, Xms};
@@ -37,7 +37,7 @@ fn put_block(
     before: u16,
 ) -> Result<(), AllocError>
     requires { before < 64 }
-    ensures { OnOk result (out.new.items ≡ out.old.items ++ row_of (extended_row xms.now space.now.memory before)) }
+    ensures { OnOk result (out.new.items ≡ out.old.items ++ record_list (extended_record xms.now space.now.memory before)) }
 {
     let handle = before + 1;
     let Some(slot) = xms.handle(handle) else {
@@ -62,7 +62,7 @@ pub fn list_extended(
     xms: &Xms,
     space: &Space,
 ) -> Result<(), AllocError>
-    ensures { OnOk result (out.new.items ≡ out.old.items ++ extended_rows xms.now space.now.memory) }
+    ensures { OnOk result (out.new.items ≡ out.old.items ++ extended_records xms.now space.now.memory) }
 {
     for before in 0..MOST {
         put_block(out, xms, space, before)?;
@@ -72,7 +72,7 @@ pub fn list_extended(
 
 /// Appends the record of an upper memory block; nothing for None.
 fn put_upper(out: &mut Vec<UpperBlock>, upper: Option<Upper>) -> Result<(), AllocError>
-    ensures { OnOk result (out.new.items ≡ out.old.items ++ row_of (upper_of upper)) }
+    ensures { OnOk result (out.new.items ≡ out.old.items ++ record_list (upper_of upper)) }
 {
     let Some(upper) = upper else {
         return Ok(());
@@ -90,7 +90,7 @@ fn put_upper(out: &mut Vec<UpperBlock>, upper: Option<Upper>) -> Result<(), Allo
 ///
 /// A failed allocation.
 pub fn list_uppers(out: &mut Vec<UpperBlock>, xms: &Xms) -> Result<(), AllocError>
-    ensures { OnOk result (out.new.items ≡ out.old.items ++ upper_rows xms.now) }
+    ensures { OnOk result (out.new.items ≡ out.old.items ++ upper_records xms.now) }
 {
     for number in 0..MOST {
         put_upper(out, xms.upper_block(number as usize))?;

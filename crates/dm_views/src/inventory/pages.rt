@@ -1,8 +1,8 @@
 //! The handles of expanded memory as records, and what the windows of the frame show (LIM EMS 4.0, section 2). An `Err`
 //! is a failed allocation.
 ghost use Rattle.std.specs.Prelude.{◌≡◌, ◌<◌, ◌++◌, OnOk};
-ghost use Rattle.dm_views.specs.inventory.Rows.{row_of};
-ghost use Rattle.dm_views.specs.inventory.Pages.{truth_number, handle_row, handle_rows, window_record, window_rows};
+ghost use Rattle.dm_views.specs.inventory.Records.{record_list};
+ghost use Rattle.dm_views.specs.inventory.Pages.{truth_number, handle_record, handle_records, window_record, window_records};
 ghost use Rattle.dm_ems.specs.Readers.{page_shown};
 
 use dm_ems::Ems;
@@ -42,7 +42,7 @@ pub(crate) fn number_of(b: bool) -> u16
 
 /// Appends the record of a handle if it is in use, otherwise nothing.
 fn put_handle(out: &mut Vec<PageHandle>, ems: &Ems, number: u16) -> Result<(), AllocError>
-    ensures { OnOk result (out.new.items ≡ out.old.items ++ row_of (handle_row ems.now number)) }
+    ensures { OnOk result (out.new.items ≡ out.old.items ++ record_list (handle_record ems.now number)) }
 {
     let Some(slot) = ems.slot(number) else {
         return Ok(());
@@ -65,7 +65,7 @@ fn put_handle(out: &mut Vec<PageHandle>, ems: &Ems, number: u16) -> Result<(), A
 ///
 /// A failed allocation.
 pub fn list_handles(out: &mut Vec<PageHandle>, ems: &Ems) -> Result<(), AllocError>
-    ensures { OnOk result (out.new.items ≡ out.old.items ++ handle_rows ems.now) }
+    ensures { OnOk result (out.new.items ≡ out.old.items ++ handle_records ems.now) }
 {
     for number in 0..HANDLES {
         put_handle(out, ems, number)?;
@@ -94,7 +94,7 @@ fn window_of(ems: &Ems, space: &Space, window: usize) -> Window
 
 /// What the four windows show, in their order.
 pub fn list_windows(ems: &Ems, space: &Space) -> [Window; 4]
-    ensures { result ≡ window_rows ems.now space.now.memory }
+    ensures { result ≡ window_records ems.now space.now.memory }
 {
     [
         window_of(ems, space, 0),

@@ -24,5 +24,5 @@ returns c = on_ok_weaker c.put_arranged.result (λ e s before watch.
           overwritten_none (arranges b.cpu b.call) s.memory T _ c.args.out.now.items c.if-not-arranges.out.items (sym c.arranges.ensures ∙ w.if-not-arranges.false) (cc)
     ] in
     let away = at_watch (λ (S : Memory). mapped_away S T) old c.deref-2.result.now c.if-not-arranges.out.items c.put_all_mapped_away.new.out.items c.deref-2.ensures.value c.in_ok-put_all_mapped_away.ensures s.upper s.memory watch in
-    looks_by s c.args.machine.now b c.cpu-after.result T old c.args.new.now c.deref-3.result.now c.deref-4.result.now c.args.out.now.items c.if-not-arranges.out.items c.put_all_mapped_away.new.out.items c.put_turned.new.out.items c.put_freed_twice.new.out.items c.put_of_call.new.out.items c.put_arranged.new.out.items before watch c.requires.after c.cpu-after.ensures c.space-space.ensures c.deref-3.ensures.value over away c.in_ok-put_turned.ensures c.deref-4.ensures.value c.in_ok-put_freed_twice.ensures c.in_ok-put_of_call.ensures e
+    looks_by s c.args.machine.now b c.cpu-after.result T old c.args.new.now c.deref-3.result.now c.deref-4.result.now c.args.out.now.items c.if-not-arranges.out.items c.put_all_mapped_away.new.out.items c.put_turned.new.out.items c.put_freed_twice.new.out.items c.append_call_findings.new.out.items c.put_arranged.new.out.items before watch c.requires.after c.cpu-after.ensures c.space-space.ensures c.deref-3.ensures.value over away c.in_ok-put_turned.ensures c.deref-4.ensures.value c.in_ok-put_freed_twice.ensures c.in_ok-append_call_findings.ensures e
     ) c.put_arranged.ensures

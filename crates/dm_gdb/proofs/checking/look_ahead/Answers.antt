@@ -10,7 +10,7 @@ returns-in_default c =
     let s = c.args.machine.now in
     let goes = c.in_ok-why.ensures.first s most_checked c.in_ok-run.ensures.begins in
     IfOk-weaker c.told.result _ (λ ahead. LeadsAhead s ahead.steps ahead.text.items) (λ ahead h.
-    told_on s c.go_on.new.machine c.in_ok-run.run' c.go_on.new.self c.in_ok-why.field-0 ahead.steps ahead.text.items c.report.result.now c.in_default.is c.in_ok-run.ensures.empty c.in_ok-run.ensures.free goes c.report.ensures (h.0 ∙ c.saturating_sub-steps.ensures ∙ ap (λ (l : ℕ). most_checked - l) c.left.ensures) h.1) c.told.ensures
+    told_on s c.go_on.new.machine c.in_ok-run.run' c.go_on.new.self c.in_ok-why.field-0 ahead.steps ahead.text.items c.report.result.now c.in_default.is c.in_ok-run.ensures.empty c.in_ok-run.ensures.free goes c.report.ensures (h.0 ∙ c.saturating_sub-steps.ensures ∙ ap (λ (l : ℕ). most_checked - l) c.steps_remaining.ensures) h.1) c.told.ensures
 
 pub returns : goal.returns
 returns c =

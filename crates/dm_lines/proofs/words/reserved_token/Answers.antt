@@ -1,7 +1,7 @@
 use Rattle.std.proofs.Common.{◌∙◌, Some, ap, sym}
 use Rattle.std.specs.Prelude.{option_map}
 use Rattle.dm_lines.specs.inner.Words.{meaning_of}
-use Rattle.dm_lines.proofs.Rows.{reserved_is}
+use Rattle.dm_lines.proofs.ReservedPairs.{reserved_is}
 use Rattle.dm_lines.proofs.Reserved.{found_in_all}
 use Rattle.dm_lines.proofs.words.reserved_token.Goals as goal
 

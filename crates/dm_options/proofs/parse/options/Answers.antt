@@ -32,8 +32,8 @@ pub returns-in-Ok-found_options-clause-ok : goal.returns-in-Ok-found_options-cla
 returns-in-Ok-found_options-clause-ok g c =
     let words = map g.S.AsStr.text c.args.words.now in
     let made = c.in-Ok.ensures in
-    let rows = (c.in-Ok-try_get_matches_from.ensures.matches (ap is_simple made ∙ simple)).1 ∙ ap (λ (a : App). subcommand_of a words) made in
-    subst (λ (o : Option (Text × List Row)). IsSomeAnd o (λ given. HasOptions given c.in-Ok-found_options.options)) rows c.in-Ok-found_options.ensures
+    let arguments = (c.in-Ok-try_get_matches_from.ensures.matches (ap is_simple made ∙ simple)).1 ∙ ap (λ (a : App). subcommand_of a words) made in
+    subst (λ (o : Option (Text × List Row)). IsSomeAnd o (λ given. HasOptions given c.in-Ok-found_options.options)) arguments c.in-Ok-found_options.ensures
 
 pub returns-in-Ok-found_options-clause-no_fault : goal.returns-in-Ok-found_options-clause-no_fault
 returns-in-Ok-found_options-clause-no_fault g c =

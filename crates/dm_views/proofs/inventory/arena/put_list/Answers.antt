@@ -1,6 +1,6 @@
 use Rattle.std.proofs.Common.{◌++◌, ◌∷◌, [], ◌∙◌, ap}
 use Rattle.dm_views.specs.declared.inventory.arena.ArenaBlock.{ArenaBlock}
-use Rattle.dm_views.proofs.inventory.ArenaRows.{telling_none, telling_more, telling_nearer, telling_all, telling_destroyed}
+use Rattle.dm_views.proofs.inventory.ArenaRecords.{telling_none, telling_more, telling_nearer, telling_all, telling_destroyed}
 use Rattle.dm_views.proofs.inventory.arena.put_list.Goals as goal
 
 pub walk-init : goal.walk-init

@@ -1,4 +1,4 @@
-use Rattle.dm_views.proofs.inventory.ArenaRows.{Telling, ahead}
+use Rattle.dm_views.proofs.inventory.ArenaRecords.{Telling, ahead}
 use Rattle.dm_views.proofs.inventory.arena.put_list.Given as goal
 
 abbrev pub invariant-walk : goal.invariant-walk

@@ -1,5 +1,5 @@
 use Rattle.dm_target.proofs.Looking.{looks_as, performs_hits}
-use Rattle.dm_target.proofs.watching.perform.Goals as goal
+use Rattle.dm_target.proofs.watching.look_at_instruction.Goals as goal
 
 pub returns-clause-looks : goal.returns-clause-looks
 returns-clause-looks c =

@@ -2,7 +2,7 @@ use Rattle.std.proofs.Common.{◌∙◌, ap}
 use Rattle.dm_services.specs.state.State.{State}
 use Rattle.dm_target.specs.inner.Looking.{wants}
 use Rattle.dm_target.proofs.Looking.{looks_as, changed_hits}
-use Rattle.dm_target.proofs.watching.act.Goals as goal
+use Rattle.dm_target.proofs.watching.look_at_call.Goals as goal
 
 pub returns-in_default-clause-looks : goal.returns-in_default-clause-looks
 returns-in_default-clause-looks c = wants c.requires.there.0 c.requires.watched c.requires.there.1
