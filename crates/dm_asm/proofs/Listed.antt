@@ -176,7 +176,7 @@ own_fits a next operand.One h = omega arith
 own_fits a next (operand.Target d) h = omega arith
 own_fits a next (operand.FarTarget n s) h = (h.1, h.0)
 
-own_placed : Laws → (a : Action) (next : ℕ) (o : Operand) → written_for [] a.mnemonic next (own_term a next o) ≡ Some (read.written_of a next o)
+own_placed : Laws → (a : Action) (next : ℕ) (o : Operand) → written_for [] a.mnemonic next (own_term a next o) ≡ Some (read.shown_operand a next o)
 own_placed g a next o = rw (own_bare a next o) (g.own_terms a next 0 o)
 
 own_words : Laws → (i : Ins) (next : ℕ) → placed_words [] next (own_instruction i next) ≡ Some (words_of_action i.action next)
