@@ -22,7 +22,7 @@ HERE = os.path.dirname(os.path.abspath(__file__))
 sys.path.insert(0, HERE)
 sys.dont_write_bytecode = True
 import mezguld_frames  # noqa: E402
-from mezguld_frames import flush, is_there, linear_of, memory, monitor, quietly, stack  # noqa: E402
+from mezguld_frames import flush, is_there, linear_of, memory, monitor, quietly, stack, steps  # noqa: E402
 
 sys.path.remove(HERE)
 
@@ -172,13 +172,17 @@ def out():
     """dm out: goes on until the procedure or interrupt handler has returned."""
     entered = stack()
     for _ in range(MOST):
+        before = steps()
         name, behind = instruction()
         if name in GOES_OVER:
             go_past(behind)
         else:
             quietly("stepi")
-        if not is_there() or (name in RETURNS and entered < stack()):
+        # (The program cannot go on, as without input, if no step was made.)
+        if not is_there() or steps() == before or (name in RETURNS and entered < stack()):
             break
+    else:
+        print(f"not returned after {MOST:,} instructions: dm out goes on, and finish is faster")
     show()
 
 
