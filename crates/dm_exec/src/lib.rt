@@ -19,10 +19,7 @@ pub use control::change_flag;
 pub use dm_cpu::{Cpu, Flags, far_return, interrupt_return};
 pub use each::is_at_hand;
 pub use effect::{Next, exec, execute};
-pub use far::{
-    call_to_near_pointer, call_to_pointer, jump_to_pointer, load_far_low, load_far_shown,
-    transfer_low,
-};
+pub use far::{call_to_pointer, jump_to_pointer, load_far_low, load_far_shown, transfer_low};
 pub use jumps::{
     call_by, call_memory, call_register, is_taken, jump_memory, jump_register, return_near,
     target_after, target_by_count, transfer,

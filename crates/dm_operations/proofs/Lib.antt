@@ -9,4 +9,3 @@ mod Lowered
 mod Rights
 mod Remainders
 mod Passed
-mod Spots

@@ -10,14 +10,13 @@ mod numbers;
 mod pairs;
 pub mod products;
 pub mod shifts;
-mod shown;
 pub mod stack;
 
 pub use adjustments::adjust_accumulator;
 pub use arithmetic::ArithmeticOperation;
 pub use low::{
-    change_byte, change_low_word, change_shown_byte, change_shown_word, change_word, divide_by_low,
-    on_pair_at_once, on_place_at_once, shift_low_byte, shift_low_word,
+    change_byte, change_low_word, change_shown_word, change_word, divide_by_low, on_pair_at_once,
+    on_place_at_once, shift_low_byte, shift_low_word, shown_byte, shown_word,
 };
 pub use numbers::Number;
 pub use pairs::{
@@ -31,9 +30,7 @@ pub use shifts::{
     RightRotationThroughCarry, RightShift, ShiftOrRotate, shift_left_once, shift_low_byte_once,
     shift_low_word_once, shift_right_once,
 };
-pub use shown::{shown_byte, shown_bytes, shown_word};
 pub use stack::{
-    InterruptOperation, StackOperation, execute_interrupt, interrupt, interrupt_low,
-    interrupt_shown, pop_flags, pop_return_shown, pop_to, push_flags, push_register,
-    push_return_shown, return_low, return_shown,
+    InterruptOperation, StackOperation, execute_interrupt, interrupt, interrupt_low, pop_flags,
+    pop_to, push_flags, push_register, return_low,
 };
