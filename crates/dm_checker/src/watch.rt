@@ -209,6 +209,14 @@ fn are_same_windows(first: &[Option<Block>; 4], second: &[Option<Block>; 4]) -> 
 }
 
 impl Watch {
+    /// Finds out whether the segments of the machine's data and stack have marks. What is known of the arena stays.
+    pub(crate) fn look_at_home(&mut self, machine: &Machine)
+        ensures { self.new ≡ self.old }
+    {
+        let cpu = machine.cpu();
+        self.marks.look_at_home(cpu.ds, cpu.ss);
+    }
+
     /// Whether the machine's windows, all bytes that were read and whether upper memory belongs to the arena are still
     /// the same. Then its memory shows the same of the arena.
     pub(crate) fn is_seen(&self, machine: &Machine) -> bool

@@ -4,6 +4,7 @@ pub mod OneRun
 pub mod OneStop
 mod DecodeCaches
 mod Elements
+mod HomeKept
 mod Bundles
 mod Confined
 mod Kept

@@ -1,2 +1,3 @@
 -- Definitions that private contracts and proofs alone name.
 pub mod Touch
+pub mod Home
