@@ -32,9 +32,7 @@ pub use shifts::{
     RightRotationThroughCarry, RightShift, ShiftOrRotate, shift_left_once, shift_low_byte_once,
     shift_low_word_once, shift_right_once,
 };
-pub use shown::{
-    interrupt_shown, pop_return_shown, push_return_shown, return_shown, shown_bytes,
-};
+pub use shown::{interrupt_shown, pop_return_shown, push_return_shown, return_shown, shown_bytes};
 pub use shown_shifts::{shift_shown_byte, shift_shown_word};
 pub use stack::{
     InterruptOperation, StackOperation, execute_interrupt, interrupt, interrupt_low, pop_flags,
