@@ -9,3 +9,4 @@ mod Lowered
 mod Rights
 mod Remainders
 mod Passed
+mod Spots

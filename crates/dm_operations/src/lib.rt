@@ -10,6 +10,8 @@ mod numbers;
 mod pairs;
 pub mod products;
 pub mod shifts;
+mod shown;
+mod shown_shifts;
 pub mod stack;
 
 pub use adjustments::adjust_accumulator;
@@ -30,6 +32,8 @@ pub use shifts::{
     RightRotationThroughCarry, RightShift, ShiftOrRotate, shift_left_once, shift_low_byte_once,
     shift_low_word_once, shift_right_once,
 };
+pub use shown::{interrupt_shown, pop_return_shown, push_return_shown, return_shown, shown_bytes};
+pub use shown_shifts::{shift_shown_byte, shift_shown_word};
 pub use stack::{
     InterruptOperation, StackOperation, execute_interrupt, interrupt, interrupt_low, pop_flags,
     pop_to, push_flags, push_register, return_low,
