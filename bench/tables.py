@@ -27,6 +27,8 @@ OTHERS = {
     "first check": ("the same", "`dm check`", "{:,.0f}"),
     "changing run": ("a step of a loop of five instructions, of which one changes another in each turn", "`dm run`", "{:,.0f}"),
     "changing check": ("the same", "`dm check`", "{:,.0f}"),
+    "reaching run": ("a step of a loop of eleven instructions, six of which touch data and stack, in a block of 2 KiB: free memory lies within reach of DS and SS", "`dm run`", "{:,.0f}"),
+    "reaching check": ("the same", "`dm check`, which compares marks for each of the six", "{:,.0f}"),
     "writing check": ("function 02h of INT 21h (a byte written), with its INT", "`dm check`", "{:,.0f}"),
     "arranging check": ("functions 48h and 49h of INT 21h with ten headers, both with their INTs", "`dm check`, which makes its marks anew: each of some 240,000 bytes that are set counts", "{:,.0f}"),
     "memory": ("memory at the start", "a machine of 512 pages and 15,360 KiB against one of none", "{:.1f} a byte"),
