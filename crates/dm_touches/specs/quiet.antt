@@ -1,3 +1,4 @@
 pub mod Marks
 pub mod Touch
+pub mod Home
 pub mod inner

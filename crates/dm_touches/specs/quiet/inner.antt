@@ -1,3 +1,2 @@
 -- Definitions that private contracts and proofs alone name.
 pub mod Touch
-pub mod Home
