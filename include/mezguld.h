@@ -349,7 +349,7 @@ MEZGULD_CALL mezguld_status mezguld_run_until(mezguld *machine, uint64_t steps, 
                                               size_t points_count, mezguld_stopped *stopped);
 
 /* Makes at most so many steps, but none after the first that leads to one of these events: then the stop is EVENT,
- * and the index in the list, from 0, of the first event that came is written into `*place`, which stays otherwise.
+ * and the index in the list, from 0, of the first event that came is written into `*index`, which stays otherwise.
  * An event where the run begins does not stop it, so that the next run goes on; bytes are compared with those at its
  * beginning. An INT with a prefix before it, INT 3 (CCh), INTO and a jump to where a vector leads do not count as
  * calls: MEZGULD_AT_ADDRESS sees where they lead. Steps are as fast as with breakpoints, but for those that touch the
@@ -357,7 +357,7 @@ MEZGULD_CALL mezguld_status mezguld_run_until(mezguld *machine, uint64_t steps, 
  * looked at, and all bytes of the ranges are compared.
  * NO_MACHINE, BAD_EVENT, OUT_OF_MEMORY, NOT_LOADED. */
 MEZGULD_CALL mezguld_status mezguld_run_to(mezguld *machine, uint64_t steps, const mezguld_event *events,
-                                           size_t events_count, mezguld_stopped *stopped, size_t *place);
+                                           size_t events_count, mezguld_stopped *stopped, size_t *index);
 
 /* Writes how many steps were made so far into `*steps`; at 2^64 - 1 the count stays. NO_MACHINE, NOT_LOADED. */
 MEZGULD_CALL mezguld_status mezguld_steps(const mezguld *machine, uint64_t *steps);

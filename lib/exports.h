@@ -31,7 +31,7 @@ mezguld_status dm_c_run(mezguld *machine, uint64_t steps, mezguld_stopped *stopp
 mezguld_status dm_c_run_until(mezguld *machine, uint64_t steps, const mezguld_point *points, size_t points_count,
                               mezguld_stopped *stopped);
 mezguld_status dm_c_run_to(mezguld *machine, uint64_t steps, const mezguld_event *events, size_t events_count,
-                           mezguld_stopped *stopped, size_t *place);
+                           mezguld_stopped *stopped, size_t *index);
 mezguld_status dm_c_steps(mezguld *machine, uint64_t *steps);
 mezguld_status dm_c_registers(mezguld *machine, mezguld_cpu *registers);
 mezguld_status dm_c_set_registers(mezguld *machine, const mezguld_cpu *registers);

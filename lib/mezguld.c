@@ -154,7 +154,7 @@ mezguld_status mezguld_run_until(mezguld *machine, uint64_t steps, const mezguld
 }
 
 mezguld_status mezguld_run_to(mezguld *machine, uint64_t steps, const mezguld_event *events, size_t events_count,
-                              mezguld_stopped *stopped, size_t *place)
+                              mezguld_stopped *stopped, size_t *index)
 {
     mezguld_stopped unwanted;
     size_t nowhere;
@@ -163,7 +163,7 @@ mezguld_status mezguld_run_to(mezguld *machine, uint64_t steps, const mezguld_ev
     if (is_missing(events, events_count))
         return MEZGULD_NULL_POINTER;
     return dm_c_run_to(machine, steps, bytes_at(events), events_count, stopped == NULL ? &unwanted : stopped,
-                       place == NULL ? &nowhere : place);
+                       index == NULL ? &nowhere : index);
 }
 
 mezguld_status mezguld_steps(const mezguld *machine, uint64_t *steps)

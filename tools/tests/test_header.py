@@ -33,7 +33,7 @@ PLANTED = (
     (HEADER, "MEZGULD_AT_CALL = 3", "MEZGULD_AT_CALL = 5", "kinds of events"),
     (HEADER, "MEZGULD_EVENT = 8", "MEZGULD_EVENT = 9", "MEZGULD_EVENT"),
     (HEADER, "    uint8_t number, ah;", "    uint8_t ah, number;", "mezguld_event"),
-    (HEADER, "size_t events_count, mezguld_stopped *stopped, size_t *place", "size_t events_count, size_t *place, mezguld_stopped *stopped", "mezguld_run_to"),
+    (HEADER, "size_t events_count, mezguld_stopped *stopped, size_t *index", "size_t events_count, size_t *index, mezguld_stopped *stopped", "mezguld_run_to"),
     (HEADER, "MEZGULD_PAST_END = 28", "MEZGULD_PAST_END = 30", "MEZGULD_PAST_END"),
     (HEADER, "MEZGULD_FOUND_SHORT = 8,", "MEZGULD_FOUND_SHORT = 9,", "kinds of findings"),
     (HEADER, "MEZGULD_FAR_CALL = 3", "MEZGULD_FAR_CALL = 4", "kinds of acts"),

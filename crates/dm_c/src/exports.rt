@@ -141,7 +141,7 @@ pub extern "C" fn dm_c_run_until(
 }
 
 /// Makes at most `steps` steps, up to the first one that leads to one of the events, sets `stopped` to why the run
-/// stopped and, if an event came, `place` to its index in the list. Nothing changes unless the status is 0; it is 23 if
+/// stopped and, if an event came, `index` to its place in the list. Nothing changes unless the status is 0; it is 23 if
 /// the kind of an event is none.
 #[unsafe(no_mangle)]
 pub extern "C" fn dm_c_run_to(
@@ -150,11 +150,11 @@ pub extern "C" fn dm_c_run_to(
     steps: u64,
     events: &[Awaited],
     stopped: &mut Stopped,
-    place: &mut usize,
+    index: &mut usize,
 ) -> u32
-    ensures { IsCall machine.old.inside.value machine.new.inside.value ((result ≡ 1) × (stopped.new ≡ stopped.old) × (place.new ≡ place.old)) (λ h g. EventsTo h steps events.now stopped.old stopped.new place.old place.new result g) }
+    ensures { IsCall machine.old.inside.value machine.new.inside.value ((result ≡ 1) × (stopped.new ≡ stopped.old) × (index.new ≡ index.old)) (λ h g. EventsTo h steps events.now stopped.old stopped.new index.old index.new result g) }
 {
-    on_machine!(machine, alloc, host => calls::run_to(alloc, &mut host, steps, events, stopped, place))
+    on_machine!(machine, alloc, host => calls::run_to(alloc, &mut host, steps, events, stopped, index))
 }
 
 /// Sets `steps` to how many steps the machine has made so far; at 2^64 - 1 the count stays. `steps` stays unless the
