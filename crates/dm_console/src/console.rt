@@ -112,8 +112,8 @@ impl Console {
         self.room -= 1;
     }
 
-    /// Reserves a byte of room and appends a byte to the output, as [`Console::reserve`] and [`Console::put`] do, if that
-    /// takes no allocation; returns whether it has. Else nothing changes.
+    /// Reserves a byte of room and appends a byte to the output, as [`Console::reserve`] and [`Console::put`] do, if
+    /// that takes no allocation; returns whether it has. Else nothing changes.
     #[inline(always)]
     pub fn put_within_capacity(&mut self, byte: u8) -> bool
         ensures put { OnTrue result (self.new ≡ record self.old { output = self.old.output ++ byte ∷ []; room = max self.old.room 1 - 1 }) }

@@ -1,4 +1,5 @@
-//! Instructions in bytes and in text: which one some bytes begin with, and the text of each, with the names that it is made of.
+//! Instructions in bytes and in text: which one some bytes begin with, and the text of each, with the names that it is
+//! made of.
 //!
 //! Module `words` reads written words as an instruction, and `disassembly` makes the listing of a program's bytes.
 #![tactic(auto)]
