@@ -182,8 +182,7 @@ fn numbers_are_hexadecimal(rt: HostRuntime) -> Result<(), Fail> {
     check(&rt, rt.alloc(), NUMBERS)
 }
 
-/// Definitions: dm_requests commands.Numbers hexadecimal_number digits_of up_to word_from_digits logical_address
-/// parts_of
+/// Definitions: dm_requests commands.Numbers hexadecimal_number digits_of up_to word_from_digits logical_address parts_of
 #[test]
 fn addresses_are_two_words(rt: HostRuntime) -> Result<(), Fail> {
     check(&rt, rt.alloc(), ADDRESSES)
