@@ -267,6 +267,9 @@ pub(crate) fn look_at_step(
     }
 }
 
+/// The most steps that are passed before DS and SS are looked at again: the program may have set them.
+const BEFORE_A_LOOK: u64 = 0x1_0000;
+
 /// Makes at most `most` steps of instructions of which nothing is found, by the bytes that they touch, and that
 /// allocate and free nothing, and returns how many. `kept` is the arena before them, and after them.
 pub(crate) fn pass(machine: &mut Machine, kept: &Watch, most: u64) -> u64
@@ -282,5 +285,5 @@ pub(crate) fn pass(machine: &mut Machine, kept: &Watch, most: u64) -> u64
     }
     // Each page that a window shows is there.
     tables_and_memory_are_consistent(machine);
-    machine.run_unmarked(most, &kept.marks)
+    machine.run_unmarked(most.min(BEFORE_A_LOOK), &kept.marks)
 }

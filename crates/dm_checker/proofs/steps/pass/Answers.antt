@@ -1,4 +1,4 @@
-use Rattle.std.proofs.Common.{◌∙◌, sym}
+use Rattle.std.proofs.Common.{◌≤◌, ◌∙◌, sym, arith}
 use Rattle.dm_checker.specs.inner.Steps as steps
 use Rattle.dm_checker.proofs.Stepping.{passes, not_broken}
 use Rattle.dm_checker.proofs.steps.pass.Goals as goal
@@ -9,4 +9,5 @@ returns-then-is_some-clause-passes c = steps.here
 pub returns : goal.returns
 returns c =
     let x = passes c.args.machine.now c.run_unmarked.new.self c.args.kept.now c.run_unmarked.result (not_broken c.args.kept.now.broken (sym c.is_some.ensures ∙ c.if-is_some.false)) c.requires.watch c.tables_and_memory_are_consistent.ensures c.run_unmarked.ensures.goes in
-    record { passes = x.passes; most = c.run_unmarked.ensures.most; watch = x.watch; program = c.run_unmarked.ensures.loaded }
+    let few : c.run_unmarked.result ≤ c.args.most = omega (arith, c.run_unmarked.ensures.most, c.min.ensures) in
+    record { passes = x.passes; most = few; watch = x.watch; program = c.run_unmarked.ensures.loaded }
