@@ -18,18 +18,22 @@ nine_back x (suc (suc (suc (suc (suc (suc (suc (suc zero)))))))) h l = omega ari
 nine_back x k h l = omega arith
 
 word_back : (x k : ℕ) → x < 65536 → k < 16 → x * 65537 / 2 ^ k % 65536 ≡ rotated 65536 x (16 - k) % 65536
-word_back x (suc (suc (suc (suc (suc (suc (suc (suc (suc (suc (suc (suc (suc (suc (suc zero))))))))))))))) h l = omega arith
+word_back x (suc (suc (suc (suc (suc (suc (suc (suc (suc (suc (suc (suc (suc (suc (suc zero))))))))))))))) h l =
+    omega arith
 word_back x k h l = omega arith
 
 seventeen_back : (x k : ℕ) → x < 131072 → k < 17 → x * 131073 / 2 ^ k % 131072 ≡ rotated 131072 x (17 - k) % 131072
-seventeen_back x (suc (suc (suc (suc (suc (suc (suc (suc (suc (suc (suc (suc (suc (suc (suc (suc zero)))))))))))))))) h l = omega arith
+seventeen_back x (suc (suc (suc (suc (suc (suc (suc (suc (suc (suc (suc (suc (suc (suc (suc (suc zero)))))))))))))))) h
+    l = omega arith
 seventeen_back x k h l = omega arith
 
-pub turned_back : (w : Width) (x k : ℕ) → x < size w → k < bits_of w → x * (size w + 1) / 2 ^ k % size w ≡ rotated (size w) x (bits_of w - k) % size w
+pub turned_back : (w : Width) (x k : ℕ) → x < size w → k < bits_of w → x * (size w + 1) / 2 ^ k % size w
+    ≡ rotated (size w) x (bits_of w - k) % size w
 turned_back Byte x k h l = byte_back x k h l
 turned_back Word x k h l = word_back x k h l
 
-pub through_back : (w : Width) (x k : ℕ) → x < 2 * size w → k < bits_of w + 1 → x * (2 * size w + 1) / 2 ^ k % (2 * size w) ≡ rotated (2 * size w) x (bits_of w + 1 - k) % (2 * size w)
+pub through_back : (w : Width) (x k : ℕ) → x < 2 * size w → k < bits_of w + 1 →
+    x * (2 * size w + 1) / 2 ^ k % (2 * size w) ≡ rotated (2 * size w) x (bits_of w + 1 - k) % (2 * size w)
 through_back Byte x k h l = nine_back x k h l
 through_back Word x k h l = seventeen_back x k h l
 
@@ -50,20 +54,24 @@ within Word y = omega arith
 
 -- a value of 8 bits extended by its sign and moved
 pub byte_sign : (t k : ℕ) → t < 256 → k ≤ 16 → (4294967295 - t) / 2 ^ k % 256 ≡ 255 - t / 2 ^ k
-byte_sign t (suc (suc (suc (suc (suc (suc (suc (suc (suc (suc (suc (suc (suc (suc (suc (suc zero)))))))))))))))) h l = omega arith
+byte_sign t (suc (suc (suc (suc (suc (suc (suc (suc (suc (suc (suc (suc (suc (suc (suc (suc zero)))))))))))))))) h l =
+    omega arith
 byte_sign t k h l = omega arith
 
 pub byte_last : (t k : ℕ) → t < 256 → k ≤ 16 → (4294967295 - t) / 2 ^ k % 2 ≡ 1 - t / 2 ^ k % 2
-byte_last t (suc (suc (suc (suc (suc (suc (suc (suc (suc (suc (suc (suc (suc (suc (suc (suc zero)))))))))))))))) h l = omega arith
+byte_last t (suc (suc (suc (suc (suc (suc (suc (suc (suc (suc (suc (suc (suc (suc (suc (suc zero)))))))))))))))) h l =
+    omega arith
 byte_last t k h l = omega arith
 
 -- a value of 16 bits extended by its sign and moved
 pub word_sign : (t k : ℕ) → t < 65536 → k ≤ 16 → (4294967295 - t) / 2 ^ k % 65536 ≡ 65535 - t / 2 ^ k
-word_sign t (suc (suc (suc (suc (suc (suc (suc (suc (suc (suc (suc (suc (suc (suc (suc (suc zero)))))))))))))))) h l = omega arith
+word_sign t (suc (suc (suc (suc (suc (suc (suc (suc (suc (suc (suc (suc (suc (suc (suc (suc zero)))))))))))))))) h l =
+    omega arith
 word_sign t k h l = omega arith
 
 pub word_last : (t k : ℕ) → t < 65536 → k ≤ 16 → (4294967295 - t) / 2 ^ k % 2 ≡ 1 - t / 2 ^ k % 2
-word_last t (suc (suc (suc (suc (suc (suc (suc (suc (suc (suc (suc (suc (suc (suc (suc (suc zero)))))))))))))))) h l = omega arith
+word_last t (suc (suc (suc (suc (suc (suc (suc (suc (suc (suc (suc (suc (suc (suc (suc (suc zero)))))))))))))))) h l =
+    omega arith
 word_last t k h l = omega arith
 
 pub mod_bits : (w : Width) (k : ℕ) → k % bits_of w < bits_of w
@@ -75,7 +83,8 @@ mod_turn Byte k = omega arith
 mod_turn Word k = omega arith
 
 -- where fewer bits go round than there are, the number stays within its size
-pub through_below : (w : Width) (x k : ℕ) → x < 2 * size w → k ≤ bits_of w + 1 → rotated (2 * size w) x k % (2 * size w) ≡ rotated (2 * size w) x k
+pub through_below : (w : Width) (x k : ℕ) → x < 2 * size w → k ≤ bits_of w + 1 → rotated (2 * size w) x k % (2 * size w)
+    ≡ rotated (2 * size w) x k
 through_below Byte x k h l = let b = nine_below x k h l in omega arith
 through_below Word x k h l = let b = seventeen_below x k h l in omega arith
 

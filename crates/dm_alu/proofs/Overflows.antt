@@ -10,7 +10,8 @@ use Rattle.dm_alu.proofs.Bits.{bit_le}
 
 -- the sum: p and q are the signs of the values, r is that of the result
 pub sum-signs : (w : Width) (a b v : ℕ) (c p q r : Bool) → a < size w → b < size w → v ≡ sum_value w a b c →
-    p ≡ is_negative w a → q ≡ is_negative w b → r ≡ is_negative w v → (if p then (q && not r) else (not q && r)) ≡ sum_overflows w a b c
+    p ≡ is_negative w a → q ≡ is_negative w b → r ≡ is_negative w v → (if p then (q && not r) else (not q && r))
+    ≡ sum_overflows w a b c
 unfolding sum_overflows leaves_range signed sum_value
 sum-signs w a b v c true true true h k e f g l = grind (arith, ints, bit_le)
 sum-signs w a b v c true true false h k e f g l = grind (arith, ints, bit_le)
@@ -20,8 +21,10 @@ sum-signs w a b v c false false true h k e f g l = grind (arith, ints, bit_le)
 sum-signs w a b v c false false false h k e f g l = grind (arith, ints, bit_le)
 
 -- the difference
-pub difference-signs : (w : Width) (a b v : ℕ) (c p q r : Bool) → a < size w → b < size w → v ≡ difference_value w a b c →
-    p ≡ is_negative w a → q ≡ is_negative w b → r ≡ is_negative w v → (if p then (not q && not r) else (q && r)) ≡ difference_overflows w a b c
+pub difference-signs : (w : Width) (a b v : ℕ) (c p q r : Bool) → a < size w → b < size w →
+    v ≡ difference_value w a b c →
+    p ≡ is_negative w a → q ≡ is_negative w b → r ≡ is_negative w v → (if p then (not q && not r) else (q && r))
+    ≡ difference_overflows w a b c
 unfolding difference_overflows leaves_range signed difference_value
 difference-signs w a b v c true false true h k e f g l = grind (arith, ints, bit_le)
 difference-signs w a b v c true false false h k e f g l = grind (arith, ints, bit_le)

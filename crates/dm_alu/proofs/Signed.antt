@@ -63,7 +63,8 @@ high_by t count false e h =
 same_high : (t count : ℕ) → t < 65536 → t / 2 ^ min count 16 ≡ t / 2 ^ min count 17
 same_high t count h = high_by t count _ refl h
 
-last_by : (t count : ℕ) (b : Bool) → b ≡ nat_le count 16 → t < 32768 → t / 2 ^ (min count 16 - 1) ≡ t / 2 ^ (min count 17 - 1)
+last_by : (t count : ℕ) (b : Bool) → b ≡ nat_le count 16 → t < 32768 → t / 2 ^ (min count 16 - 1)
+    ≡ t / 2 ^ (min count 17 - 1)
 last_by t count true e h =
     let same : min count 16 - 1 ≡ min count 17 - 1 = grind (arith, nat_tests) in
     ap (λ j. t / 2 ^ j) same
@@ -80,7 +81,8 @@ same_last t count h = last_by t count _ refl h
 
 -- SHR
 pub right_by : (w : Width) (m : Shifted) (count : ℕ) → m.value < size w → 0 < count →
-    record { value = m.value / 2 ^ min count 17; carry = nat_eq (m.value / 2 ^ (min count 17 - 1) % 2) 1 } ≡ moves LogicalRight w count m
+    record { value = m.value / 2 ^ min count 17; carry = nat_eq (m.value / 2 ^ (min count 17 - 1) % 2) 1 }
+    ≡ moves LogicalRight w count m
 right_by w m count h s =
     let few = bit_le m.carry in
     let x = with_carry_below m in
@@ -94,7 +96,8 @@ right_by w m count h s =
 abbrev seen : Width → ℕ → ℕ → Shifted
 seen w x k = record { value = x / 2 ^ k % size w; carry = nat_eq (x / 2 ^ (k - 1) % 2) 1 }
 
-byte_negative : (m : Shifted) (count : ℕ) → 0 < count → m.value < 256 → 128 ≤ m.value → seen Byte (4294967040 + m.value) (min count 16) ≡ moves ArithmeticRight Byte count m
+byte_negative : (m : Shifted) (count : ℕ) → 0 < count → m.value < 256 → 128 ≤ m.value →
+    seen Byte (4294967040 + m.value) (min count 16) ≡ moves ArithmeticRight Byte count m
 byte_negative m count s h g =
     let few = bit_le m.carry in
     let k = min count 16 in
@@ -104,14 +107,17 @@ byte_negative m count s h g =
     let whole : x ≡ 2 * t + (1 - from_bool m.carry) = omega arith in
     let one : 1 - from_bool m.carry < 2 = omega arith in
     let top : (4294967040 + m.value) / 2 ^ k % 256 ≡ 255 - x / 2 ^ min count 17 / 2 =
-    ap (λ n. n / 2 ^ k % 256) e ∙ byte_sign t k (omega arith) (few_of count) ∙ ap (λ n. 255 - n) (same_high t count (omega arith) ∙ sym (halved x t _ (min count 17) whole one)) in
+    ap (λ n. n / 2 ^ k % 256) e ∙ byte_sign t k (omega arith) (few_of count)
+    ∙ ap (λ n. 255 - n) (same_high t count (omega arith) ∙ sym (halved x t _ (min count 17) whole one)) in
     let out : nat_eq ((4294967040 + m.value) / 2 ^ (k - 1) % 2) 1 ≡ nat_eq (x / 2 ^ min count 17 % 2) 0 =
     ap (λ n. nat_eq (n / 2 ^ (k - 1) % 2) 1) e
     ∙ odd_or_even _ (t / 2 ^ (k - 1) % 2) (omega arith) (byte_last t (k - 1) (omega arith) (fewer_of count))
-    ∙ ap (λ n. nat_eq (n % 2) 0) (same_last t count (omega arith) ∙ sym (last_out x t _ (min count 17) whole one (some_of count s))) in
+    ∙ ap (λ n. nat_eq (n % 2) 0) (same_last t count (omega arith)
+    ∙ sym (last_out x t _ (min count 17) whole one (some_of count s))) in
     same _ _ top out ∙ moved_right_negative Byte m count g h
 
-word_negative : (m : Shifted) (count : ℕ) → 0 < count → m.value < 65536 → 32768 ≤ m.value → seen Word (4294901760 + m.value) (min count 16) ≡ moves ArithmeticRight Word count m
+word_negative : (m : Shifted) (count : ℕ) → 0 < count → m.value < 65536 → 32768 ≤ m.value →
+    seen Word (4294901760 + m.value) (min count 16) ≡ moves ArithmeticRight Word count m
 word_negative m count s h g =
     let few = bit_le m.carry in
     let k = min count 16 in
@@ -121,11 +127,13 @@ word_negative m count s h g =
     let whole : x ≡ 2 * t + (1 - from_bool m.carry) = omega arith in
     let one : 1 - from_bool m.carry < 2 = omega arith in
     let top : (4294901760 + m.value) / 2 ^ k % 65536 ≡ 65535 - x / 2 ^ min count 17 / 2 =
-    ap (λ n. n / 2 ^ k % 65536) e ∙ word_sign t k (omega arith) (few_of count) ∙ ap (λ n. 65535 - n) (same_high t count (omega arith) ∙ sym (halved x t _ (min count 17) whole one)) in
+    ap (λ n. n / 2 ^ k % 65536) e ∙ word_sign t k (omega arith) (few_of count)
+    ∙ ap (λ n. 65535 - n) (same_high t count (omega arith) ∙ sym (halved x t _ (min count 17) whole one)) in
     let out : nat_eq ((4294901760 + m.value) / 2 ^ (k - 1) % 2) 1 ≡ nat_eq (x / 2 ^ min count 17 % 2) 0 =
     ap (λ n. nat_eq (n / 2 ^ (k - 1) % 2) 1) e
     ∙ odd_or_even _ (t / 2 ^ (k - 1) % 2) (omega arith) (word_last t (k - 1) (omega arith) (fewer_of count))
-    ∙ ap (λ n. nat_eq (n % 2) 0) (same_last t count (omega arith) ∙ sym (last_out x t _ (min count 17) whole one (some_of count s))) in
+    ∙ ap (λ n. nat_eq (n % 2) 0) (same_last t count (omega arith)
+    ∙ sym (last_out x t _ (min count 17) whole one (some_of count s))) in
     same _ _ top out ∙ moved_right_negative Word m count g h
 
 fits : (w : Width) (n : ℕ) → n < size w → n < 65536
@@ -136,7 +144,8 @@ fits_half : (w : Width) (n : ℕ) → n < half w → n < 32768
 fits_half Byte n h = omega arith
 fits_half Word n h = omega arith
 
-positive : (w : Width) (m : Shifted) (count : ℕ) → 0 < count → m.value < half w → m.value < size w → seen w (0 + m.value) (min count 16) ≡ moves ArithmeticRight w count m
+positive : (w : Width) (m : Shifted) (count : ℕ) → 0 < count → m.value < half w → m.value < size w →
+    seen w (0 + m.value) (min count 16) ≡ moves ArithmeticRight w count m
 positive w m count s l h =
     let few = bit_le m.carry in
     let k = min count 16 in
@@ -146,8 +155,10 @@ positive w m count s l h =
     let e : 0 + m.value ≡ m.value = omega arith in
     let down = shr_le m.value k in
     let inside : m.value / 2 ^ k % size w ≡ m.value / 2 ^ k = below w _ (omega arith) in
-    same _ _ (ap (λ n. n / 2 ^ k % size w) e ∙ inside ∙ same_high m.value count (fits w m.value h) ∙ sym (halved x m.value _ (min count 17) whole one))
-    (ap (λ n. nat_eq (n / 2 ^ (k - 1) % 2) 1) e ∙ ap (λ n. nat_eq (n % 2) 1) (same_last m.value count (fits_half w m.value l) ∙ sym (last_out x m.value _ (min count 17) whole one (some_of count s))))
+    same _ _ (ap (λ n. n / 2 ^ k % size w) e ∙ inside ∙ same_high m.value count (fits w m.value h)
+    ∙ sym (halved x m.value _ (min count 17) whole one))
+    (ap (λ n. nat_eq (n / 2 ^ (k - 1) % 2) 1) e ∙ ap (λ n. nat_eq (n % 2) 1) (same_last m.value count
+    (fits_half w m.value l) ∙ sym (last_out x m.value _ (min count 17) whole one (some_of count s))))
     ∙ moved_right_positive w m count l
 
 by_sign : (w : Width) (m : Shifted) (count : ℕ) (b : Bool) → b ≡ is_negative w m.value → 0 < count → m.value < size w →
@@ -157,5 +168,6 @@ by_sign Word m count true e s h = word_negative m count s h (grind (arith, nat_t
 by_sign Byte m count false e s h = positive Byte m count s (grind (arith, nat_tests)) h
 by_sign Word m count false e s h = positive Word m count s (grind (arith, nat_tests)) h
 
-pub right_by_sign : (w : Width) (m : Shifted) (count : ℕ) → m.value < size w → 0 < count → seen w (with_sign_above w m.value) (min count 16) ≡ moves ArithmeticRight w count m
+pub right_by_sign : (w : Width) (m : Shifted) (count : ℕ) → m.value < size w → 0 < count →
+    seen w (with_sign_above w m.value) (min count 16) ≡ moves ArithmeticRight w count m
 right_by_sign w m count h s = by_sign w m count _ refl s h

@@ -22,13 +22,16 @@ fills_above h t [] f g w = absurd w
 fills_above h t (b ∷ L) f g (inl e) = let x = f.0 in omega arith
 fills_above h t (b ∷ L) f g (inr w) = let x = f.0 in let y = fills_above (next b) t L f.1 g w in omega arith
 
-pub fills_right : (h t : ℕ) (P : List Header) (b : Header) (Q : List Header) → Fills h (P ++ b ∷ Q) t → Fills (next b) Q t
+pub fills_right : (h t : ℕ) (P : List Header) (b : Header) (Q : List Header) → Fills h (P ++ b ∷ Q) t →
+    Fills (next b) Q t
 fills_right h t [] b Q f = f.1
 fills_right h t (p ∷ P) b Q f = fills_right (next p) t P b Q f.1
 
-pub fills_left : (h t : ℕ) (P : List Header) (b : Header) (Q : List Header) → Fills h (P ++ b ∷ Q) t → (g : ℕ) → HasHeader P g → g < b.segment
+pub fills_left : (h t : ℕ) (P : List Header) (b : Header) (Q : List Header) → Fills h (P ++ b ∷ Q) t → (g : ℕ) →
+    HasHeader P g → g < b.segment
 fills_left h t [] b Q f g w = absurd w
-fills_left h t (p ∷ P) b Q f g (inl e) = (let y = fills_above (next p) t (P ++ b ∷ Q) f.1 b.segment (has_right P (b ∷ Q) _ (inl refl)) in omega arith)
+fills_left h t (p ∷ P) b Q f g (inl e) = (let y = fills_above (next p) t (P ++ b ∷ Q) f.1 b.segment (has_right P (b
+    ∷ Q) _ (inl refl)) in omega arith)
 fills_left h t (p ∷ P) b Q f g (inr w) = fills_left (next p) t P b Q f.1 g w
 
 pub fills_ends : (h t : ℕ) (C : List Header) → Fills h C t → h ≤ t
@@ -41,7 +44,8 @@ fills_below h t (c ∷ C) f g (inl e) = let y = fills_ends (next c) t C f.1 in o
 fills_below h t (c ∷ C) f g (inr w) = fills_below (next c) t C f.1 g w
 
 -- a block is as long as what stands in its place
-pub fills_replaced : (h t : ℕ) (P : List Header) (b : Header) (C Q : List Header) → Fills h (P ++ b ∷ Q) t → Fills b.segment C (next b) → Fills h (P ++ (C ++ Q)) t
+pub fills_replaced : (h t : ℕ) (P : List Header) (b : Header) (C Q : List Header) → Fills h (P ++ b ∷ Q) t →
+    Fills b.segment C (next b) → Fills h (P ++ (C ++ Q)) t
 fills_replaced h t [] b C Q f c = start h C f.0 c
   where
     on : (h : ℕ) (C : List Header) → Fills h C (next b) → Fills h (C ++ Q) t
@@ -59,7 +63,8 @@ head-same b c L M e = cc
 tail-same : (b c : Header) (L M : List Header) → b ∷ L ≡ c ∷ M → L ≡ M
 tail-same b c L M e = cc
 
-pub split_unique : (h t : ℕ) (P : List Header) (b : Header) (Q P' : List Header) (b' : Header) (Q' : List Header) → Fills h (P ++ b ∷ Q) t → P ++ b ∷ Q ≡ P' ++ b' ∷ Q' → b.segment ≡ b'.segment → (P ≡ P') × (b ≡ b') × (Q ≡ Q')
+pub split_unique : (h t : ℕ) (P : List Header) (b : Header) (Q P' : List Header) (b' : Header) (Q' : List Header) →
+    Fills h (P ++ b ∷ Q) t → P ++ b ∷ Q ≡ P' ++ b' ∷ Q' → b.segment ≡ b'.segment → (P ≡ P') × (b ≡ b') × (Q ≡ Q')
 split_unique h t [] b Q [] b' Q' f e s = (refl, head-same _ _ _ _ e, tail-same _ _ _ _ e)
 split_unique h t [] b Q (p' ∷ P') b' Q' f e s =
     let F : List Header → Type 0 = λ X. HasHeader X b'.segment in
@@ -77,17 +82,24 @@ split_unique h t (p ∷ P) b Q (p' ∷ P') b' Q' f e s =
     (ap₂ (λ x y. x ∷ y) (head-same _ _ _ _ e) r.0, r.1, r.2)
 
 module _ (up : Bool) where
-  pub join_after-cond : (b c : Header) (L : List Header) (r : Bool) → is_free up b && is_free up c ≡ r → join_after up b (c ∷ L) ≡ cond r (join_after up (merge b c) L) (b ∷ join_after up c L)
+  pub join_after-cond : (b c : Header) (L : List Header) (r : Bool) → is_free up b && is_free up c ≡ r →
+      join_after up b (c ∷ L) ≡ cond r (join_after up (merge b c) L) (b ∷ join_after up c L)
   join_after-cond b c L r e = rw e refl
 
-  join_after-end_to_end : (b : Header) (L : List Header) (t : ℕ) → Fills (next b) L t → Fills b.segment (join_after up b L) t
+  join_after-end_to_end : (b : Header) (L : List Header) (t : ℕ) → Fills (next b) L t →
+      Fills b.segment (join_after up b L) t
   join_after-end_to_end b [] t f = (refl, f)
   join_after-end_to_end b (c ∷ L) t f =
       let F : List Header → Type 0 = λ X. Fills b.segment X t in
       let at : next c ≡ next (merge b c) = (let x = f.0 in omega arith) in
       elim (bool_cases (is_free up b && is_free up c)) [
-        | inl e ↦ subst F (sym (join_after-cond b c L true e)) (join_after-end_to_end (merge b c) L t (let G : ℕ → Type 0 = λ z. Fills z L t in subst G at f.1))
-        | inr e ↦ subst F (sym (join_after-cond b c L false e)) (refl, (let G : ℕ → Type 0 = λ z. Fills z (join_after up c L) t in subst G f.0 (join_after-end_to_end c L t f.1)))
+        | inl e ↦ subst F (sym (join_after-cond b c L true e)) (join_after-end_to_end (merge b c) L t (let G : ℕ →
+            Type 0 = λ z. Fills z L t in subst G at f.1))
+        | inr e ↦ subst F (sym (join_after-cond b c L false e)) (
+          refl,
+          (let G : ℕ → Type 0 =
+              λ z. Fills z (join_after up c L) t in subst G f.0 (join_after-end_to_end c L t f.1)),
+        )
       ]
 
   pub join_fills : (S : Memory) (h : ℕ) (L : List Header) → Spells S h L → (t : ℕ) × (g : ℕ) × Fills g (join up L) t

@@ -34,7 +34,8 @@ absorb-owner : (b : Header) (R : List Header) → (absorb b R).owner ≡ b.owner
 absorb-owner b [] = refl
 absorb-owner b (c ∷ R) = absorb-owner (merge b c) R
 
-absorb-fills : (S : Memory) (b : Header) (R Q : List Header) → Spells S (next b) (R ++ Q) → Fills (next b) R (next (absorb b R))
+absorb-fills : (S : Memory) (b : Header) (R Q : List Header) → Spells S (next b) (R ++ Q) →
+    Fills (next b) R (next (absorb b R))
 absorb-fills S b [] Q s = refl
 absorb-fills S b (c ∷ R) Q s =
     let e : next c ≡ next (merge b c) = (let x = s.0 in omega arith) in
@@ -50,10 +51,17 @@ module _ (up : Bool) where
   free-push [] c a f = (f, tt)
   free-push (d ∷ R) c a f = (a.0, free-push R c a.1 f)
 
-  pub grown_start : (S : Memory) (e : ListedHeader) (K : List Header) → IsGrowable S e K → (R : List Header) × (Q : List Header) × IsGrown up S e K e R Q
+  pub grown_start : (S : Memory) (e : ListedHeader) (K : List Header) → IsGrowable S e K → (R : List Header) ×
+      (Q : List Header) × IsGrown up S e K e R Q
   grown_start S e K g = ([], K, record { is = refl; free = tt; header = refl; last = g.last; rest = g.rest })
 
-  pub grown_more : (S : Memory) (e : ListedHeader) (K : List Header) (g a : ListedHeader) (R Q : List Header) → IsGrown up S e K g R Q → g.last ≡ false → is_free up a.header ≡ true → a.header.segment ≡ next g.header → (t : ℕ) → t ≡ next g.header → ((M : List Header) → IsSpelledFrom S t M → (N : List Header) × IsFront S M a N) → (R' : List Header) × (Q' : List Header) × IsGrown up S e K (record { header = merge g.header a.header; last = a.last }) R' Q'
+  pub grown_more : (S : Memory) (e : ListedHeader) (K : List Header) (g a : ListedHeader) (R Q : List Header) →
+      IsGrown up S e K g R Q → g.last ≡ false → is_free up a.header ≡ true → a.header.segment ≡ next g.header →
+      (t : ℕ) → t ≡ next g.header → ((M : List Header) → IsSpelledFrom S t M → (N : List Header) × IsFront S M a N) →
+      (R' : List Header) × (Q' : List Header) × IsGrown up S e K (record {
+        header = merge g.header a.header;
+        last = a.last;
+      }) R' Q'
   grown_more S e K g a R [] x l f there t ist front = absurd (let y : false ≡ true = sym l ∙ x.last in cc)
   grown_more S e K g a R (c ∷ Q) x l f there t ist front =
       let r = front (c ∷ Q) (record { nonempty = tt; spells = spells_at S _ _ (c ∷ Q) (sym ist) x.rest }) in
@@ -69,11 +77,14 @@ module _ (up : Bool) where
         },
       )
 
-  pub grown_last : (S : Memory) (e : ListedHeader) (K : List Header) (g : ListedHeader) (R Q : List Header) → IsGrown up S e K g R Q → g.last ≡ true → BeginsTaken up Q
+  pub grown_last : (S : Memory) (e : ListedHeader) (K : List Header) (g : ListedHeader) (R Q : List Header) →
+      IsGrown up S e K g R Q → g.last ≡ true → BeginsTaken up Q
   grown_last S e K g R [] x l = tt
   grown_last S e K g R (c ∷ Q) x l = absurd (let y : true ≡ false = sym l ∙ x.last in cc)
 
-  pub grown_before_taken : (S : Memory) (e : ListedHeader) (K : List Header) (g a : ListedHeader) (R Q : List Header) → IsGrown up S e K g R Q → is_free up a.header ≡ false → (t : ℕ) → t ≡ next g.header → ((M : List Header) → IsSpelledFrom S t M → (N : List Header) × IsFront S M a N) → BeginsTaken up Q
+  pub grown_before_taken : (S : Memory) (e : ListedHeader) (K : List Header) (g a : ListedHeader) (R Q : List Header) →
+      IsGrown up S e K g R Q → is_free up a.header ≡ false → (t : ℕ) → t ≡ next g.header →
+      ((M : List Header) → IsSpelledFrom S t M → (N : List Header) × IsFront S M a N) → BeginsTaken up Q
   grown_before_taken S e K g a R [] x f t ist front = tt
   grown_before_taken S e K g a R (c ∷ Q) x f t ist front =
       let r = front (c ∷ Q) (record { nonempty = tt; spells = spells_at S _ _ (c ∷ Q) (sym ist) x.rest }) in
@@ -81,17 +92,39 @@ module _ (up : Bool) where
       let z : c ≡ a.header = (let w = y.is in cc) in
       rw z f
 
-  pub grown_next : (S : Memory) (e : ListedHeader) (K : List Header) (g : ListedHeader) (R Q : List Header) → IsGrown up S e K g R Q → g.last ≡ false → (t : ℕ) → t ≡ next g.header → (M : List Header) × IsSpelledFrom S t M
+  pub grown_next : (S : Memory) (e : ListedHeader) (K : List Header) (g : ListedHeader) (R Q : List Header) →
+      IsGrown up S e K g R Q → g.last ≡ false → (t : ℕ) → t ≡ next g.header → (M : List Header) × IsSpelledFrom S t M
   grown_next S e K g R [] x l t ist = absurd (let y : false ≡ true = sym l ∙ x.last in cc)
-  grown_next S e K g R (c ∷ Q) x l t ist = (c ∷ Q, record { nonempty = tt; spells = spells_at S _ _ (c ∷ Q) (sym ist) x.rest })
+  grown_next S e K g R (c ∷ Q) x l t ist = (
+    c ∷ Q,
+    record {
+      nonempty = tt;
+      spells = spells_at S _ _ (c
+          ∷ Q) (sym ist) x.rest;
+    },
+  )
 
   -- the arena L, the block of e in it, and g, which is the block with its run
-  module _ (S : Memory) (start : ℕ) (L : List Header) (segment n : ℕ) (e g : ListedHeader) (P K R Q : List Header) (a : IsArena S start L) (f : IsFoundAt S L segment e P K) (x : IsGrown up S e K g R Q) (stops : BeginsTaken up Q) (other : is_link_block up segment ≡ false) where
+  module _ (S : Memory) (start : ℕ) (L : List Header) (segment n : ℕ) (e g : ListedHeader) (P K R Q : List Header)
+      (a : IsArena S start L) (f : IsFoundAt S L segment e P K) (x : IsGrown up S e K g R Q) (stops : BeginsTaken up Q)
+      (other : is_link_block up segment ≡ false) where
     pub is : L ≡ P ++ e.header ∷ (R ++ Q)
     is = f.is ∙ ap (λ X. P ++ e.header ∷ X) x.is
 
     abbrev pub run_at : BlockRunAt up S start segment
-    run_at = record { list = L; before = P; block = e.header; run = R; after = Q; arena = a; is = is; at = f.at; other = other; free = x.free; stops = stops }
+    run_at = record {
+      list = L;
+      before = P;
+      block = e.header;
+      run = R;
+      after = Q;
+      arena = a;
+      is = is;
+      at = f.at;
+      other = other;
+      free = x.free;
+      stops = stops;
+    }
 
     pub size_is : g.header.size ≡ (absorb e.header R).size
     size_is = ap (λ z. z.size) x.header
@@ -150,45 +183,59 @@ module _ (up : Bool) where
       ];
     }
 
-    module _ (within : n ≤ g.header.size) (c : Cut) (cut_is : cut_list c ≡ cut_block First n g.header.owner g.header) where
-      list_is : cut_list c ≡ cut_low n e.header.owner (absorb e.header R)
-      list_is = cut_is ∙ ap₂ (λ o z. cut_low n o z) (ap (λ z. z.owner) x.header ∙ absorb-owner e.header R) x.header
+    module _ (within : n ≤ g.header.size) (c : Cut) (cut_is : cut_list c ≡ cut_block First n g.header.owner g.header)
+      where
+        list_is : cut_list c ≡ cut_low n e.header.owner (absorb e.header R)
+        list_is = cut_is ∙ ap₂ (λ o z. cut_low n o z) (ap (λ z. z.owner) x.header ∙ absorb-owner e.header R) x.header
 
-      fills : Fills e.header.segment (cut_list c) (next (absorb e.header R))
-      fills =
-          let F : List Header → Type 0 = λ X. Fills e.header.segment X (next (absorb e.header R)) in
-          let G : ℕ → Type 0 = λ z. Fills z (cut_low n e.header.owner (absorb e.header R)) (next (absorb e.header R)) in
-          subst F (sym list_is) (subst G (absorb-segment e.header R) (cut_fills First n e.header.owner (absorb e.header R) (let y = size_is in omega arith)))
+        fills : Fills e.header.segment (cut_list c) (next (absorb e.header R))
+        fills =
+            let F : List Header → Type 0 = λ X. Fills e.header.segment X (next (absorb e.header R)) in
+            let G : ℕ → Type 0 = λ z. Fills z (cut_low n e.header.owner (absorb e.header R))
+            (next (absorb e.header R)) in
+            subst F (sym list_is) (subst G (absorb-segment e.header R) (cut_fills First n e.header.owner
+            (absorb e.header R) (let y = size_is in omega arith)))
 
-      pub resized_new : IsNew (P ++ e.header ∷ Q) c.second
-      resized_new = new-cut P e.header Q (next (absorb e.header R)) c.first c.second before behind fills
+        pub resized_new : IsNew (P ++ e.header ∷ Q) c.second
+        resized_new = new-cut P e.header Q (next (absorb e.header R)) c.first c.second before behind fills
 
-      pub clear_resized : MaySplit S (P ++ e.header ∷ Q) c.second → IsClear S (P ++ (cut_list c ++ Q))
-      clear_resized m = clear-cut S P e.header Q c.first c.second fills.0 (clear_within S L (P ++ e.header ∷ Q) kept-within a.1) m
+        pub clear_resized : MaySplit S (P ++ e.header ∷ Q) c.second → IsClear S (P ++ (cut_list c ++ Q))
+        clear_resized m = clear-cut S P e.header Q c.first c.second fills.0 (clear_within S L (P ++ e.header
+            ∷ Q) kept-within a.1) m
 
-      pub resizing : IsClear S (P ++ (cut_list c ++ Q)) → IsReplaceable S start P (e.header ∷ R) Q (cut_list c) g.last e.header.segment (next (absorb e.header R))
-      resizing k = record {
-        nonempty = tt;
-        spells = spelled;
-        old_fills = (refl, inner);
-        new_fills = fills;
-        end = x.last;
-        clear = k;
-      }
+        pub resizing : IsClear S (P ++ (cut_list c ++ Q)) → IsReplaceable S start P (e.header
+            ∷ R) Q (cut_list c) g.last e.header.segment (next (absorb e.header R))
+        resizing k = record {
+          nonempty = tt;
+          spells = spelled;
+          old_fills = (refl, inner);
+          new_fills = fills;
+          end = x.last;
+          clear = k;
+        }
 
-      pub resizes : IsClear S (P ++ (cut_list c ++ Q)) → (T : Memory) → IsReplaced S start P Q (cut_list c) T → (r : BlockRunAt up S start segment) × (n ≤ (absorb r.block r.run).size) × Becomes S start (resized r n) T
-      resizes k T r =
-          let F : List Header → Type 0 = λ X. Becomes S start (P ++ (X ++ Q)) T in (
-            run_at,
-            (let y = size_is in omega arith),
-            subst F list_is (record {
-              clear = k;
-              chain = (nonempty P c.first (option_to_list c.second ++ Q), r.spells);
-              differs = record { shape = r.differs.shape; kept = λ p ne. r.differs.kept p (λ h k w. ne h k (has_right P (cut_list c ++ Q) h (has_left (cut_list c) Q h w))) };
-            }),
-          )
+        pub resizes : IsClear S (P ++ (cut_list c ++ Q)) → (T : Memory) → IsReplaced S start P Q (cut_list c) T →
+            (r : BlockRunAt up S start segment) × (n ≤ (absorb r.block r.run).size) × Becomes S start (resized r n) T
+        resizes k T r =
+            let F : List Header → Type 0 = λ X. Becomes S start (P ++ (X ++ Q)) T in (
+              run_at,
+              (let y = size_is in omega arith),
+              subst F list_is (record {
+                clear = k;
+                chain = (nonempty P c.first (option_to_list c.second ++ Q), r.spells);
+                differs = record {
+                  shape = r.differs.shape;
+                  kept = λ p ne. r.differs.kept p (λ h k w. ne h k
+                      (has_right P (cut_list c ++ Q) h (has_left (cut_list c) Q h w)));
+                };
+              }),
+            )
 
-      pub unresized : (MaySplit S (P ++ e.header ∷ Q) c.second → ⊥) → (r : BlockRunAt up S start segment) × (n ≤ (absorb r.block r.run).size) × (IsClear S (resized r n) → ⊥)
-      unresized m =
-          let F : List Header → Type 0 = λ X. IsClear S (P ++ (X ++ Q)) in
-          (run_at, (let y = size_is in omega arith), λ k. unclear-cut S P e.header Q c.first c.second fills.0 resized_new m (subst F (sym list_is) k))
+        pub unresized : (MaySplit S (P ++ e.header ∷ Q) c.second → ⊥) → (r : BlockRunAt up S start segment) ×
+            (n ≤ (absorb r.block r.run).size) × (IsClear S (resized r n) → ⊥)
+        unresized m =
+            let F : List Header → Type 0 = λ X. IsClear S (P ++ (X ++ Q)) in (
+              run_at,
+              (let y = size_is in omega arith),
+              λ k. unclear-cut S P e.header Q c.first c.second fills.0 resized_new m (subst F (sym list_is) k),
+            )

@@ -20,7 +20,8 @@ goes_once S T U x y =
     let F : List Header → Type 0 = λ X. Becomes S first_header X U in
     becomes_unique S first_header _ T U x.becomes (subst F (sym (ap₂ (λ X Y. X ++ Y) first second)) y.becomes)
 
-cut_by : (S : Memory) (P Q P' Q' : List Header) → IsArena S first_header (P ++ Q) → BeginsAt Q link_header → BeginsAt Q' link_header → P ++ Q ≡ P' ++ Q' → P ≡ P'
+cut_by : (S : Memory) (P Q P' Q' : List Header) → IsArena S first_header (P ++ Q) → BeginsAt Q link_header →
+    BeginsAt Q' link_header → P ++ Q ≡ P' ++ Q' → P ≡ P'
 cut_by S P [] P' Q' a b b' e = absurd b
 cut_by S P (q ∷ Q) P' [] a b b' e = absurd b'
 cut_by S P (q ∷ Q) P' (q' ∷ Q') a b b' e =
@@ -29,7 +30,8 @@ cut_by S P (q ∷ Q) P' (q' ∷ Q') a b b' e =
 
 cut_once : (S T U : Memory) → BecomesUnlinked S T → BecomesUnlinked S U → T ≡ U
 cut_once S T U x y =
-    let same = cut_by S x.before x.after y.before y.after x.arena x.begins y.begins (arena_unique S first_header (x.before ++ x.after) (y.before ++ y.after) x.arena y.arena) in
+    let same = cut_by S x.before x.after y.before y.after x.arena x.begins y.begins
+    (arena_unique S first_header (x.before ++ x.after) (y.before ++ y.after) x.arena y.arena) in
     let F : List Header → Type 0 = λ X. Becomes S first_header X U in
     becomes_unique S first_header _ T U x.becomes (subst F (sym same) y.becomes)
 
@@ -37,7 +39,8 @@ so_goes : (S T U : Memory) → IsSo S true T → BecomesLinked S U → ⊥
 so_goes S T U x y = apart x.list y.first (arena_unique S first_header x.list y.first x.arena y.arena) x.is y.parted
 
 so_cut : (S T U : Memory) → IsSo S false T → BecomesUnlinked S U → ⊥
-so_cut S T U x y = apart (y.before ++ y.after) x.list (arena_unique S first_header (y.before ++ y.after) x.list y.arena x.arena) (begins-linked y.before y.after y.begins) x.is
+so_cut S T U x y = apart (y.before ++ y.after) x.list (arena_unique S first_header (y.before
+    ++ y.after) x.list y.arena x.arena) (begins-linked y.before y.after y.begins) x.is
 
 joined_same : (S T U : Memory) → IsSo S true T ⊎ BecomesLinked S T → IsSo S true U ⊎ BecomesLinked S U → T ≡ U
 joined_same S T U (inl x) (inl y) = x.same ∙ sym y.same
@@ -65,7 +68,8 @@ not_parted : (S T : Memory) → IsSo S false T ⊎ BecomesUnlinked S T → LinkR
 not_parted S T (inl x) none = none x.list x.arena
 not_parted S T (inr x) none = none (x.before ++ x.after) x.arena
 
-pub linking_unique : (S : Memory) (on : Bool) (r q : Result (Unit {0}) ArenaRefusal) (T U : Memory) → Links S on r T → Links S on q U → (r ≡ q) × (T ≡ U)
+pub linking_unique : (S : Memory) (on : Bool) (r q : Result (Unit {0}) ArenaRefusal) (T U : Memory) → Links S on r T →
+    Links S on q U → (r ≡ q) × (T ≡ U)
 linking_unique S true (Ok a) (Ok b) T U x y = (refl, joined_same S T U x y)
 linking_unique S true (Ok a) (Err e) T U x y = absurd (not_joined S T x y.2)
 linking_unique S true (Err e) (Ok b) T U x y = absurd (not_joined S U y x.2)

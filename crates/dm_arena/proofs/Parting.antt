@@ -17,11 +17,13 @@ use Rattle.dm_arena.proofs.Releasing.{released-has}
 use Rattle.dm_arena.proofs.Written.{agrees_written}
 
 -- headers apart from those that are written are spelled as before
-agrees_beside : (S T : Memory) (L U : List Header) → DiffersInHeaders S L T → IsClear S (L ++ U) → AreApart L U → Agrees S T U
+agrees_beside : (S T : Memory) (L U : List Header) → DiffersInHeaders S L T → IsClear S (L ++ U) → AreApart L U →
+    Agrees S T U
 agrees_beside S T L U d c apart = record {
   same = λ g k w small.
       peek-place T _ ∙ ap (byte_at T) (place-shaped S T d.shape _)
-      ∙ d.kept _ (λ h j v sj e. (let same : place S (16 * g) ≡ place S (16 * h) = (paragraph-apart S g h k j (omega arith) (omega arith) (c.writable g (has_right L U g w)) e).0 in
+      ∙ d.kept _ (λ h j v sj e. (let same : place S (16 * g) ≡ place S (16 * h) =
+      (paragraph-apart S g h k j (omega arith) (omega arith) (c.writable g (has_right L U g w)) e).0 in
       let at : g ≡ h = c.apart g h (has_right L U g w) (has_left L U h v) same in
       let G : ℕ → Type 0 = λ x. HasHeader L x in
       apart g (subst G (sym at) v) w))
@@ -29,19 +31,33 @@ agrees_beside S T L U d c apart = record {
 }
 
 -- the owner's blocks freed in the first list, and then in the second
-module _ (S : Memory) (owner : ℕ) (L U : List Header) (a : IsArena S first_header L) (b : IsArenaBehind S L link_header U) (T : Memory) (x : Becomes S first_header (released owner L) T) where
+module _ (S : Memory) (owner : ℕ) (L U : List Header) (a : IsArena S first_header L)
+    (b : IsArenaBehind S L link_header U) (T : Memory) (x : Becomes S first_header (released owner L) T) where
   clear_first : IsClear S (released owner L ++ U)
-  clear_first = clear_within S (L ++ U) _ (λ g w. elim (has_either (released owner L) U g w) [ inl l ↦ has_left L U g (released-has owner L g l) | inr r ↦ has_right L U g r ]) b.1
+  clear_first = clear_within S (L ++ U) _ (λ g w. elim (has_either (released owner L) U g w) [
+    | inl l ↦
+        has_left L U g (released-has owner L g l)
+    | inr r ↦ has_right L U g r
+  ]) b.1
 
   pub second_there : IsArena T link_header U
   second_there = (
-    (b.0.0, spells_kept S T link_header U (agrees_beside S T (released owner L) U x.differs clear_first (λ g w v. b.2 g (released-has owner L g w) v)) b.0.1),
+    (
+      b.0.0,
+      spells_kept S T link_header U (agrees_beside S T (released owner L) U x.differs clear_first
+          (λ g w v. b.2 g (released-has owner L g w) v)) b.0.1,
+    ),
     clear_map S T U (place-shaped S T x.differs.shape) (clear_within S (L ++ U) U (λ g w. has_right L U g w) b.1),
   )
 
   module _ (V : Memory) (y : Becomes T link_header (released owner U) V) where
     clear_second : IsClear T (released owner U ++ released owner L)
-    clear_second = clear_map S T _ (place-shaped S T x.differs.shape) (clear_within S (L ++ U) _ (λ g w. elim (has_either (released owner U) (released owner L) g w) [ inl l ↦ has_right L U g (released-has owner U g l) | inr r ↦ has_left L U g (released-has owner L g r) ]) b.1)
+    clear_second = clear_map S T _ (place-shaped S T x.differs.shape) (clear_within S (L
+        ++ U) _ (λ g w. elim (has_either (released owner U) (released owner L) g w) [
+          | inl l ↦
+              has_right L U g (released-has owner U g l)
+          | inr r ↦ has_left L U g (released-has owner L g r)
+        ]) b.1)
 
     pub both_released : (upper : Bool) → is_parted upper L ≡ true → ReleasesBoth upper S owner V
     both_released upper parted = record {
@@ -50,18 +66,25 @@ module _ (S : Memory) (owner : ℕ) (L U : List Header) (a : IsArena S first_hea
       arena = a;
       parted = parted;
       behind = b;
-      first_chain = (x.chain.0, spells_kept T V first_header (released owner L) (agrees_beside T V (released owner U) (released owner L) y.differs clear_second (λ g w v. b.2 g (released-has owner L g v) (released-has owner U g w))) x.chain.1);
+      first_chain = (
+        x.chain.0,
+        spells_kept T V first_header (released owner L) (agrees_beside T V (released owner U)
+            (released owner L) y.differs clear_second (λ g w v. b.2 g (released-has owner L g v)
+            (released-has owner U g w))) x.chain.1,
+      );
       second_chain = y.chain;
       differs = record {
         shape = shaped-then S T V x.differs.shape y.differs.shape;
         kept = λ p ne.
-            y.differs.kept p (λ h k w small e. ne h k (has_right (released owner L) (released owner U) h w) small (e ∙ place-shaped S T x.differs.shape _))
+            y.differs.kept p (λ h k w small e. ne h k (has_right (released owner L) (released owner U) h w) small (e
+            ∙ place-shaped S T x.differs.shape _))
             ∙ x.differs.kept p (λ h k w. ne h k (has_left (released owner L) (released owner U) h w));
       };
     }
 
 -- the block before the link block's header
-linked-by : (b : Header) (L : List Header) (r : Bool) → nat_eq b.segment 0x9FFF ≡ r → r || is_linked L ≡ true → (is_linked L ≡ true → HasHeader L 0x9FFF) → HasHeader (b ∷ L) 0x9FFF
+linked-by : (b : Header) (L : List Header) (r : Bool) → nat_eq b.segment 0x9FFF ≡ r → r || is_linked L ≡ true →
+    (is_linked L ≡ true → HasHeader L 0x9FFF) → HasHeader (b ∷ L) 0x9FFF
 linked-by b L true e l f = inl (grind (arith, nat_tests))
 linked-by b L false e l f = inr (f l)
 
@@ -86,7 +109,8 @@ true≢false : (r : Bool) → r ≡ true → r ≡ false → ⊥
 true≢false r t f = absurd (let x : true ≡ false = sym t ∙ f in cc)
 
 -- a linked list has a block that ends there
-pub end-found : (S : Memory) (h : ℕ) (L : List Header) → Spells S h L → h ≢ 0x9FFF → is_linked L ≡ true → NoEndAt L 0x9FFF → ⊥
+pub end-found : (S : Memory) (h : ℕ) (L : List Header) → Spells S h L → h ≢ 0x9FFF → is_linked L ≡ true →
+    NoEndAt L 0x9FFF → ⊥
 end-found S h L s ne l n = by h L s ne (linked-at L l) n
   where
     by : (h : ℕ) (L : List Header) → Spells S h L → h ≢ 0x9FFF → HasHeader L 0x9FFF → NoEndAt L 0x9FFF → ⊥
@@ -114,7 +138,8 @@ signature-more [] n = absurd n
 signature-more (c ∷ U) n = refl
 
 -- the list, and its block that ends at the link block's header
-module _ (S : Memory) (L : List Header) (e : ListedHeader) (P Q : List Header) (a : IsArena S first_header L) (f : IsEndingAt S L 0x9FFF e P Q) where
+module _ (S : Memory) (L : List Header) (e : ListedHeader) (P Q : List Header) (a : IsArena S first_header L)
+    (f : IsEndingAt S L 0x9FFF e P Q) where
   spelled : Spells S first_header (P ++ e.header ∷ Q)
   spelled = let F : List Header → Type 0 = λ X. Spells S first_header X in subst F f.is a.0.1
 
@@ -137,7 +162,8 @@ module _ (S : Memory) (L : List Header) (e : ListedHeader) (P Q : List Header) (
   alone n = f.is ∙ ap (λ X. P ++ e.header ∷ X) (none-behind Q refl n)
 
   pub ends : is_linked L ≡ false → EndsAt L 0x9FFF
-  ends n = (let F : List Header → Type 0 = λ X. EndsAt X 0x9FFF in subst F (sym (alone n)) (ends-last P e.header 0x9FFF f.at))
+  ends n = (let F : List Header → Type 0 = λ X. EndsAt X 0x9FFF in
+      subst F (sym (alone n)) (ends-last P e.header 0x9FFF f.at))
 
   begins-by : (X : List Header) → Q ≡ X → is_linked L ≡ true → BeginsAt Q 0x9FFF
   begins-by [] is l =
@@ -168,7 +194,8 @@ module _ (S : Memory) (L : List Header) (e : ListedHeader) (P Q : List Header) (
       ]) in
       let clear : IsClear S M = clear_within S L M inM a.1 in
       let there : HasHeader M e.header.segment = has_right P (e.header ∷ []) e.header.segment (inl refl) in
-      let low : Agrees S T P = agrees_written S T e.header _ M P x clear there (λ g w. has_left P (e.header ∷ []) g w) (λ g w q. (let y = before-has g w in omega arith)) in
+      let low : Agrees S T P = agrees_written S T e.header _ M P x clear there (λ g w. has_left P (e.header
+      ∷ []) g w) (λ g w q. (let y = before-has g w in omega arith)) in
       let y : IsHeader T e.header 0x5A = x.written (clear.writable e.header.segment there) in
       record {
         before = M;
@@ -177,21 +204,28 @@ module _ (S : Memory) (L : List Header) (e : ListedHeader) (P Q : List Header) (
         begins = begins-by Q refl l;
         becomes = record {
           clear = clear;
-          chain = (nonempty-with P e.header [], spells_replace S T first_header P e.header e.header Q [] spelled low refl (refl, y, tt));
+          chain = (
+            nonempty-with P e.header [],
+            spells_replace S T first_header P e.header e.header Q [] spelled low refl (refl, y, tt),
+          );
           differs = record { shape = x.shape; kept = λ p ne. x.kept p (λ k. ne e.header.segment k there) };
         };
       }
 
   -- the list that goes on
-  module _ (n : is_linked L ≡ false) (U : List Header) (b : IsArenaBehind S L link_header U) (T : Memory) (x : IsHeaderWritten S e.header 0x4D T) where
+  module _ (n : is_linked L ≡ false) (U : List Header) (b : IsArenaBehind S L link_header U) (T : Memory)
+      (x : IsHeaderWritten S e.header 0x4D T) where
     pub goes_on : BecomesLinked S T
     goes_on =
         let M = L ++ U in
         let hasP : (g : ℕ) → HasHeader P g → HasHeader L g = λ g w. has g (has_left P (e.header ∷ Q) g w) in
-        let here : HasHeader L e.header.segment = has e.header.segment (has_right P (e.header ∷ Q) e.header.segment (inl refl)) in
+        let here : HasHeader L e.header.segment = has e.header.segment (has_right P (e.header
+        ∷ Q) e.header.segment (inl refl)) in
         let there : HasHeader M e.header.segment = has_left L U e.header.segment here in
-        let low : Agrees S T P = agrees_written S T e.header _ M P x b.1 there (λ g w. has_left L U g (hasP g w)) (λ g w q. (let y = before-has g w in omega arith)) in
-        let high : Agrees S T U = agrees_written S T e.header _ M U x b.1 there (λ g w. has_right L U g w) (λ g w q. (let G : ℕ → Type 0 = λ z. HasHeader L z in b.2 g (subst G (sym q) here) w)) in
+        let low : Agrees S T P = agrees_written S T e.header _ M P x b.1 there (λ g w. has_left L U g (hasP g w))
+        (λ g w q. (let y = before-has g w in omega arith)) in
+        let high : Agrees S T U = agrees_written S T e.header _ M U x b.1 there (λ g w. has_right L U g w)
+        (λ g w q. (let G : ℕ → Type 0 = λ z. HasHeader L z in b.2 g (subst G (sym q) here) w)) in
         let y : IsHeader T e.header 0x4D = x.written (b.1.writable e.header.segment there) in
         let G : ℕ → Type 0 = λ z. IsHeader T e.header z in
         let H : ℕ → Type 0 = λ z. Spells T z U in
@@ -200,7 +234,12 @@ module _ (S : Memory) (L : List Header) (e : ListedHeader) (P Q : List Header) (
         let J : List Header → Type 0 = λ X. Spells T first_header X in
         let N : List Header → Type 0 = λ X. IsNonEmpty X in
         let joined : (P ++ e.header ∷ []) ++ U ≡ P ++ e.header ∷ U = append_assoc P (e.header ∷ []) U in
-        let spells : Spells T first_header (P ++ e.header ∷ U) = spells_replace S T first_header P e.header e.header Q U spelled low refl (refl, subst G (sym (signature-more U b.0.0)) y, subst H (sym f.at) (spells_kept S T 0x9FFF U high b.0.1)) in
+        let spells : Spells T first_header (P ++ e.header ∷ U) =
+        spells_replace S T first_header P e.header e.header Q U spelled low refl (
+          refl,
+          subst G (sym (signature-more U b.0.0)) y,
+          subst H (sym f.at) (spells_kept S T 0x9FFF U high b.0.1),
+        ) in
         record {
           first = L;
           second = U;
@@ -210,7 +249,10 @@ module _ (S : Memory) (L : List Header) (e : ListedHeader) (P Q : List Header) (
           behind = b;
           becomes = record {
             clear = b.1;
-            chain = (subst I (sym (alone n)) (subst N (sym joined) (nonempty-with P e.header U)), subst K (sym (alone n)) (subst J (sym joined) spells));
+            chain = (
+              subst I (sym (alone n)) (subst N (sym joined) (nonempty-with P e.header U)),
+              subst K (sym (alone n)) (subst J (sym joined) spells),
+            );
             differs = record { shape = x.shape; kept = λ p ne. x.kept p (λ k. ne e.header.segment k there) };
           };
         }
@@ -224,19 +266,27 @@ other-false : (b : Bool) → (b ≡ false → ⊥) → b ≡ true
 other-false true n = refl
 other-false false n = absurd (n refl)
 
-pub link_none : (S : Memory) (on : Bool) (L : List Header) → IsArena S first_header L → NoEndAt L 0x9FFF → (is_linked L ≡ on → ⊥) → LinkRefused S on
+pub link_none : (S : Memory) (on : Bool) (L : List Header) → IsArena S first_header L → NoEndAt L 0x9FFF →
+    (is_linked L ≡ on → ⊥) → LinkRefused S on
 link_none S true L a n ne = inr (L, a, other-true (is_linked L) ne, λ e. absurd (end-none L n e))
-link_none S false L a n ne = absurd (end-found S first_header L a.0.1 (λ e. omega arith) (other-false (is_linked L) ne) n)
+link_none S false L a n ne = absurd (end-found S first_header L a.0.1 (λ e. omega arith)
+    (other-false (is_linked L) ne) n)
 
-pub link_alone : (S : Memory) (on : Bool) (L : List Header) → on ≡ true → IsArena S first_header L → (is_linked L ≡ on → ⊥) → NoArenaBehind S L link_header → LinkRefused S on
+pub link_alone : (S : Memory) (on : Bool) (L : List Header) → on ≡ true → IsArena S first_header L →
+    (is_linked L ≡ on → ⊥) → NoArenaBehind S L link_header → LinkRefused S on
 link_alone S true L is a ne none = inr (L, a, other-true (is_linked L) ne, λ e. none)
 link_alone S false L is a ne none = absurd (let x : false ≡ true = is in cc)
 
-pub links : (S : Memory) (on : Bool) (L : List Header) (a : IsArena S first_header L) (e : ListedHeader) (P Q : List Header) (f : IsEndingAt S L 0x9FFF e P Q) (T : Memory) → IsHeaderWritten S e.header (signature_byte (not on)) T → (is_linked L ≡ on → ⊥) → (on ≡ true → (M U : List Header) × IsArena S first_header M × IsArenaBehind S M link_header U) → Links S on (Ok tt) T
+pub links : (S : Memory) (on : Bool) (L : List Header) (a : IsArena S first_header L) (e : ListedHeader)
+    (P Q : List Header) (f : IsEndingAt S L 0x9FFF e P Q) (T : Memory) →
+    IsHeaderWritten S e.header (signature_byte (not on)) T → (is_linked L ≡ on → ⊥) →
+    (on ≡ true → (M U : List Header) × IsArena S first_header M × IsArenaBehind S M link_header U) →
+    Links S on (Ok tt) T
 links S true L a e P Q f T x ne second =
     let b = second refl in
     let F : List Header → Type 0 = λ X. IsArenaBehind S X link_header b.1 in
-    inr (goes_on S L e P Q a f (other-true (is_linked L) ne) b.1 (subst F (arena_unique S first_header b.0 L b.2 a) b.3) T x)
+    inr (goes_on S L e P Q a f (other-true (is_linked L) ne) b.1 (subst F (arena_unique S first_header b.0 L b.2 a) b.3)
+    T x)
 links S false L a e P Q f T x ne second = inr (cut_off S L e P Q a f (other-false (is_linked L) ne) T x)
 
 pub clash : (b : Bool) → b ≡ true → b ≡ false → ⊥

@@ -61,30 +61,48 @@ module _ (f : Memory → Memory) (u : IsUnseen f) where
   unclear-unseen : (S : Memory) (L : List Header) → (IsClear S L → ⊥) → IsClear (f S) L → ⊥
   unclear-unseen S L n c = n (clear-same (f S) S (back S) L c)
 
-  becomes-unseen : (S : Memory) (start : ℕ) (L : List Header) (T : Memory) → Becomes S start L T → Becomes (f S) start L (f T)
+  becomes-unseen : (S : Memory) (start : ℕ) (L : List Header) (T : Memory) → Becomes S start L T →
+      Becomes (f S) start L (f T)
   becomes-unseen S start L T b = record {
     clear = clear-same S (f S) (there S) L b.clear;
     chain = chain-same T (f T) (there T) start L b.chain;
     differs = record {
       shape = u.shape_same S T b.differs.shape;
-      kept = λ p ne. u.byte_same S T p b.differs.shape (b.differs.kept p (λ h k w small e. ne h k w small (e ∙ sym (u.place_same S (16 * h + k)))));
+      kept = λ p ne. u.byte_same S T p b.differs.shape (b.differs.kept p (λ h k w small e. ne h k w small (e
+          ∙ sym (u.place_same S (16 * h + k)))));
     };
   }
 
   differs-unseen : (S T : Memory) (L : List Header) → DiffersInHeaders S L T → DiffersInHeaders (f S) L (f T)
   differs-unseen S T L d = record {
     shape = u.shape_same S T d.shape;
-    kept = λ p ne. u.byte_same S T p d.shape (d.kept p (λ h k w small e. ne h k w small (e ∙ sym (u.place_same S (16 * h + k)))));
+    kept = λ p ne. u.byte_same S T p d.shape (d.kept p (λ h k w small e. ne h k w small (e
+        ∙ sym (u.place_same S (16 * h + k)))));
   }
 
-  behind-unseen : (S : Memory) (L : List Header) (start : ℕ) (U : List Header) → IsArenaBehind S L start U → IsArenaBehind (f S) L start U
-  behind-unseen S L start U b = (chain-same S (f S) (there S) start U b.0, clear-same S (f S) (there S) (L ++ U) b.1, b.2)
+  behind-unseen : (S : Memory) (L : List Header) (start : ℕ) (U : List Header) → IsArenaBehind S L start U →
+      IsArenaBehind (f S) L start U
+  behind-unseen S L start U b = (
+    chain-same S (f S) (there S) start U b.0,
+    clear-same S (f S) (there S) (L ++ U) b.1,
+    b.2,
+  )
 
-  none_behind-unseen : (S : Memory) (L : List Header) (start : ℕ) → NoArenaBehind S L start → NoArenaBehind (f S) L start
-  none_behind-unseen S L start n U b = n U (chain-same (f S) S (back S) start U b.0, clear-same (f S) S (back S) (L ++ U) b.1, b.2)
+  none_behind-unseen : (S : Memory) (L : List Header) (start : ℕ) → NoArenaBehind S L start →
+      NoArenaBehind (f S) L start
+  none_behind-unseen S L start n U b = n U (
+    chain-same (f S) S (back S) start U b.0,
+    clear-same (f S) S (back S) (L ++ U) b.1,
+    b.2,
+  )
 
   so-unseen : (S : Memory) (on : Bool) (T : Memory) → IsSo S on T → IsSo (f S) on (f T)
-  so-unseen S on T x = record { list = x.list; arena = arena-same S (f S) (there S) first_header x.list x.arena; is = x.is; same = ap f x.same }
+  so-unseen S on T x = record {
+    list = x.list;
+    arena = arena-same S (f S) (there S) first_header x.list x.arena;
+    is = x.is;
+    same = ap f x.same;
+  }
 
   goes-unseen : (S T : Memory) → BecomesLinked S T → BecomesLinked (f S) (f T)
   goes-unseen S T x = record {
@@ -108,10 +126,16 @@ module _ (f : Memory → Memory) (u : IsUnseen f) where
 
   link_refused-unseen : (S : Memory) (on : Bool) → LinkRefused S on → LinkRefused (f S) on
   link_refused-unseen S true (inl none) = inl (none-unseen S first_header none)
-  link_refused-unseen S true (inr r) = inr (r.0, arena-same S (f S) (there S) first_header r.0 r.1, r.2, λ e. none_behind-unseen S r.0 link_header (r.3 e))
+  link_refused-unseen S true (inr r) = inr (
+    r.0,
+    arena-same S (f S) (there S) first_header r.0 r.1,
+    r.2,
+    λ e. none_behind-unseen S r.0 link_header (r.3 e),
+  )
   link_refused-unseen S false none = none-unseen S first_header none
 
-  pub linking-unseen : (S T : Memory) (on : Bool) (r : Result (Unit {0}) ArenaRefusal) → Links S on r T → Links (f S) on r (f T)
+  pub linking-unseen : (S T : Memory) (on : Bool) (r : Result (Unit {0}) ArenaRefusal) → Links S on r T →
+      Links (f S) on r (f T)
   linking-unseen S T true (Ok x) (inl a) = inl (so-unseen S true T a)
   linking-unseen S T true (Ok x) (inr a) = inr (goes-unseen S T a)
   linking-unseen S T false (Ok x) (inl a) = inl (so-unseen S false T a)
@@ -124,7 +148,8 @@ module _ (f : Memory → Memory) (u : IsUnseen f) where
   telling-unseen S (Err e) a = (a.0, none-unseen S first_header a.1)
 
 module _ (up : Bool) where
-  abbrev taking-same : (A B : Memory) → Shows A B → {start : ℕ} {st : Strategy} {n : ℕ} → Taking up A start st n → Taking up B start st n
+  abbrev taking-same : (A B : Memory) → Shows A B → {start : ℕ} {st : Strategy} {n : ℕ} → Taking up A start st n →
+      Taking up B start st n
   taking-same A B v {start} t = record {
     list = t.list;
     before = t.before;
@@ -135,7 +160,8 @@ module _ (up : Bool) where
     fit = t.fit;
   }
 
-  abbrev block-same : (A B : Memory) → Shows A B → {start segment : ℕ} → BlockAt up A start segment → BlockAt up B start segment
+  abbrev block-same : (A B : Memory) → Shows A B → {start segment : ℕ} → BlockAt up A start segment →
+      BlockAt up B start segment
   block-same A B v {start} b = record {
     list = b.list;
     before = b.before;
@@ -147,7 +173,8 @@ module _ (up : Bool) where
     other = b.other;
   }
 
-  abbrev run-same : (A B : Memory) → Shows A B → {start segment : ℕ} → BlockRunAt up A start segment → BlockRunAt up B start segment
+  abbrev run-same : (A B : Memory) → Shows A B → {start segment : ℕ} → BlockRunAt up A start segment →
+      BlockRunAt up B start segment
   run-same A B v {start} b = record {
     list = b.list;
     before = b.before;
@@ -162,7 +189,9 @@ module _ (up : Bool) where
     stops = b.stops;
   }
 
-  abbrev pairing-same : (A B : Memory) → Shows A B → {start : ℕ} {st : Strategy} {environment least most owner size : ℕ} → Pairing up A start st environment least most owner size → Pairing up B start st environment least most owner size
+  abbrev pairing-same : (A B : Memory) → Shows A B →
+      {start : ℕ} {st : Strategy} {environment least most owner size : ℕ} →
+      Pairing up A start st environment least most owner size → Pairing up B start st environment least most owner size
   pairing-same A B v p = record {
     first = taking-same A B v p.first;
     before = p.before;
@@ -176,40 +205,75 @@ module _ (up : Bool) where
   }
 
   module _ (f : Memory → Memory) (u : IsUnseen f) where
-    allocate_refused-unseen : (S : Memory) (start : ℕ) (st : Strategy) (n owner : ℕ) (e : ArenaRefusal) → AllocateRefused up S start st n owner e → AllocateRefused up (f S) start st n owner e
+    allocate_refused-unseen : (S : Memory) (start : ℕ) (st : Strategy) (n owner : ℕ) (e : ArenaRefusal) →
+        AllocateRefused up S start st n owner e → AllocateRefused up (f S) start st n owner e
     allocate_refused-unseen S start st n owner Destroyed (inl none) = inl (none-unseen f u S start none)
-    allocate_refused-unseen S start st n owner Destroyed (inr r) = inr (taking-same S (f S) (there f u S) r.0, unclear-unseen f u S (with_cut r.0 owner) r.1)
-    allocate_refused-unseen S start st n owner (Short most) r = (r.0, arena-same S (f S) (there f u S) start r.0 r.1, r.2, r.3)
+    allocate_refused-unseen S start st n owner Destroyed (inr r) = inr (
+      taking-same S (f S) (there f u S) r.0,
+      unclear-unseen f u S (with_cut r.0 owner) r.1,
+    )
+    allocate_refused-unseen S start st n owner (Short most) r = (
+      r.0,
+      arena-same S (f S) (there f u S) start r.0 r.1,
+      r.2,
+      r.3,
+    )
     allocate_refused-unseen S start st n owner NoBlock r = r
 
-    pub allocation-unseen : (S T : Memory) (st : Strategy) (n owner : ℕ) (r : Result ℕ ArenaRefusal) → Allocates up S st n owner r T → Allocates up (f S) st n owner r (f T)
-    allocation-unseen S T st n owner (Ok segment) a = (taking-same S (f S) (there f u S) a.0, a.1, becomes-unseen f u S first_header (with_cut a.0 owner) T a.2)
+    pub allocation-unseen : (S T : Memory) (st : Strategy) (n owner : ℕ) (r : Result ℕ ArenaRefusal) →
+        Allocates up S st n owner r T → Allocates up (f S) st n owner r (f T)
+    allocation-unseen S T st n owner (Ok segment) a = (
+      taking-same S (f S) (there f u S) a.0,
+      a.1,
+      becomes-unseen f u S first_header (with_cut a.0 owner) T a.2,
+    )
     allocation-unseen S T st n owner (Err e) a = (ap f a.0, allocate_refused-unseen S first_header st n owner e a.1)
 
-    free_refused-unseen : (S : Memory) (segment : ℕ) (e : ArenaRefusal) → FreeRefused up S first_header segment e → FreeRefused up (f S) first_header segment e
+    free_refused-unseen : (S : Memory) (segment : ℕ) (e : ArenaRefusal) → FreeRefused up S first_header segment e →
+        FreeRefused up (f S) first_header segment e
     free_refused-unseen S segment Destroyed r = none-unseen f u S first_header r
     free_refused-unseen S segment (Short most) r = r
     free_refused-unseen S segment NoBlock r = (r.0, arena-same S (f S) (there f u S) first_header r.0 r.1, r.2)
 
-    pub freeing-unseen : (S T : Memory) (segment : ℕ) (r : Result (Unit {0}) ArenaRefusal) → Frees up S segment r T → Frees up (f S) segment r (f T)
-    freeing-unseen S T segment (Ok x) a = (block-same S (f S) (there f u S) a.0, becomes-unseen f u S first_header _ T a.1)
+    pub freeing-unseen : (S T : Memory) (segment : ℕ) (r : Result (Unit {0}) ArenaRefusal) → Frees up S segment r T →
+        Frees up (f S) segment r (f T)
+    freeing-unseen S T segment (Ok x) a = (
+      block-same S (f S) (there f u S) a.0,
+      becomes-unseen f u S first_header _ T a.1,
+    )
     freeing-unseen S T segment (Err e) a = (ap f a.0, free_refused-unseen S segment e a.1)
 
-    resize_refused-unseen : (S : Memory) (segment n : ℕ) (e : ArenaRefusal) → ResizeRefused up S first_header segment n e → ResizeRefused up (f S) first_header segment n e
+    resize_refused-unseen : (S : Memory) (segment n : ℕ) (e : ArenaRefusal) →
+        ResizeRefused up S first_header segment n e → ResizeRefused up (f S) first_header segment n e
     resize_refused-unseen S segment n Destroyed (inl none) = inl (none-unseen f u S first_header none)
-    resize_refused-unseen S segment n Destroyed (inr r) = inr (run-same S (f S) (there f u S) r.0, r.1, unclear-unseen f u S (resized r.0 n) r.2)
+    resize_refused-unseen S segment n Destroyed (inr r) = inr (
+      run-same S (f S) (there f u S) r.0,
+      r.1,
+      unclear-unseen f u S (resized r.0 n) r.2,
+    )
     resize_refused-unseen S segment n (Short most) r = (run-same S (f S) (there f u S) r.0, r.1, r.2)
     resize_refused-unseen S segment n NoBlock r = (r.0, arena-same S (f S) (there f u S) first_header r.0 r.1, r.2)
 
-    pub resizing-unseen : (S T : Memory) (segment n : ℕ) (r : Result (Unit {0}) ArenaRefusal) → Resizes up S segment n r T → Resizes up (f S) segment n r (f T)
-    resizing-unseen S T segment n (Ok x) a = (run-same S (f S) (there f u S) a.0, a.1, becomes-unseen f u S first_header _ T a.2)
+    pub resizing-unseen : (S T : Memory) (segment n : ℕ) (r : Result (Unit {0}) ArenaRefusal) →
+        Resizes up S segment n r T → Resizes up (f S) segment n r (f T)
+    resizing-unseen S T segment n (Ok x) a = (
+      run-same S (f S) (there f u S) a.0,
+      a.1,
+      becomes-unseen f u S first_header _ T a.2,
+    )
     resizing-unseen S T segment n (Err e) a = (ap f a.0, resize_refused-unseen S segment n e a.1)
 
     release_refused-unseen : (S : Memory) → ReleaseRefused up S → ReleaseRefused up (f S)
     release_refused-unseen S (inl none) = inl (none-unseen f u S first_header none)
-    release_refused-unseen S (inr r) = inr (r.0, arena-same S (f S) (there f u S) first_header r.0 r.1, r.2, none_behind-unseen f u S r.0 link_header r.3)
+    release_refused-unseen S (inr r) = inr (
+      r.0,
+      arena-same S (f S) (there f u S) first_header r.0 r.1,
+      r.2,
+      none_behind-unseen f u S r.0 link_header r.3,
+    )
 
-    pub releasing-unseen : (S T : Memory) (owner : ℕ) (r : Result (Unit {0}) ArenaRefusal) → Releases up S owner r T → Releases up (f S) owner r (f T)
+    pub releasing-unseen : (S T : Memory) (owner : ℕ) (r : Result (Unit {0}) ArenaRefusal) → Releases up S owner r T →
+        Releases up (f S) owner r (f T)
     releasing-unseen S T owner (Ok x) (inl a) = inl (record {
       list = a.list;
       arena = arena-same S (f S) (there f u S) first_header a.list a.arena;
@@ -228,14 +292,21 @@ module _ (up : Bool) where
     })
     releasing-unseen S T owner (Err e) a = (ap f a.0, a.1, release_refused-unseen S a.2)
 
-    pair_refused-unseen : (S : Memory) (start : ℕ) (st : Strategy) (environment least most : ℕ) (e : ArenaRefusal) → PairRefused up S start st environment least most e → PairRefused up (f S) start st environment least most e
+    pair_refused-unseen : (S : Memory) (start : ℕ) (st : Strategy) (environment least most : ℕ) (e : ArenaRefusal) →
+        PairRefused up S start st environment least most e → PairRefused up (f S) start st environment least most e
     pair_refused-unseen S start st environment least most Destroyed (inl none) = inl (none-unseen f u S start none)
-    pair_refused-unseen S start st environment least most Destroyed (inr r) = inr (r.0, r.1, pairing-same S (f S) (there f u S) r.2, unclear-unseen f u S (with_pair r.2) r.3)
-    pair_refused-unseen S start st environment least most (Short room) r =
-        (r.0, arena-same S (f S) (there f u S) start r.0 r.1, r.2, λ owner size p. r.3 owner size (pairing-same (f S) S (back f u S) p))
+    pair_refused-unseen S start st environment least most Destroyed (inr r) =
+        inr (r.0, r.1, pairing-same S (f S) (there f u S) r.2, unclear-unseen f u S (with_pair r.2) r.3)
+    pair_refused-unseen S start st environment least most (Short room) r = (
+      r.0,
+      arena-same S (f S) (there f u S) start r.0 r.1,
+      r.2,
+      λ owner size p. r.3 owner size (pairing-same (f S) S (back f u S) p),
+    )
     pair_refused-unseen S start st environment least most NoBlock r = r
 
-    pub pair-unseen : (S : Memory) (start : ℕ) (st : Strategy) (environment least most : ℕ) (pair : Planned) → IsPair up S start st environment least most pair → IsPair up (f S) start st environment least most pair
+    pub pair-unseen : (S : Memory) (start : ℕ) (st : Strategy) (environment least most : ℕ) (pair : Planned) →
+        IsPair up S start st environment least most pair → IsPair up (f S) start st environment least most pair
     pair-unseen S start st environment least most pair p = record {
       pairing = pairing-same S (f S) (there f u S) p.pairing;
       environment_is = p.environment_is;
@@ -244,7 +315,8 @@ module _ (up : Bool) where
       clear = clear-same S (f S) (there f u S) _ p.clear;
     }
 
-    pub pairing-unseen : (S T : Memory) (st : Strategy) (environment least most : ℕ) (r : Result Placed ArenaRefusal) → Pairs up S st environment least most r T → Pairs up (f S) st environment least most r (f T)
+    pub pairing-unseen : (S T : Memory) (st : Strategy) (environment least most : ℕ) (r : Result Placed ArenaRefusal) →
+        Pairs up S st environment least most r T → Pairs up (f S) st environment least most r (f T)
     pairing-unseen S T st environment least most (Ok placed) a = (
       a.0,
       record {
@@ -257,7 +329,8 @@ module _ (up : Bool) where
       a.2,
       becomes-unseen f u S first_header _ T a.3,
     )
-    pairing-unseen S T st environment least most (Err e) a = (ap f a.0, pair_refused-unseen S first_header st environment least most e a.1)
+    pairing-unseen S T st environment least most (Err e) a =
+        (ap f a.0, pair_refused-unseen S first_header st environment least most e a.1)
 
 pub ignores_unseen : IgnoresUnseen
 ignores_unseen f u = record {

@@ -21,14 +21,16 @@ pub record Taking (upper : Bool) (S : Memory) (start : ℕ) (strategy : Strategy
   pub fit : IsFit upper (in_effect upper list strategy) n (join upper list) block
 
 -- the joined list with the block of a `Taking` cut: n paragraphs belong to the owner, the rest is free
-abbrev pub with_cut : {upper : Bool} {S : Memory} {start : ℕ} {strategy : Strategy} {n : ℕ} → Taking upper S start strategy n → ℕ → List Header
+abbrev pub with_cut : {upper : Bool} {S : Memory} {start : ℕ} {strategy : Strategy} {n : ℕ} →
+    Taking upper S start strategy n → ℕ → List Header
 with_cut {upper} {S} {start} {strategy} {n} t owner = t.before ++ (cut_block strategy.fit n owner t.block ++ t.after)
 
 -- why an allocation fails: `Destroyed` if S spells no clear list, or the new list would not be clear; `Short` if no
 -- free block that the strategy looks at has n paragraphs, where `most` is the largest of them, 0 if there is none.
 -- `NoBlock` is never returned
 abbrev pub AllocateRefused : Bool → Memory → ℕ → Strategy → ℕ → ℕ → ArenaRefusal → Type 0
-AllocateRefused upper S start strategy n owner Destroyed = NoArena S start ⊎ ((t : Taking upper S start strategy n) × (IsClear S (with_cut t owner) → ⊥))
+AllocateRefused upper S start strategy n owner Destroyed = NoArena S start ⊎ ((t : Taking upper S start strategy n) ×
+    (IsClear S (with_cut t owner) → ⊥))
 AllocateRefused upper S start strategy n owner (Short most) =
     (L : List Header) × IsArena S start L × (most ≡ largest upper (in_effect upper L strategy) (join upper L))
     × ((b : Header) → IsIn b (join upper L) → IsTrue (fits upper (in_effect upper L strategy) n b) → ⊥)
@@ -39,5 +41,6 @@ AllocateRefused upper S start strategy n owner NoBlock = ⊥
 -- memory belongs to the arena
 abbrev pub Allocates : Bool → Memory → Strategy → ℕ → ℕ → Result ℕ ArenaRefusal → Memory → Type 0
 Allocates upper S strategy n owner (Ok segment) T =
-    (t : Taking upper S first_header strategy n) × (segment ≡ taken_segment strategy.fit n t.block + 1) × Becomes S first_header (with_cut t owner) T
+    (t : Taking upper S first_header strategy n) × (segment ≡ taken_segment strategy.fit n t.block + 1) ×
+    Becomes S first_header (with_cut t owner) T
 Allocates upper S strategy n owner (Err e) T = (T ≡ S) × AllocateRefused upper S first_header strategy n owner e

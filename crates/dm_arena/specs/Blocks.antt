@@ -17,7 +17,8 @@ merge b c = record b { size = b.size + (1 + c.size) }
 -- the list of b and then L, with each run of free blocks joined into one
 abbrev pub join_after : Bool → Header → List Header → List Header
 join_after upper b [] = b ∷ []
-join_after upper b (c ∷ L) = cond (is_free upper b && is_free upper c) (join_after upper (merge b c) L) (b ∷ join_after upper c L)
+join_after upper b (c ∷ L) = cond (is_free upper b && is_free upper c) (join_after upper (merge b c) L) (b
+    ∷ join_after upper c L)
 
 -- the list L with each run of free blocks joined into one
 abbrev pub join : Bool → List Header → List Header
@@ -95,14 +96,22 @@ pub record IsFit (upper : Bool) (strategy : Strategy) (n : ℕ) (L : List Header
 abbrev pub cut_low : ℕ → ℕ → Header → List Header
 cut_low n owner b = cond (b.size == n)
     (record b { owner = owner } ∷ [])
-    (record { segment = b.segment; owner = owner; size = n } ∷ record { segment = b.segment + 1 + n; owner = 0; size = b.size - n - 1 } ∷ [])
+    (record { segment = b.segment; owner = owner; size = n } ∷ record {
+      segment = b.segment + 1 + n;
+      owner = 0;
+      size = b.size - n - 1;
+    } ∷ [])
 
 -- the one or two headers for the block b with n paragraphs at its high end given to the owner. If b is larger, the
 -- rest below them is free, and its header is at b's segment; n is at most b's size
 abbrev pub cut_high : ℕ → ℕ → Header → List Header
 cut_high n owner b = cond (b.size == n)
     (record b { owner = owner } ∷ [])
-    (record { segment = b.segment; owner = 0; size = b.size - n - 1 } ∷ record { segment = b.segment + b.size - n; owner = owner; size = n } ∷ [])
+    (record { segment = b.segment; owner = 0; size = b.size - n - 1 } ∷ record {
+      segment = b.segment + b.size - n;
+      owner = owner;
+      size = n;
+    } ∷ [])
 
 -- the block b cut by its fit: at the low end for first and best fit, at the high end for last fit
 abbrev pub cut_block : Fit → ℕ → ℕ → Header → List Header

@@ -53,7 +53,8 @@ pub record BecomesUnlinked (S T : Memory) : Type 0 where
 -- why linking (true) or unlinking (false) fails: S spells no clear list; or, to link, the list is not linked and
 -- doesn't end at the link block's header, or S spells no second list there that is clear together with it
 abbrev pub LinkRefused : Memory → Bool → Type 0
-LinkRefused S true = NoArena S first_header ⊎ ((L : List Header) × IsArena S first_header L × (is_linked L ≡ false) × (EndsAt L link_header → NoArenaBehind S L link_header))
+LinkRefused S true = NoArena S first_header ⊎ ((L : List Header) × IsArena S first_header L × (is_linked L ≡ false) ×
+    (EndsAt L link_header → NoArenaBehind S L link_header))
 LinkRefused S false = NoArena S first_header
 
 -- function 5803h: the first list is linked with upper memory (true) or unlinked (false), from memory S to memory T;

@@ -44,7 +44,8 @@ FreeRefused upper S start segment NoBlock = (L : List Header) × IsArena S start
 -- function 49h: the block that begins at a segment becomes free, from memory S to memory T, and the owner in its header
 -- is all that changes; an error leaves memory unchanged
 abbrev pub Frees : Bool → Memory → ℕ → Result (Unit {0}) ArenaRefusal → Memory → Type 0
-Frees upper S segment (Ok u) T = (b : BlockAt upper S first_header segment) × Becomes S first_header (b.before ++ freed b.block ∷ b.after) T
+Frees upper S segment (Ok u) T = (b : BlockAt upper S first_header segment) × Becomes S first_header (b.before
+    ++ freed b.block ∷ b.after) T
 Frees upper S segment (Err e) T = (T ≡ S) × FreeRefused upper S first_header segment e
 
 -- the header b with the blocks of the run after it taken into its block, by 4Ah; segment and owner stay
@@ -79,21 +80,25 @@ pub record BlockRunAt (upper : Bool) (S : Memory) (start : ℕ) (segment : ℕ) 
 
 -- the new list of function 4Ah: the block with its run cut to n paragraphs at the low end, its owner as before; the
 -- rest is free
-abbrev pub resized : {upper : Bool} {S : Memory} {start : ℕ} {segment : ℕ} → BlockRunAt upper S start segment → ℕ → List Header
+abbrev pub resized : {upper : Bool} {S : Memory} {start : ℕ} {segment : ℕ} → BlockRunAt upper S start segment → ℕ →
+    List Header
 resized {upper} {S} {start} {segment} r n = r.before ++ (cut_low n r.block.owner (absorb r.block r.run) ++ r.after)
 
 -- why function 4Ah fails: `Destroyed` if S spells no clear list, or the resized list would not be clear; `Short` if
 -- the block with its run has only `most` paragraphs, fewer than n; `NoBlock` if no block begins at the segment, or
 -- the link block does
 abbrev pub ResizeRefused : Bool → Memory → ℕ → ℕ → ℕ → ArenaRefusal → Type 0
-ResizeRefused upper S start segment n Destroyed = NoArena S start ⊎ ((r : BlockRunAt upper S start segment) × (n ≤ (absorb r.block r.run).size) × (IsClear S (resized r n) → ⊥))
-ResizeRefused upper S start segment n (Short most) = (r : BlockRunAt upper S start segment) × (most ≡ (absorb r.block r.run).size) × (most < n)
+ResizeRefused upper S start segment n Destroyed = NoArena S start ⊎ ((r : BlockRunAt upper S start segment) ×
+    (n ≤ (absorb r.block r.run).size) × (IsClear S (resized r n) → ⊥))
+ResizeRefused upper S start segment n (Short most) = (r : BlockRunAt upper S start segment) ×
+    (most ≡ (absorb r.block r.run).size) × (most < n)
 ResizeRefused upper S start segment n NoBlock = (L : List Header) × IsArena S start L × IsNoBlock upper L segment
 
 -- function 4Ah: the block that begins at a segment gets n paragraphs, which may be 0, from memory S to memory T, and
 -- the headers of the resized list are all that changes; an error leaves memory unchanged
 abbrev pub Resizes : Bool → Memory → ℕ → ℕ → Result (Unit {0}) ArenaRefusal → Memory → Type 0
-Resizes upper S segment n (Ok u) T = (r : BlockRunAt upper S first_header segment) × (n ≤ (absorb r.block r.run).size) × Becomes S first_header (resized r n) T
+Resizes upper S segment n (Ok u) T = (r : BlockRunAt upper S first_header segment) × (n ≤ (absorb r.block r.run).size) ×
+    Becomes S first_header (resized r n) T
 Resizes upper S segment n (Err e) T = (T ≡ S) × ResizeRefused upper S first_header segment n e
 
 -- the header, with owner 0 if its owner is the given one
@@ -127,7 +132,8 @@ pub record ReleasesBoth (upper : Bool) (S : Memory) (owner : ℕ) (T : Memory) :
 -- why an owner's blocks are not freed: S spells no clear first list; or upper memory has a list by itself, and S
 -- spells none there that is clear together with the first
 abbrev pub ReleaseRefused : Bool → Memory → Type 0
-ReleaseRefused upper S = NoArena S first_header ⊎ ((L : List Header) × IsArena S first_header L × (is_parted upper L ≡ true) × NoArenaBehind S L link_header)
+ReleaseRefused upper S = NoArena S first_header ⊎ ((L : List Header) × IsArena S first_header L ×
+    (is_parted upper L ≡ true) × NoArenaBehind S L link_header)
 
 -- each block of an owner is freed, from memory S to memory T; the only error is `Destroyed`, which leaves memory
 -- unchanged

@@ -15,7 +15,8 @@ use Rattle.dm_arena.specs.Allocation.{Taking, with_cut}
 -- segment owns both. Each block is looked for by the strategy that is in effect in the list from which it is taken:
 -- where the first block makes the link block's header, the strategy's area counts for the second block, though not for
 -- the first
-pub record Pairing (upper : Bool) (S : Memory) (start : ℕ) (strategy : Strategy) (environment least most owner size : ℕ) : Type 0 where
+pub record Pairing (upper : Bool) (S : Memory) (start : ℕ) (strategy : Strategy)
+    (environment least most owner size : ℕ) : Type 0 where
   pub first : Taking upper S start strategy environment
   pub before : List Header
   pub block : Header
@@ -27,8 +28,11 @@ pub record Pairing (upper : Bool) (S : Memory) (start : ℕ) (strategy : Strateg
   pub owner_is : owner ≡ taken_segment strategy.fit size block + 1
 
 -- the list with both blocks of a `Pairing` taken, and the rests of the cut blocks free
-abbrev pub with_pair : {upper : Bool} {S : Memory} {start : ℕ} {strategy : Strategy} {environment least most owner size : ℕ} → Pairing upper S start strategy environment least most owner size → List Header
-with_pair {upper} {S} {start} {strategy} {environment} {least} {most} {owner} {size} p = p.before ++ (cut_block strategy.fit size owner p.block ++ p.after)
+abbrev pub with_pair : {upper : Bool} {S : Memory} {start : ℕ} {strategy : Strategy}
+    {environment least most owner size : ℕ} → Pairing upper S start strategy environment least most owner size →
+    List Header
+with_pair {upper} {S} {start} {strategy} {environment} {least} {most} {owner} {size} p =
+    p.before ++ (cut_block strategy.fit size owner p.block ++ p.after)
 
 -- why no pair is allocated: `Destroyed` if S spells no clear list, or the list with both blocks would not be clear;
 -- `Short` if there is no room for both, where `room` is the largest free block that the strategy looks at for the
@@ -36,7 +40,8 @@ with_pair {upper} {S} {start} {strategy} {environment} {least} {most} {owner} {s
 abbrev pub PairRefused : Bool → Memory → ℕ → Strategy → ℕ → ℕ → ℕ → ArenaRefusal → Type 0
 PairRefused upper S start strategy environment least most Destroyed =
     NoArena S start
-    ⊎ ((owner : ℕ) × (size : ℕ) × (p : Pairing upper S start strategy environment least most owner size) × (IsClear S (with_pair p) → ⊥))
+    ⊎ ((owner : ℕ) × (size : ℕ) × (p : Pairing upper S start strategy environment least most owner size) ×
+    (IsClear S (with_pair p) → ⊥))
 PairRefused upper S start strategy environment least most (Short room) =
     (L : List Header) × IsArena S start L × (room ≡ largest upper (in_effect upper L strategy) (join upper L))
     × ((owner size : ℕ) → Pairing upper S start strategy environment least most owner size → ⊥)
@@ -53,7 +58,8 @@ pub record Planned : Type 0 where
   pub second : List Header
 
 -- `pair` is the plan of a `Pairing` on the memory S, and the list with both blocks is clear
-pub record IsPair (upper : Bool) (S : Memory) (start : ℕ) (strategy : Strategy) (environment least most : ℕ) (pair : Planned) : Type 0 where
+pub record IsPair (upper : Bool) (S : Memory) (start : ℕ) (strategy : Strategy) (environment least most : ℕ)
+    (pair : Planned) : Type 0 where
   pub pairing : Pairing upper S start strategy environment least most pair.program pair.size
   pub environment_is : pair.environment ≡ taken_segment strategy.fit environment pairing.first.block + 1
   pub first_is : pair.first ≡ cut_block strategy.fit environment pair.program pairing.first.block
@@ -75,9 +81,11 @@ placed_of pair = record { environment = pair.environment; program = pair.program
 -- changes; an error leaves memory unchanged. `upper` is the setting whether upper memory belongs to the arena
 abbrev pub Pairs : Bool → Memory → Strategy → ℕ → ℕ → ℕ → Result Placed ArenaRefusal → Memory → Type 0
 Pairs upper S strategy environment least most (Ok placed) T =
-    (pair : Planned) × (p : IsPair upper S first_header strategy environment least most pair) × (placed ≡ placed_of pair)
+    (pair : Planned) × (p : IsPair upper S first_header strategy environment least most pair) ×
+    (placed ≡ placed_of pair)
     × Becomes S first_header (with_pair p.pairing) T
-Pairs upper S strategy environment least most (Err e) T = (T ≡ S) × PairRefused upper S first_header strategy environment least most e
+Pairs upper S strategy environment least most (Err e) T = (T ≡ S) ×
+    PairRefused upper S first_header strategy environment least most e
 
 -- the pair was planned on this memory and setting, for some strategy and sizes
 pub record IsPlannedOn (upper : Bool) (S : Memory) (pair : Planned) : Type 0 where

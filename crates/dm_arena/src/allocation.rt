@@ -33,10 +33,12 @@ fn plan_allocation(
     owner: u16,
     upper: bool,
 ) -> Result<Plan, ArenaRefusal>
-    ensures plan { MatchResult result (λ plan. IsPlan upper space.now.memory first_header strategy n owner plan) (λ e. AllocateRefused upper space.now.memory first_header strategy n owner e) }
+    ensures plan { MatchResult result (λ plan. IsPlan upper space.now.memory first_header strategy n owner plan) (λ e.
+        AllocateRefused upper space.now.memory first_header strategy n owner e) }
     ensures first { IfOk result (λ plan. next plan.cut.first ≤ 0xFFFF) }
     ensures second { IfOk result (λ plan. MatchOption plan.cut.second (Unit {0}) (λ c. next c ≤ 0xFFFF)) }
-    ensures joined { IfOk result (λ plan. (L : List Header) → IsArena space.now.memory first_header L → IsJoinedTo upper space.now.memory L plan.from) }
+    ensures joined { IfOk result (λ plan. (L : List Header) → IsArena space.now.memory first_header L →
+        IsJoinedTo upper space.now.memory L plan.from) }
 {
     let Some(Survey { choice, from }) = survey_arena(space, strategy, n, upper) else {
         return Err(ArenaRefusal::Destroyed);
@@ -61,11 +63,13 @@ fn plan_allocation(
 /// of a cut in place of that of the block of the joined list that the cut was made from. Bytes 0 to 4 of the headers of
 /// the new list are all that changes.
 fn write_joined(space: &mut Space, cut: Cut, from: u16, upper: bool)
-    requires joined { (L : List Header) → IsArena space.old.memory first_header L → IsJoinedTo upper space.old.memory L from }
+    requires joined { (L : List Header) → IsArena space.old.memory first_header L →
+        IsJoinedTo upper space.old.memory L from }
     requires placing { Placing upper space.old.memory first_header (cut_list cut) }
     requires first { next cut.first ≤ 0xFFFF }
     requires second { MatchOption cut.second (Unit {0}) (λ c. next c ≤ 0xFFFF) }
-    ensures memory { (p : Placing upper space.old.memory first_header (cut_list cut)) → Becomes space.old.memory first_header (p.before ++ (cut_list cut ++ p.after)) space.new.memory }
+    ensures memory { (p : Placing upper space.old.memory first_header (cut_list cut)) →
+        Becomes space.old.memory first_header (p.before ++ (cut_list cut ++ p.after)) space.new.memory }
     ensures scratch { space.new.scratch ≡ space.old.scratch }
 {
     join_from(space, from, upper);

@@ -74,7 +74,8 @@ pub(crate) fn taken_of(fit: Fit, n: u16, block: Header) -> u16
 pub(crate) fn write_cut(space: &mut Space, cut: Cut, last: bool)
     requires first { next cut.first ≤ 0xFFFF }
     requires second { MatchOption cut.second (Unit {0}) (λ c. next c ≤ 0xFFFF) }
-    ensures memory { (start : ℕ) (P B Q : List Header) (h t : ℕ) → IsReplaceable space.old.memory start P B Q (cut_list cut) last h t → IsReplaced space.old.memory start P Q (cut_list cut) space.new.memory }
+    ensures memory { (start : ℕ) (P B Q : List Header) (h t : ℕ) → IsReplaceable space.old.memory start P B Q (cut_list
+        cut) last h t → IsReplaced space.old.memory start P Q (cut_list cut) space.new.memory }
     ensures scratch { space.new.scratch ≡ space.old.scratch }
 {
     match cut.second {

@@ -69,7 +69,8 @@ pub(crate) struct Choice {
 /// and the list goes on there; else it looks at all blocks.
 pub(crate) fn in_effect(space: &Space, strategy: Strategy, upper: bool) -> Strategy
     requires { (L : List Header) × IsSpelledFrom space.now.memory first_header L }
-    ensures { (L : List Header) → IsSpelledFrom space.now.memory first_header L → result ≡ Blocks.in_effect upper L strategy }
+    ensures { (L : List Header) → IsSpelledFrom space.now.memory first_header L →
+        result ≡ Blocks.in_effect upper L strategy }
 {
     if upper && is_linked(space) {
         return strategy;
@@ -86,7 +87,8 @@ pub(crate) fn in_effect_beside(
     upper: bool,
 ) -> Strategy
     requires { (L : List Header) × IsSpelledFrom space.now.memory first_header L }
-    ensures { (L : List Header) → IsSpelledFrom space.now.memory first_header L → result ≡ Blocks.in_effect upper (option_to_list new ++ L) strategy }
+    ensures { (L : List Header) → IsSpelledFrom space.now.memory first_header L →
+        result ≡ Blocks.in_effect upper (option_to_list new ++ L) strategy }
 {
     let Some(header) = new else {
         return in_effect(space, strategy, upper);
@@ -242,8 +244,10 @@ pub(crate) fn choose(
     upper: bool,
 ) -> Choice
     requires { (L : List Header) × IsSpelledFrom space.now.memory first_header L }
-    ensures block { (L : List Header) → IsSpelledFrom space.now.memory first_header L → result.block ≡ pick upper strategy n None (left_of spoken (join upper L)) }
-    ensures largest { (L : List Header) → IsSpelledFrom space.now.memory first_header L → result.largest ≡ largest upper strategy (left_of spoken (join upper L)) }
+    ensures block { (L : List Header) → IsSpelledFrom space.now.memory first_header L →
+        result.block ≡ pick upper strategy n None (left_of spoken (join upper L)) }
+    ensures largest { (L : List Header) → IsSpelledFrom space.now.memory first_header L →
+        result.largest ≡ largest upper strategy (left_of spoken (join upper L)) }
 {
     let mut choice = Choice {
         block: None,

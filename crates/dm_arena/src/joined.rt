@@ -18,7 +18,8 @@ pub(crate) fn joined_at(space: &Space, segment: u16, upper: bool) -> ListedHeade
     requires { (L : List Header) × IsSpelledFrom space.now.memory segment L }
     ensures there { result.header.segment ≡ segment }
     ensures fits { next result.header ≤ 0xFFFF }
-    ensures front { (L : List Header) → IsSpelledFrom space.now.memory segment L → (K : List Header) × IsJoinedFront upper space.now.memory L result K }
+    ensures front { (L : List Header) → IsSpelledFrom space.now.memory segment L → (K : List Header) ×
+        IsJoinedFront upper space.now.memory L result K }
 {
     let mut entry = spelled_entry(space, segment);
     loop {
@@ -46,7 +47,8 @@ pub(crate) fn run_at(space: &Space, segment: u16, upper: bool) -> Run
     requires { (L : List Header) × IsSpelledFrom space.now.memory segment L }
     ensures there { result.entry.header.segment ≡ segment }
     ensures fits { next result.entry.header ≤ 0xFFFF }
-    ensures front { (L : List Header) → IsSpelledFrom space.now.memory segment L → (K : List Header) × IsRunFront upper space.now.memory L result K }
+    ensures front { (L : List Header) → IsSpelledFrom space.now.memory segment L → (K : List Header) ×
+        IsRunFront upper space.now.memory L result K }
 {
     let mut entry = spelled_entry(space, segment);
     let mut several = false;
@@ -68,8 +70,10 @@ pub(crate) fn run_at(space: &Space, segment: u16, upper: bool) -> Run
 /// run. Bytes 0 to 4 of the headers of the joined list are all that changes; `upper` as for `joined_at`.
 pub(crate) fn join_from(space: &mut Space, from: u16, upper: bool)
     requires arena { (L : List Header) × IsArena space.old.memory first_header L }
-    requires joined { (L : List Header) → IsArena space.old.memory first_header L → IsJoinedTo upper space.old.memory L from }
-    ensures memory { (L : List Header) → IsArena space.old.memory first_header L → IsJoined upper space.old.memory first_header L space.new.memory }
+    requires joined { (L : List Header) → IsArena space.old.memory first_header L →
+        IsJoinedTo upper space.old.memory L from }
+    ensures memory { (L : List Header) → IsArena space.old.memory first_header L →
+        IsJoined upper space.old.memory first_header L space.new.memory }
     ensures scratch { space.new.scratch ≡ space.old.scratch }
 {
     let mut segment = from;
@@ -86,7 +90,8 @@ pub(crate) fn join_from(space: &mut Space, from: u16, upper: bool)
 /// Writes the first list with each run of free blocks joined into one, as [`join_from`] does from its first header on.
 pub(crate) fn join_all(space: &mut Space, upper: bool)
     requires { (L : List Header) × IsArena space.old.memory first_header L }
-    ensures memory { (L : List Header) → IsArena space.old.memory first_header L → IsJoined upper space.old.memory first_header L space.new.memory }
+    ensures memory { (L : List Header) → IsArena space.old.memory first_header L →
+        IsJoined upper space.old.memory first_header L space.new.memory }
     ensures scratch { space.new.scratch ≡ space.old.scratch }
 {
     join_from(space, FIRST, upper);

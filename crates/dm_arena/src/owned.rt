@@ -35,7 +35,8 @@ fn find_block(space: &Space, segment: u16, upper: bool) -> Option<ListedHeader>
 /// where memory spells no clear list, else `NoBlock` where no block of the list begins at the segment, or the link
 /// block does.
 fn find_owned(space: &Space, segment: u16, upper: bool) -> Result<ListedHeader, ArenaRefusal>
-    ensures { MatchResult result (λ e. IsOwnedAt upper space.now.memory segment e) (λ e. IsNowhere upper space.now.memory segment e) }
+    ensures { MatchResult result (λ e. IsOwnedAt upper space.now.memory segment e) (λ e. IsNowhere upper
+        space.now.memory segment e) }
 {
     if !upper {
         if let Some(found) = find_low(space, segment) {
@@ -84,7 +85,8 @@ fn grow(space: &Space, entry: ListedHeader, upper: bool) -> ListedHeader
     requires fits { next entry.header ≤ 0xFFFF }
     requires growable { (K : List Header) × IsGrowable space.now.memory entry K }
     ensures fits { next result.header ≤ 0xFFFF }
-    ensures grown { (K : List Header) → IsGrowable space.now.memory entry K → (R : List Header) × (Q : List Header) × IsGrown upper space.now.memory entry K result R Q × BeginsTaken upper Q }
+    ensures grown { (K : List Header) → IsGrowable space.now.memory entry K → (R : List Header) × (Q : List Header) ×
+        IsGrown upper space.now.memory entry K result R Q × BeginsTaken upper Q }
 {
     let mut grown = entry;
     'walk: loop {
@@ -150,7 +152,8 @@ fn released_of(header: Header, owner: u16) -> Header
 /// headers are all that changes.
 fn release(space: &mut Space, first: u16, owner: u16)
     requires { (L : List Header) × IsArena space.old.memory first L }
-    ensures memory { (L : List Header) → IsArena space.old.memory first L → Becomes space.old.memory first (released owner L) space.new.memory }
+    ensures memory { (L : List Header) → IsArena space.old.memory first L → Becomes space.old.memory first (released
+        owner L) space.new.memory }
     ensures scratch { space.new.scratch ≡ space.old.scratch }
 {
     let mut here = first;

@@ -113,7 +113,11 @@ fn smaller(most: u32, left: u16) -> u16
 /// beside each other: writes there are kept, and no two share a place.
 fn are_clear(space: &Space, first: Cut, second: Cut, upper: bool) -> bool
     requires { (L : List Header) × IsSpelledFrom space.now.memory first_header L }
-    ensures { (L : List Header) → IsSpelledFrom space.now.memory first_header L → IsNew (join upper L) first.second → IsNew (option_to_list first.second ++ join upper L) second.second → MatchBool result (MaySplit space.now.memory (join upper L) first.second × MaySplit space.now.memory (option_to_list first.second ++ join upper L) second.second) ((MaySplit space.now.memory (join upper L) first.second → ⊥) ⊎ (MaySplit space.now.memory (option_to_list first.second ++ join upper L) second.second → ⊥)) }
+    ensures { (L : List Header) → IsSpelledFrom space.now.memory first_header L → IsNew (join upper L) first.second →
+        IsNew (option_to_list first.second ++ join upper L) second.second → MatchBool result (MaySplit space.now.memory
+        (join upper L) first.second × MaySplit space.now.memory (option_to_list first.second
+        ++ join upper L) second.second) ((MaySplit space.now.memory (join upper L) first.second → ⊥) ⊎
+        (MaySplit space.now.memory (option_to_list first.second ++ join upper L) second.second → ⊥)) }
 {
     if !may_split(space, FIRST, None, first.second, upper) {
         return false;
@@ -142,7 +146,9 @@ pub fn plan_pair(
     most: u32,
     upper: bool,
 ) -> Result<Pair, ArenaRefusal>
-    ensures { MatchResult result (λ pair. IsPair upper space.now.memory first_header strategy environment_paragraphs least most pair) (λ e. PairRefused upper space.now.memory first_header strategy environment_paragraphs least most e) }
+    ensures { MatchResult result (λ pair. IsPair upper space.now.memory first_header strategy environment_paragraphs
+        least most pair) (λ e. PairRefused upper space.now.memory first_header strategy environment_paragraphs least
+        most e) }
 {
     if !is_arena(space) {
         return Err(ArenaRefusal::Destroyed);
@@ -188,7 +194,8 @@ pub fn plan_pair(
 /// Memory and setting are as the pair was planned on. Bytes 0 to 4 of the headers of the new list are all that changes.
 pub fn write_pair(space: &mut Space, pair: Pair, upper: bool)
     requires { IsPlannedOn upper space.old.memory pair }
-    ensures memory { (p : IsPlannedOn upper space.old.memory pair) → Becomes space.old.memory first_header (with_pair p.planned.pairing) space.new.memory }
+    ensures memory { (p : IsPlannedOn upper space.old.memory pair) → Becomes space.old.memory first_header (with_pair
+        p.planned.pairing) space.new.memory }
     ensures scratch { space.new.scratch ≡ space.old.scratch }
 {
     let Pair { first, second, .. } = pair;

@@ -21,7 +21,8 @@ use dm_space::{Place, Space};
 
 /// Whether the byte at segment:0, the first of a header there, is the byte of a page at this offset.
 fn is_on(space: &Space, segment: u16, block: Block, offset: usize) -> bool
-    ensures { MatchBool result (place space.now.memory (16 * segment) ≡ Page block offset) (place space.now.memory (16 * segment) ≢ Page block offset) }
+    ensures { MatchBool result (place space.now.memory (16 * segment) ≡ Page block offset) (place space.now.memory
+        (16 * segment) ≢ Page block offset) }
 {
     let Place::Page(shown, at) = space.back(segment) else {
         return false;
@@ -34,7 +35,8 @@ fn is_on(space: &Space, segment: u16, block: Block, offset: usize) -> bool
 
 /// Whether a header, if there is one, stands at the byte of a page at this offset.
 fn has_place(space: &Space, header: Option<Header>, block: Block, offset: usize) -> bool
-    ensures { MatchBool result (Occupies space.now.memory (option_to_list header) (Page block offset)) (Occupies space.now.memory (option_to_list header) (Page block offset) → ⊥) }
+    ensures { MatchBool result (Occupies space.now.memory (option_to_list header) (Page block offset)) (Occupies
+        space.now.memory (option_to_list header) (Page block offset) → ⊥) }
 {
     match header {
         None => false,
@@ -46,7 +48,8 @@ fn has_place(space: &Space, header: Option<Header>, block: Block, offset: usize)
 /// offset.
 fn stands_joined(space: &Space, first: u16, block: Block, offset: usize, upper: bool) -> bool
     requires { (L : List Header) × IsSpelledFrom space.now.memory first L }
-    ensures { (L : List Header) → IsSpelledFrom space.now.memory first L → MatchBool result (Occupies space.now.memory (join upper L) (Page block offset)) (Occupies space.now.memory (join upper L) (Page block offset) → ⊥) }
+    ensures { (L : List Header) → IsSpelledFrom space.now.memory first L → MatchBool result (Occupies space.now.memory
+        (join upper L) (Page block offset)) (Occupies space.now.memory (join upper L) (Page block offset) → ⊥) }
 {
     let mut segment = first;
     'walk: loop {
@@ -71,7 +74,9 @@ fn is_on_outside(
     block: Block,
     offset: usize,
 ) -> bool
-    ensures { MatchBool result (((segment ≤ low) ⊎ (high ≤ segment)) × (place space.now.memory (16 * segment) ≡ Page block offset)) ((segment ≤ low) ⊎ (high ≤ segment) → place space.now.memory (16 * segment) ≢ Page block offset) }
+    ensures { MatchBool result (((segment ≤ low) ⊎ (high ≤ segment)) ×
+        (place space.now.memory (16 * segment) ≡ Page block offset)) ((segment ≤ low) ⊎ (high ≤ segment) →
+        place space.now.memory (16 * segment) ≢ Page block offset) }
 {
     if segment <= low {
         return is_on(space, segment, block, offset);
@@ -93,7 +98,9 @@ fn stands_outside(
     offset: usize,
 ) -> bool
     requires { (L : List Header) × IsSpelledFrom space.now.memory first L }
-    ensures { (L M : List Header) → IsSpelledFrom space.now.memory first L → AreOutside L low high M → MatchBool result (Occupies space.now.memory M (Page block offset)) (Occupies space.now.memory M (Page block offset) → ⊥) }
+    ensures { (L M : List Header) → IsSpelledFrom space.now.memory first L → AreOutside L low high M →
+        MatchBool result (Occupies space.now.memory M (Page block offset)) (Occupies space.now.memory M
+        (Page block offset) → ⊥) }
 {
     let mut segment = first;
     'walk: loop {
@@ -119,7 +126,9 @@ fn is_occupied(
     upper: bool,
 ) -> bool
     requires { (L : List Header) × IsSpelledFrom space.now.memory first L }
-    ensures { (L : List Header) → IsSpelledFrom space.now.memory first L → MatchBool result (Occupies space.now.memory (option_to_list beside ++ join upper L) (Page block offset)) (Occupies space.now.memory (option_to_list beside ++ join upper L) (Page block offset) → ⊥) }
+    ensures { (L : List Header) → IsSpelledFrom space.now.memory first L → MatchBool result (Occupies space.now.memory
+        (option_to_list beside ++ join upper L) (Page block offset)) (Occupies space.now.memory (option_to_list beside
+        ++ join upper L) (Page block offset) → ⊥) }
 {
     if has_place(space, beside, block, offset) {
         return true;
@@ -137,7 +146,9 @@ pub(crate) fn may_split(
     upper: bool,
 ) -> bool
     requires { (L : List Header) × IsSpelledFrom space.now.memory first L }
-    ensures { (L : List Header) → IsSpelledFrom space.now.memory first L → IsNew (option_to_list beside ++ join upper L) new → MatchBool result (MaySplit space.now.memory (option_to_list beside ++ join upper L) new) (MaySplit space.now.memory (option_to_list beside ++ join upper L) new → ⊥) }
+    ensures { (L : List Header) → IsSpelledFrom space.now.memory first L → IsNew (option_to_list beside
+        ++ join upper L) new → MatchBool result (MaySplit space.now.memory (option_to_list beside
+        ++ join upper L) new) (MaySplit space.now.memory (option_to_list beside ++ join upper L) new → ⊥) }
 {
     let Some(header) = new else {
         return true;
@@ -160,7 +171,8 @@ pub(crate) fn may_split_outside(
     new: Option<Header>,
 ) -> bool
     requires { (L : List Header) × IsSpelledFrom space.now.memory first L }
-    ensures { (L M : List Header) → IsSpelledFrom space.now.memory first L → AreOutside L low high M → IsNew M new → MatchBool result (MaySplit space.now.memory M new) (MaySplit space.now.memory M new → ⊥) }
+    ensures { (L M : List Header) → IsSpelledFrom space.now.memory first L → AreOutside L low high M → IsNew M new →
+        MatchBool result (MaySplit space.now.memory M new) (MaySplit space.now.memory M new → ⊥) }
 {
     let Some(header) = new else {
         return true;

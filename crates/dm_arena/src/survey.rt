@@ -26,12 +26,15 @@ pub(crate) struct Survey {
 /// is read can't be one, or stands at segment C000h or above.
 fn low_run_after(space: &Space, first: ListedHeader, upper: bool) -> Option<Run>
     requires fits { next first.header ≤ 0xFFFF }
-    requires front { (L : List Header) → IsSpelledFrom space.now.memory first.header.segment L → (K : List Header) × IsFront space.now.memory L first K }
+    requires front { (L : List Header) → IsSpelledFrom space.now.memory first.header.segment L → (K : List Header) ×
+        IsFront space.now.memory L first K }
     requires proceeds { LeadsOn space.now.memory first.header.segment first.last (next first.header) }
     ensures there { IfSome result (λ r. r.entry.header.segment ≡ first.header.segment) }
     ensures fits { IfSome result (λ r. next r.entry.header ≤ 0xFFFF) }
-    ensures front { IfSome result (λ r. (L : List Header) → IsSpelledFrom space.now.memory first.header.segment L → (K : List Header) × IsRunFront upper space.now.memory L r K) }
-    ensures proceeds { IfSome result (λ r. LeadsOn space.now.memory first.header.segment r.entry.last (next r.entry.header)) }
+    ensures front { IfSome result (λ r. (L : List Header) → IsSpelledFrom space.now.memory first.header.segment L →
+        (K : List Header) × IsRunFront upper space.now.memory L r K) }
+    ensures proceeds { IfSome result (λ r. LeadsOn space.now.memory first.header.segment r.entry.last
+        (next r.entry.header)) }
 {
     let mut entry = first;
     let mut several = false;
@@ -63,7 +66,8 @@ fn next_from(several: bool, from: u16, segment: u16) -> u16
 /// largest.
 pub(crate) fn survey_all(space: &Space, strategy: Strategy, n: u16, upper: bool) -> Survey
     requires { (L : List Header) × IsSpelledFrom space.now.memory first_header L }
-    ensures { (L : List Header) → IsSpelledFrom space.now.memory first_header L → IsSurvey upper space.now.memory L strategy n result }
+    ensures { (L : List Header) → IsSpelledFrom space.now.memory first_header L →
+        IsSurvey upper space.now.memory L strategy n result }
 {
     let mut choice = Choice {
         block: None,
@@ -98,7 +102,8 @@ pub(crate) fn survey_all(space: &Space, strategy: Strategy, n: u16, upper: bool)
 /// walk serves instead of two. None where it isn't, or doesn't lie below segment C000h.
 pub(crate) fn survey_low(space: &Space, strategy: Strategy, n: u16, upper: bool) -> Option<Survey>
     ensures whole { IfSome result (λ s. (L : List Header) × IsArena space.now.memory first_header L) }
-    ensures survey { IfSome result (λ s. (L : List Header) → IsSpelledFrom space.now.memory first_header L → IsSurvey upper space.now.memory L strategy n s) }
+    ensures survey { IfSome result (λ s. (L : List Header) → IsSpelledFrom space.now.memory first_header L →
+        IsSurvey upper space.now.memory L strategy n s) }
 {
     let mut choice = Choice {
         block: None,
@@ -136,7 +141,9 @@ pub(crate) fn survey_low(space: &Space, strategy: Strategy, n: u16, upper: bool)
 /// Does what [`survey_all`] does with the strategy that is in effect, after one walk more only where the list goes on
 /// at segment C000h or above, or upper memory belongs to the arena. None where memory spells no clear list.
 pub(crate) fn survey_arena(space: &Space, strategy: Strategy, n: u16, upper: bool) -> Option<Survey>
-    ensures { MatchOption result (NoArena space.now.memory first_header) (λ s. ((L : List Header) × IsArena space.now.memory first_header L) × ((L : List Header) → IsSpelledFrom space.now.memory first_header L → IsSurvey upper space.now.memory L (in_effect upper L strategy) n s)) }
+    ensures { MatchOption result (NoArena space.now.memory first_header) (λ s. ((L : List Header) ×
+        IsArena space.now.memory first_header L) × ((L : List Header) → IsSpelledFrom space.now.memory first_header L →
+        IsSurvey upper space.now.memory L (in_effect upper L strategy) n s)) }
 {
     if !upper {
         let everywhere = Strategy::everywhere(strategy.fit);

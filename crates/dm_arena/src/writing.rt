@@ -50,7 +50,8 @@ fn set_low_byte(space: &mut Space, segment: u16, offset: u16, value: u8)
 fn set_low_word(space: &mut Space, segment: u16, offset: u16, value: u16)
     requires offset { offset < 15 }
     requires low { segment < 0xC000 }
-    ensures memory { (M : Memory) × IsPoked space.old.memory (16 * segment + offset) (value % 256) M × IsPoked M (16 * segment + (offset + 1)) (value / 256) space.new.memory }
+    ensures memory { (M : Memory) × IsPoked space.old.memory (16 * segment + offset) (value % 256) M ×
+        IsPoked M (16 * segment + (offset + 1)) (value / 256) space.new.memory }
     ensures scratch { space.new.scratch ≡ space.old.scratch }
 {
     knows_sizes(space);

@@ -12,7 +12,8 @@ split_none : (t : Bool) (x : ℕ) (r : Option ℕ) → (if t then Some x else r)
 split_none true x r h = absurd cc
 split_none false x r h = (refl, h)
 
-apart_from : (t u : Bool) (a p : ℕ) (r : Option ℕ) → (t ≡ true → u ≡ true → ⊥) → (if t then Some a else (if u then Some p else r)) ≡ (if u then Some p else (if t then Some a else r))
+apart_from : (t u : Bool) (a p : ℕ) (r : Option ℕ) → (t ≡ true → u ≡ true → ⊥) →
+    (if t then Some a else (if u then Some p else r)) ≡ (if u then Some p else (if t then Some a else r))
 apart_from true true a p r h = absurd (h refl refl)
 apart_from true false a p r h = refl
 apart_from false true a p r h = refl
@@ -23,12 +24,15 @@ joined_names : (a b c : List ℕ) → bytes_eq a c ≡ true → bytes_eq b c ≡
 joined_names a b c e f = (bytes_eq-Decides a b).1 ((bytes_eq-Decides a c).0 e ∙ sym ((bytes_eq-Decides b c).0 f))
 
 other_way : (a b : List ℕ) → bytes_eq a b ≡ false → bytes_eq b a ≡ false
-other_way a b h = false_from_ne_true (bytes_eq b a) (λ e. let g : bytes_eq a b ≡ true = (bytes_eq-Decides a b).1 (sym ((bytes_eq-Decides b a).0 e)) in cc)
+other_way a b h = false_from_ne_true (bytes_eq b a) (λ e. let g : bytes_eq a b ≡ true =
+    (bytes_eq-Decides a b).1 (sym ((bytes_eq-Decides b a).0 e)) in cc)
 
 wrong : (b : Bool) → b ≡ true → b ≡ false → ⊥
 wrong b p q = cc
 
-pub find_more : (q name : Name'.Name) (place : ℕ) (ls : List Label) → place_of_label name ls ≡ None → place_of_label q (ls ++ record { name = name; place = place } ∷ []) ≡ (if bytes_eq name.bytes q.bytes then Some place else place_of_label q ls)
+pub find_more : (q name : Name'.Name) (place : ℕ) (ls : List Label) → place_of_label name ls ≡ None →
+    place_of_label q (ls ++ record { name = name; place = place } ∷ []) ≡ (if bytes_eq name.bytes q.bytes then
+    Some place else place_of_label q ls)
 find_more q name place [] h = refl
 find_more q name place (l ∷ ls) h =
     let s = split_none (bytes_eq l.name.bytes name.bytes) l.place (place_of_label name ls) h in
@@ -36,22 +40,26 @@ find_more q name place (l ∷ ls) h =
     ∙ apart_from (bytes_eq l.name.bytes q.bytes) (bytes_eq name.bytes q.bytes) l.place place (place_of_label q ls)
     (λ e f. wrong (bytes_eq l.name.bytes name.bytes) (joined_names l.name.bytes name.bytes q.bytes e f) s.0)
 
-pub none_front : (name : Name'.Name) (xs ys : List Label) → place_of_label name (xs ++ ys) ≡ None → place_of_label name xs ≡ None
+pub none_front : (name : Name'.Name) (xs ys : List Label) → place_of_label name (xs ++ ys) ≡ None →
+    place_of_label name xs ≡ None
 none_front name [] ys h = refl
 none_front name (x ∷ xs) ys h =
     let s = split_none (bytes_eq x.name.bytes name.bytes) x.place (place_of_label name (xs ++ ys)) h in
     rw s.0 (none_front name xs ys s.1)
 
-none_at : (name : Name'.Name) (xs : List Label) (l : Label) (ys : List Label) → place_of_label name (xs ++ l ∷ ys) ≡ None → bytes_eq l.name.bytes name.bytes ≡ false
+none_at : (name : Name'.Name) (xs : List Label) (l : Label) (ys : List Label) → place_of_label name (xs ++ l
+    ∷ ys) ≡ None → bytes_eq l.name.bytes name.bytes ≡ false
 none_at name [] l ys h = (split_none (bytes_eq l.name.bytes name.bytes) l.place (place_of_label name ys) h).0
-none_at name (x ∷ xs) l ys h = none_at name xs l ys (split_none (bytes_eq x.name.bytes name.bytes) x.place (place_of_label name (xs ++ l ∷ ys)) h).1
+none_at name (x ∷ xs) l ys h = none_at name xs l ys (split_none (bytes_eq x.name.bytes name.bytes) x.place
+    (place_of_label name (xs ++ l ∷ ys)) h).1
 
 pub once_front : (xs ys : List Label) → AreOnce (xs ++ ys) → AreOnce xs
 once_front [] ys h = tt
 once_front (x ∷ xs) ys h = (none_front x.name xs ys h.0, once_front xs ys h.1)
 
 -- a label that is there once stands in no front
-pub once_free : (xs : List Label) (l : Label) (ys : List Label) → AreOnce (xs ++ l ∷ ys) → place_of_label l.name xs ≡ None
+pub once_free : (xs : List Label) (l : Label) (ys : List Label) → AreOnce (xs ++ l ∷ ys) →
+    place_of_label l.name xs ≡ None
 once_free [] l ys h = refl
 once_free (x ∷ xs) l ys h =
     rw (other_way l.name.bytes x.name.bytes (none_at x.name xs l ys h.0)) (once_free xs l ys h.1)

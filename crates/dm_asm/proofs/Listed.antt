@@ -93,20 +93,37 @@ number_printed n = (omega arith, (digit_printed (n / 16), (digit_printed (n % 16
 
 numbers_printed : (bs : List ℕ) → Printed (flat_map (λ c. codes "," ++ byte_in_text c) bs)
 numbers_printed [] = tt
-numbers_printed (b ∷ bs) = (omega arith, printed-append (byte_in_text b) (flat_map (λ c. codes "," ++ byte_in_text c) bs) (number_printed b) (numbers_printed bs))
+numbers_printed (b ∷ bs) = (
+  omega arith,
+  printed-append (byte_in_text b) (flat_map (λ c. codes ","
+      ++ byte_in_text c) bs) (number_printed b) (numbers_printed bs),
+)
 
 data_printed : (bs : List ℕ) → Printed (data_text bs)
 data_printed [] = (omega arith, (omega arith, (omega arith, tt)))
-data_printed (b ∷ bs) = (omega arith, (omega arith, (omega arith, printed-append (byte_in_text b) (flat_map (λ c. codes "," ++ byte_in_text c) bs) (number_printed b) (numbers_printed bs))))
+data_printed (b ∷ bs) = (
+  omega arith,
+  (
+    omega arith,
+    (
+      omega arith,
+      printed-append (byte_in_text b) (flat_map (λ c. codes "," ++ byte_in_text c) bs) (number_printed b)
+          (numbers_printed
+          bs),
+    ),
+  ),
+)
 
 numbers_long : (bs : List ℕ) → length (flat_map (λ c. codes "," ++ byte_in_text c) bs) ≡ 5 * length bs
 unfolding byte_in_text
 numbers_long [] = refl
-numbers_long (b ∷ bs) = let h : length (flat_map (λ c. codes "," ++ byte_in_text c) bs) ≡ 5 * length bs = numbers_long bs in omega (arith, h)
+numbers_long (b ∷ bs) = let h : length (flat_map (λ c. codes "," ++ byte_in_text c) bs) ≡ 5 * length bs =
+    numbers_long bs in omega (arith, h)
 
 data_long : (b : ℕ) (bs : List ℕ) → length (line.data_text b bs) ≡ 7 + 5 * length bs
 unfolding byte_in_text
-data_long b bs = let h : length (flat_map (λ c. codes "," ++ byte_in_text c) bs) ≡ 5 * length bs = numbers_long bs in omega (arith, h)
+data_long b bs = let h : length (flat_map (λ c. codes "," ++ byte_in_text c) bs) ≡ 5 * length bs =
+    numbers_long bs in omega (arith, h)
 
 -- ---- lines
 
@@ -131,7 +148,9 @@ plus_long : (bs : List ℕ) → length (map Plus bs) ≡ length bs
 plus_long [] = refl
 plus_long (b ∷ bs) = ap suc (plus_long bs)
 
-data_line : Laws → (bs comment : List ℕ) (at : ℕ) → AllByRecursion (λ b. b < 2 ^ 8) bs → 0 < length bs → length bs ≤ 16 → IsComment comment → Printed comment → length comment ≤ 66 → IsLine bs at (length bs) (data_text bs ++ comment)
+data_line : Laws → (bs comment : List ℕ) (at : ℕ) → AllByRecursion (λ b. b < 2 ^ 8) bs → 0 < length bs →
+    length bs ≤ 16 → IsComment comment → Printed comment → length comment ≤ 66 → IsLine bs at (length bs) (data_text bs
+    ++ comment)
 data_line g [] comment at fit some few is printed short = absurd (omega (arith, some))
 data_line g (b ∷ bs) comment at fit some few is printed short = record {
   statement = data_statement (b ∷ bs);
@@ -176,15 +195,18 @@ own_fits a next operand.One h = omega arith
 own_fits a next (operand.Target d) h = omega arith
 own_fits a next (operand.FarTarget n s) h = (h.1, h.0)
 
-own_placed : Laws → (a : Action) (next : ℕ) (o : Operand) → written_for [] a.mnemonic next (own_term a next o) ≡ Some (read.shown_operand a next o)
+own_placed : Laws → (a : Action) (next : ℕ) (o : Operand) → written_for [] a.mnemonic next (own_term a next o)
+    ≡ Some (read.shown_operand a next o)
 own_placed g a next o = rw (own_bare a next o) (g.own_terms a next 0 o)
 
-own_words : Laws → (i : Ins) (next : ℕ) → placed_words [] next (own_instruction i next) ≡ Some (words_of_action i.action next)
+own_words : Laws → (i : Ins) (next : ℕ) → placed_words [] next (own_instruction i next)
+    ≡ Some (words_of_action i.action next)
 unfolding words_of_action
 own_words g i next = rw (own_placed g i.action next i.action.first, own_placed g i.action next i.action.second) refl
 
 -- an instruction's own statement has its bytes
-own_coded : Laws → (i : Ins) (x : List ℕ) (at next : ℕ) → IsPreferred i x → next ≡ at + length x → next < 2 ^ 16 → IsCoded [] at (own_instruction i next) x
+own_coded : Laws → (i : Ins) (x : List ℕ) (at next : ℕ) → IsPreferred i x → next ≡ at + length x → next < 2 ^ 16 →
+    IsCoded [] at (own_instruction i next) x
 own_coded g i x at next p e lt =
     let own : Instruction = own_instruction i next in
     let w : Words = words_of_action i.action next in
@@ -192,7 +214,8 @@ own_coded g i x at next p e lt =
     let f = action_fits i.action p.spells.rest s in
     let h : placed_words [] next own ≡ Some w = own_words g i next in
     let are : AreWords w i.action = g.own_words i.action next p.spells.rest lt s in
-    let st : StandsFor (outlined own) w = stands g.outlines [] next own w (own_fits i.action next i.action.first f.0) (own_fits i.action next i.action.second f.1) h in
+    let st : StandsFor (outlined own) w = stands g.outlines [] next own w (own_fits i.action next i.action.first f.0)
+    (own_fits i.action next i.action.second f.1) h in
     let r = g.stand_ins (outlined own) w i.action p.spells.rest st are s in
     let j = has_preferred i.prefixes r.0 r.1 r.3 in
     let jw : AreWords (outlined own) j.ins.action = subst (AreWords (outlined own)) (sym j.action) r.2 in
@@ -213,7 +236,8 @@ own_coded g i x at next p e lt =
       preferred = p;
     }
 
-own_line : Laws → (i : Ins) (x : List ℕ) (at k next : ℕ) → IsPreferred i x → length x ≡ k → next ≡ at + k → next < 2 ^ 16 → IsLine x at k (text_of i next)
+own_line : Laws → (i : Ins) (x : List ℕ) (at k next : ℕ) → IsPreferred i x → length x ≡ k → next ≡ at + k →
+    next < 2 ^ 16 → IsLine x at k (text_of i next)
 own_line g i x at k next p l e lt =
     let c = own_coded g i x at next p (e ∙ ap (λ (n : ℕ). at + n) (sym l)) lt in
     record {
@@ -227,28 +251,48 @@ own_line g i x at k next p l e lt =
 
 -- ---- each line
 
-bytes_fit : (bytes : List ℕ) (at k : ℕ) → AllByRecursion (λ b. b < 2 ^ 8) bytes → AllByRecursion (λ b. b < 2 ^ 8) (bytes_at bytes at k)
+bytes_fit : (bytes : List ℕ) (at k : ℕ) → AllByRecursion (λ b. b < 2 ^ 8) bytes →
+    AllByRecursion (λ b. b < 2 ^ 8) (bytes_at bytes at k)
 bytes_fit bytes at k h =
-    let some : All (λ b. b < 2 ^ 8) (bytes_at bytes at k) = All-take (λ b. b < 2 ^ 8) k (drop at bytes) (All-drop (λ b. b < 2 ^ 8) at bytes (All-from_recursion (λ b. b < 2 ^ 8) bytes h)) in
+    let some : All (λ b. b < 2 ^ 8) (bytes_at bytes at k) =
+    All-take (λ b. b < 2 ^ 8) k (drop at bytes) (All-drop (λ b. b < 2 ^ 8) at bytes (All-from_recursion (λ b. b
+    < 2 ^ 8) bytes h)) in
     recursion_from_All (λ b. b < 2 ^ 8) (bytes_at bytes at k) some
 
-data_at : Laws → (bytes : List ℕ) (at k : ℕ) (comment : List ℕ) → AllByRecursion (λ b. b < 2 ^ 8) bytes → 0 < k → k ≤ 16 → at + k ≤ length bytes → IsComment comment → Printed comment → length comment ≤ 66 → IsLine (bytes_at bytes at k) (0x100 + at) k (data_text (bytes_at bytes at k) ++ comment)
+data_at : Laws → (bytes : List ℕ) (at k : ℕ) (comment : List ℕ) → AllByRecursion (λ b. b < 2 ^ 8) bytes → 0 < k →
+    k ≤ 16 → at + k ≤ length bytes → IsComment comment → Printed comment → length comment ≤ 66 →
+    IsLine (bytes_at bytes at k) (0x100 + at) k (data_text (bytes_at bytes at k) ++ comment)
 data_at g bytes at k comment fit some few within is printed short =
     let own : List ℕ = bytes_at bytes at k in
     let e : length own ≡ k = bytes_long bytes at k within in
     subst (λ (n : ℕ). IsLine own (0x100 + at) n (data_text own ++ comment)) e
-    (data_line g own comment (0x100 + at) (bytes_fit bytes at k fit) (omega (arith, e, some)) (omega (arith, e, few)) is printed short)
+    (data_line g own comment (0x100 + at) (bytes_fit bytes at k fit) (omega (arith, e, some)) (omega (
+      arith,
+      e,
+      few,
+    )) is printed short)
 
-behind_data : Laws → (i : Ins) (next : ℕ) → Printed (codes " ; " ++ text_of i next) × (length (codes " ; " ++ text_of i next) ≤ 66)
-behind_data g i next = let t = g.plain i next in ((omega arith, (omega arith, (omega arith, t.printed))), omega (arith, t.short))
+behind_data : Laws → (i : Ins) (next : ℕ) → Printed (codes " ; " ++ text_of i next) ×
+    (length (codes " ; " ++ text_of i next) ≤ 66)
+behind_data g i next = let t = g.plain i next in (
+  (omega arith, (omega arith, (omega arith, t.printed))),
+  omega (arith, t.short),
+)
 
-shown_line : Laws → (bytes : List ℕ) (at k : ℕ) (line : List ℕ) → AllByRecursion (λ b. b < 2 ^ 8) bytes → length bytes ≤ longest_program → IsPart bytes at k → IsListedLine bytes at k line → IsLine (bytes_at bytes at k) (0x100 + at) k line
+shown_line : Laws → (bytes : List ℕ) (at k : ℕ) (line : List ℕ) → AllByRecursion (λ b. b < 2 ^ 8) bytes →
+    length bytes ≤ longest_program → IsPart bytes at k → IsListedLine bytes at k line →
+    IsLine (bytes_at bytes at k) (0x100 + at) k line
 shown_line g bytes at k line fit few part (preferred i j s p) =
-    own_line g i (bytes_at bytes at k) (0x100 + at) k (0x100 + at + k) p (bytes_long bytes at k part.within) refl (omega (arith, few, part.within))
+    own_line g i (bytes_at bytes at k) (0x100 + at) k (0x100 + at + k) p (bytes_long bytes at k part.within) refl
+    (omega (arith, few, part.within))
 shown_line g bytes at k line fit few part (other i j s p) =
     let c = behind_data g i (0x100 + at + k) in
-    subst (IsLine (bytes_at bytes at k) (0x100 + at) k) (sym (append_assoc (data_text (bytes_at bytes at k)) (codes " ; ") (instruction_text i at k)))
-    (data_at g bytes at k (codes " ; " ++ instruction_text i at k) fit part.some s.short part.within (inr (refl, inl refl)) c.0 c.1)
+    subst (IsLine (bytes_at bytes at k) (0x100 + at) k) (sym (append_assoc (data_text (bytes_at bytes at k))
+    (codes " ; ") (instruction_text i at k)))
+    (data_at g bytes at k (codes " ; " ++ instruction_text i at k) fit part.some s.short part.within (inr (
+      refl,
+      inl refl,
+    )) c.0 c.1)
 shown_line g bytes at k line fit few part (single h n) =
     subst (IsLine (bytes_at bytes at 1) (0x100 + at) 1) (append-nil (data_text (bytes_at bytes at 1)))
     (data_at g bytes at 1 [] fit part.some (omega arith) part.within tt tt (omega arith))
@@ -268,18 +312,35 @@ record AreListed (bytes : List ℕ) (at : ℕ) (text : List ℕ) : Type 0 where
   whole : joined pieces ≡ take at bytes
   long : total statements ≡ at
 
-split_more : (text line : List ℕ) (lines : List (List ℕ)) → Printed line → ((rest : List ℕ) → lines_of (text ++ rest) ≡ lines ++ lines_of rest) → (rest : List ℕ) → lines_of ((text ++ line ++ 10 ∷ []) ++ rest) ≡ (lines ++ line ∷ []) ++ lines_of rest
+split_more : (text line : List ℕ) (lines : List (List ℕ)) → Printed line →
+    ((rest : List ℕ) → lines_of (text ++ rest) ≡ lines ++ lines_of rest) → (rest : List ℕ) →
+    lines_of ((text ++ line ++ 10 ∷ []) ++ rest) ≡ (lines ++ line ∷ []) ++ lines_of rest
 split_more text line lines p split rest =
     ap lines_of (append_assoc (text ++ line) (10 ∷ []) rest ∙ append_assoc text line (10 ∷ rest))
     ∙ split (line ++ 10 ∷ rest)
-    ∙ ap (λ (z : List (List ℕ)). lines ++ z) (line_found line rest (printed_open line p) ∙ ap (λ (z : List ℕ). z ∷ lines_of rest) (printed_kept line p))
+    ∙ ap (λ (z : List (List ℕ)). lines ++ z) (line_found line rest (printed_open line p)
+    ∙ ap (λ (z : List ℕ). z ∷ lines_of rest) (printed_kept line p))
     ∙ sym (append_assoc lines (line ∷ []) (lines_of rest))
 
 bare_more : (xs : List Sized) (x : Sized) → labels_of xs ≡ [] → x.statement.label ≡ None → labels_of (xs ++ x ∷ []) ≡ []
-bare_more xs x e h = labels_more 0x100 xs x ∙ ap (λ (ls : List Label). ls ++ own_label x.statement.label (0x100 + total xs)) e ∙ ap (λ (l : Option Name'.Name). own_label l (0x100 + total xs)) h
+bare_more xs x e h = labels_more 0x100 xs x ∙ ap (λ (ls : List Label). ls
+    ++ own_label x.statement.label (0x100 + total xs)) e
+    ∙ ap (λ (l : Option Name'.Name). own_label l (0x100 + total xs)) h
 
-listed : Laws → (bytes : List ℕ) (at : ℕ) (text : List ℕ) → AllByRecursion (λ b. b < 2 ^ 8) bytes → length bytes ≤ longest_program → Lists bytes at text → AreListed bytes at text
-listed g bytes at text fit few none = record { lines = []; statements = []; pieces = []; split = λ rest. refl; read = tt; bare = refl; coded = tt; within = omega arith; whole = refl; long = refl }
+listed : Laws → (bytes : List ℕ) (at : ℕ) (text : List ℕ) → AllByRecursion (λ b. b < 2 ^ 8) bytes →
+    length bytes ≤ longest_program → Lists bytes at text → AreListed bytes at text
+listed g bytes at text fit few none = record {
+  lines = [];
+  statements = [];
+  pieces = [];
+  split = λ rest. refl;
+  read = tt;
+  bare = refl;
+  coded = tt;
+  within = omega arith;
+  whole = refl;
+  long = refl;
+}
 listed g bytes at text fit few (more j k front line l s) =
     let r = listed g bytes j front fit few l in
     let part = shows_part bytes j k line s in
@@ -293,19 +354,25 @@ listed g bytes at text fit few (more j k front line l s) =
       split = split_more front line r.lines x.printed r.split;
       read = read_more r.lines r.statements line sized r.read (record { is = x.is; long = x.long });
       bare = bare_more r.statements sized r.bare x.bare;
-      coded = coded_more [] 0x100 r.statements r.pieces sized (bytes_at bytes j k) r.coded (subst (λ (n : ℕ). Codes [] (0x100 + n) x.statement.item (bytes_at bytes j k)) (sym len) x.codes);
+      coded = coded_more [] 0x100 r.statements r.pieces sized (bytes_at bytes j k) r.coded
+          (subst (λ (n : ℕ). Codes [] (0x100 + n) x.statement.item (bytes_at bytes j k)) (sym len) x.codes);
       within = part.within;
-      whole = joined_more r.pieces (bytes_at bytes j k) ∙ ap (λ (z : List ℕ). z ++ bytes_at bytes j k) r.whole ∙ sym (take-add j k bytes);
+      whole = joined_more r.pieces (bytes_at bytes j k) ∙ ap (λ (z : List ℕ). z ++ bytes_at bytes j k) r.whole
+          ∙ sym (take-add j k bytes);
       long = let h = r.long in omega (arith, h, total_append r.statements (sized ∷ []));
     }
 
-pub listings_assemble : Laws → (bytes text : List ℕ) → AllByRecursion (λ b. b < 2 ^ 8) bytes → length bytes ≤ longest_program → IsListing bytes text → Assembles text bytes
+pub listings_assemble : Laws → (bytes text : List ℕ) → AllByRecursion (λ b. b < 2 ^ 8) bytes →
+    length bytes ≤ longest_program → IsListing bytes text → Assembles text bytes
 listings_assemble g bytes text fit few l =
     let r = listed g bytes (length bytes) text fit few l in
     let lines : lines_of text ≡ r.lines = ap lines_of (sym (append-nil text)) ∙ r.split [] ∙ append-nil r.lines in
     record {
       statements = r.statements;
-      laid = record { read = subst (λ ls. AreRead ls r.statements) (sym lines) r.read; once = subst AreOnce (sym r.bare) tt };
+      laid = record {
+        read = subst (λ ls. AreRead ls r.statements) (sym lines) r.read;
+        once = subst AreOnce (sym r.bare) tt;
+      };
       room = let h = r.long in omega (arith, h, few);
       pieces = r.pieces;
       coded = subst (λ (ls : List Label). AreCoded ls 0x100 r.statements r.pieces) (sym r.bare) r.coded;

@@ -11,22 +11,44 @@ use Rattle.dm_asm.specs.inner.Fixed.{AreKnown, IsFixed, Keeps, KeepsOf}
 
 -- ---- one line more
 
-pub known_more : (xs : List Sized) (ls : List Line) (bytes : List ℕ) (x : Sized) (n : ℕ) (code : List ℕ) → AreKnown xs ls bytes → IsFixed x.statement.item code → n ≡ length code → AreKnown (xs ++ x ∷ []) (ls ++ line.Known n ∷ []) (bytes ++ code)
-known_more [] [] bytes x n code h f e = ([], record { code = code; is = f; long = e; parts = ap (λ b. b ++ code) h ∙ sym (append-nil code) }, refl)
+pub known_more : (xs : List Sized) (ls : List Line) (bytes : List ℕ) (x : Sized) (n : ℕ) (code : List ℕ) →
+    AreKnown xs ls bytes → IsFixed x.statement.item code → n ≡ length code → AreKnown (xs ++ x ∷ []) (ls ++ line.Known n
+    ∷ []) (bytes ++ code)
+known_more [] [] bytes x n code h f e = (
+  [],
+  record {
+    code = code;
+    is = f;
+    long = e;
+    parts = ap (λ b. b ++ code) h ∙ sym (append-nil code);
+  },
+  refl,
+)
 known_more [] (l ∷ ls) bytes x n code h f e = absurd h
 known_more (y ∷ xs) [] bytes x n code h f e = absurd h
 known_more (y ∷ xs) (line.Open ∷ ls) bytes x n code h f e = known_more xs ls bytes x n code h f e
-known_more (y ∷ xs) (line.Known k ∷ ls) bytes x n code h f e =
-    (h.0 ++ code, record { code = h.1.code; is = h.1.is; long = h.1.long; parts = ap (λ b. b ++ code) h.1.parts ∙ append_assoc h.1.code h.0 code }, known_more xs ls h.0 x n code h.2 f e)
+known_more (y ∷ xs) (line.Known k ∷ ls) bytes x n code h f e = (
+  h.0 ++ code,
+  record {
+    code = h.1.code;
+    is = h.1.is;
+    long = h.1.long;
+    parts = ap (λ b. b
+        ++ code) h.1.parts ∙ append_assoc h.1.code h.0 code;
+  },
+  known_more xs ls h.0 x n code h.2 f e,
+)
 
-pub open_more : (xs : List Sized) (ls : List Line) (bytes : List ℕ) (x : Sized) → AreKnown xs ls bytes → AreKnown (xs ++ x ∷ []) (ls ++ line.Open ∷ []) bytes
+pub open_more : (xs : List Sized) (ls : List Line) (bytes : List ℕ) (x : Sized) → AreKnown xs ls bytes →
+    AreKnown (xs ++ x ∷ []) (ls ++ line.Open ∷ []) bytes
 open_more [] [] bytes x h = h
 open_more [] (l ∷ ls) bytes x h = absurd h
 open_more (y ∷ xs) [] bytes x h = absurd h
 open_more (y ∷ xs) (line.Open ∷ ls) bytes x h = open_more xs ls bytes x h
 open_more (y ∷ xs) (line.Known k ∷ ls) bytes x h = (h.0, h.1, open_more xs ls h.0 x h.2)
 
-pub keeps_of : (old new : Known) (item : Item) (r : Option ℕ) → IfSome r (λ n. HasLength item n) → ((n : ℕ) → HasLength item n → r ≡ Some n) → IfSome r (λ n. n ≤ 16) → Keeps old new item → KeepsOf old new item r
+pub keeps_of : (old new : Known) (item : Item) (r : Option ℕ) → IfSome r (λ n. HasLength item n) →
+    ((n : ℕ) → HasLength item n → r ≡ Some n) → IfSome r (λ n. n ≤ 16) → Keeps old new item → KeepsOf old new item r
 keeps_of old new item None found only short k = λ n h. let e : None ≡ Some n = only n h in cc
 keeps_of old new item (Some n) found only short k = (found, omega (arith, short), k)
 
@@ -45,10 +67,13 @@ pub record FirstKnown (x : Sized) (xs : List Sized) (n : ℕ) (ls : List Line) (
   pub is : IsFixed x.statement.item (take n bytes)
   pub others : AreKnown xs ls (drop n bytes)
 
-pub first_known : (x : Sized) (xs : List Sized) (n : ℕ) (ls : List Line) (bytes : List ℕ) → AreKnown (x ∷ xs) (line.Known n ∷ ls) bytes → FirstKnown x xs n ls bytes
+pub first_known : (x : Sized) (xs : List Sized) (n : ℕ) (ls : List Line) (bytes : List ℕ) →
+    AreKnown (x ∷ xs) (line.Known n ∷ ls) bytes → FirstKnown x xs n ls bytes
 first_known x xs n ls bytes h =
-    let front : take n bytes ≡ h.1.code = ap (take n) h.1.parts ∙ ap (λ k. take k (h.1.code ++ h.0)) h.1.long ∙ take_front h.1.code h.0 in
-    let back : drop n bytes ≡ h.0 = ap (drop n) h.1.parts ∙ ap (λ k. drop k (h.1.code ++ h.0)) h.1.long ∙ drop_front h.1.code h.0 in
+    let front : take n bytes ≡ h.1.code = ap (take n) h.1.parts ∙ ap (λ k. take k (h.1.code ++ h.0)) h.1.long
+    ∙ take_front h.1.code h.0 in
+    let back : drop n bytes ≡ h.0 = ap (drop n) h.1.parts ∙ ap (λ k. drop k (h.1.code ++ h.0)) h.1.long
+    ∙ drop_front h.1.code h.0 in
     let all : length bytes ≡ length (h.1.code ++ h.0) = ap length h.1.parts in
     let long = h.1.long in
     record {

@@ -26,7 +26,9 @@ record HasPiece (labels : List Label) (at : ℕ) (x : Sized) (front : ℕ) (byte
   long : length code ≡ x.long
   codes : Codes labels (at + front) x.statement.item code
 
-piece_of : WordsAreOne → (labels : List Label) (at : ℕ) (lines : List (List ℕ)) (front : List Sized) (x : Sized) (back : List Sized) (ps : List (List ℕ)) → AreRead lines (front ++ x ∷ back) → AreCoded labels at (front ++ x ∷ back) ps → HasPiece labels at x (total front) (joined ps)
+piece_of : WordsAreOne → (labels : List Label) (at : ℕ) (lines : List (List ℕ)) (front : List Sized) (x : Sized)
+    (back : List Sized) (ps : List (List ℕ)) → AreRead lines (front ++ x ∷ back) → AreCoded labels at (front ++ x
+    ∷ back) ps → HasPiece labels at x (total front) (joined ps)
 piece_of one labels at [] [] x back ps r a = absurd r
 piece_of one labels at (l ∷ lines) [] x back [] r a = absurd a
 piece_of one labels at (l ∷ lines) [] x back (p ∷ ps) r a = record {
@@ -59,17 +61,21 @@ piece_at : (before code behind : List ℕ) → bytes_at (before ++ (code ++ behi
 piece_at before code behind =
     ap (take (length code)) (drop-append_seam before (code ++ behind)) ∙ take-append_seam code behind
 
-found_at : (bytes before code behind : List ℕ) (at long : ℕ) → bytes ≡ before ++ (code ++ behind) → length before ≡ at → length code ≡ long → bytes_at bytes at long ≡ code
+found_at : (bytes before code behind : List ℕ) (at long : ℕ) → bytes ≡ before ++ (code ++ behind) → length before ≡ at →
+    length code ≡ long → bytes_at bytes at long ≡ code
 found_at bytes before code behind at long e p l =
     ap (λ (z : List ℕ). bytes_at z at long) e
     ∙ ap (λ (n : ℕ). bytes_at (before ++ (code ++ behind)) n long) (sym p)
     ∙ ap (λ (n : ℕ). bytes_at (before ++ (code ++ behind)) (length before) n) (sym l)
     ∙ piece_at before code behind
 
-ends_within : (bytes before code behind : List ℕ) (at long : ℕ) → bytes ≡ before ++ (code ++ behind) → length before ≡ at → length code ≡ long → at + long ≤ length bytes
+ends_within : (bytes before code behind : List ℕ) (at long : ℕ) → bytes ≡ before ++ (code ++ behind) →
+    length before ≡ at → length code ≡ long → at + long ≤ length bytes
 ends_within bytes before code behind at long e p l = rw (e, length-append, length-append) (omega (arith, p, l))
 
-spelled : (labels : List Label) (bytes code : List ℕ) (at long : ℕ) (i : Instruction) → IsCoded labels (0x100 + at) i code → bytes_at bytes at long ≡ code → at + long ≤ length bytes → length code ≡ long → IsSpelled labels bytes at long i
+spelled : (labels : List Label) (bytes code : List ℕ) (at long : ℕ) (i : Instruction) →
+    IsCoded labels (0x100 + at) i code → bytes_at bytes at long ≡ code → at + long ≤ length bytes → length code ≡ long →
+    IsSpelled labels bytes at long i
 spelled labels bytes code at long i c found within l = record {
   written = c.written;
   placed = subst (λ (k : ℕ). placed_words labels (0x100 + at + k) i ≡ Some c.written) l c.placed;
@@ -84,13 +90,18 @@ spelled labels bytes code at long i c found within l = record {
   preferred = subst (IsPreferred c.ins) (sym found) c.preferred;
 }
 
-pub texts_are_spelled : WordsAreOne → (text bytes : List ℕ) (before after : List Sized) (x : Sized) (i : Instruction) → Assembles text bytes → Laid (lines_of text) (before ++ x ∷ after) → x.statement.item ≡ instruction i → IsSpelled (labels_of (before ++ x ∷ after)) bytes (total before) x.long i
+pub texts_are_spelled : WordsAreOne → (text bytes : List ℕ) (before after : List Sized) (x : Sized) (i : Instruction) →
+    Assembles text bytes → Laid (lines_of text) (before ++ x ∷ after) → x.statement.item ≡ instruction i →
+    IsSpelled (labels_of (before ++ x ∷ after)) bytes (total before) x.long i
 texts_are_spelled one text bytes before after x i a laid is =
     let e : a.statements ≡ before ++ x ∷ after = laid_once one text a.statements (before ++ x ∷ after) a.laid laid in
-    let coded : AreCoded (labels_of (before ++ x ∷ after)) 0x100 (before ++ x ∷ after) a.pieces = subst (λ (xs : List Sized). AreCoded (labels_of xs) 0x100 xs a.pieces) e a.coded in
-    let h = piece_of one (labels_of (before ++ x ∷ after)) 0x100 (lines_of text) before x after a.pieces laid.read coded in
+    let coded : AreCoded (labels_of (before ++ x ∷ after)) 0x100 (before ++ x ∷ after) a.pieces =
+    subst (λ (xs : List Sized). AreCoded (labels_of xs) 0x100 xs a.pieces) e a.coded in
+    let h = piece_of one (labels_of (before ++ x ∷ after)) 0x100 (lines_of text) before x after a.pieces laid.read
+    coded in
     let parts : bytes ≡ h.before ++ (h.code ++ h.behind) = a.whole ∙ h.parts in
-    let c : IsCoded (labels_of (before ++ x ∷ after)) (0x100 + total before) i h.code = subst (λ (it : Item). Codes (labels_of (before ++ x ∷ after)) (0x100 + total before) it h.code) is h.codes in
+    let c : IsCoded (labels_of (before ++ x ∷ after)) (0x100 + total before) i h.code =
+    subst (λ (it : Item). Codes (labels_of (before ++ x ∷ after)) (0x100 + total before) it h.code) is h.codes in
     spelled (labels_of (before ++ x ∷ after)) bytes h.code (total before) x.long i c
     (found_at bytes h.before h.code h.behind (total before) x.long parts h.place h.long)
     (ends_within bytes h.before h.code h.behind (total before) x.long parts h.place h.long) h.long

@@ -18,17 +18,23 @@ pub total_append : (xs ys : List Sized) → total (xs ++ ys) ≡ total xs + tota
 total_append [] ys = omega arith
 total_append (x ∷ xs) ys = let h : total (xs ++ ys) ≡ total xs + total ys = total_append xs ys in omega (arith, h)
 
-pub labels_append : (at : ℕ) (xs ys : List Sized) → labels_from at (xs ++ ys) ≡ labels_from at xs ++ labels_from (at + total xs) ys
+pub labels_append : (at : ℕ) (xs ys : List Sized) → labels_from at (xs ++ ys) ≡ labels_from at xs
+    ++ labels_from (at + total xs) ys
 labels_append at [] ys = ap (λ k. labels_from k ys) (let e : at ≡ at + 0 = omega arith in e)
 labels_append at (x ∷ xs) ys =
     let e : at + x.long + total xs ≡ at + (x.long + total xs) = omega arith in
-    ap (λ r. own_label x.statement.label at ++ r) (labels_append (at + x.long) xs ys ∙ ap (λ k. labels_from (at + x.long) xs ++ labels_from k ys) e)
-    ∙ sym (append_assoc (own_label x.statement.label at) (labels_from (at + x.long) xs) (labels_from (at + (x.long + total xs)) ys))
+    ap (λ r. own_label x.statement.label at ++ r) (labels_append (at + x.long) xs ys
+    ∙ ap (λ k. labels_from (at + x.long) xs ++ labels_from k ys) e)
+    ∙ sym (append_assoc (own_label x.statement.label at) (labels_from (at + x.long) xs)
+    (labels_from (at + (x.long + total xs)) ys))
 
-pub labels_more : (at : ℕ) (xs : List Sized) (x : Sized) → labels_from at (xs ++ x ∷ []) ≡ labels_from at xs ++ own_label x.statement.label (at + total xs)
-labels_more at xs x = labels_append at xs (x ∷ []) ∙ ap (λ r. labels_from at xs ++ r) (append-nil (own_label x.statement.label (at + total xs)))
+pub labels_more : (at : ℕ) (xs : List Sized) (x : Sized) → labels_from at (xs ++ x ∷ []) ≡ labels_from at xs
+    ++ own_label x.statement.label (at + total xs)
+labels_more at xs x = labels_append at xs (x ∷ []) ∙ ap (λ r. labels_from at xs
+    ++ r) (append-nil (own_label x.statement.label (at + total xs)))
 
-pub read_more : (lines : List (List ℕ)) (xs : List Sized) (line : List ℕ) (x : Sized) → AreRead lines xs → Reads line x → AreRead (lines ++ line ∷ []) (xs ++ x ∷ [])
+pub read_more : (lines : List (List ℕ)) (xs : List Sized) (line : List ℕ) (x : Sized) → AreRead lines xs →
+    Reads line x → AreRead (lines ++ line ∷ []) (xs ++ x ∷ [])
 read_more [] [] line x a r = (r, tt)
 read_more [] (y ∷ xs) line x a r = absurd a
 read_more (l ∷ lines) [] line x a r = absurd a
@@ -40,14 +46,17 @@ read_length [] (y ∷ xs) a = absurd a
 read_length (l ∷ lines) [] a = absurd a
 read_length (l ∷ lines) (y ∷ xs) a = let h = read_length lines xs a.1 in cc
 
-once_with : (label : Option Name'.Name) (at : ℕ) (ls : List Label) → AreOnce ls → IsFree label ls → AreOnce (ls ++ own_label label at)
+once_with : (label : Option Name'.Name) (at : ℕ) (ls : List Label) → AreOnce ls → IsFree label ls →
+    AreOnce (ls ++ own_label label at)
 once_with None at ls o f = subst AreOnce (sym (append-nil ls)) o
 once_with (Some name) at ls o f = once_more ls (record { name = name; place = at }) o f
 
-pub laid_more : (lines : List (List ℕ)) (xs : List Sized) (line : List ℕ) (x : Sized) → Laid lines xs → Reads line x → IsFree x.statement.label (labels_of xs) → Laid (lines ++ line ∷ []) (xs ++ x ∷ [])
+pub laid_more : (lines : List (List ℕ)) (xs : List Sized) (line : List ℕ) (x : Sized) → Laid lines xs → Reads line x →
+    IsFree x.statement.label (labels_of xs) → Laid (lines ++ line ∷ []) (xs ++ x ∷ [])
 laid_more lines xs line x laid r f = record {
   read = read_more lines xs line x laid.read r;
-  once = subst AreOnce (sym (labels_more 0x100 xs x)) (once_with x.statement.label (0x100 + total xs) (labels_of xs) laid.once f);
+  once = subst AreOnce (sym (labels_more 0x100 xs x)) (once_with x.statement.label (0x100 + total xs)
+      (labels_of xs) laid.once f);
 }
 
 -- ---- a line is one statement
@@ -59,14 +68,17 @@ length_once one (bytes b) n m p q = p ∙ sym q
 length_once one (words w) n m p q = p ∙ sym q
 
 sized_same : (x y : Sized) → x.statement ≡ y.statement → x.long ≡ y.long → x ≡ y
-sized_same x y e f = ap (λ (s : Statement). record { statement = s; long = x.long }) e ∙ ap (λ (n : ℕ). record { statement = y.statement; long = n }) f
+sized_same x y e f = ap (λ (s : Statement). record { statement = s; long = x.long }) e
+    ∙ ap (λ (n : ℕ). record { statement = y.statement; long = n }) f
 
 pub reads_once : WordsAreOne → (line : List ℕ) (x y : Sized) → Reads line x → Reads line y → x ≡ y
 reads_once one line x y p q =
     let e : x.statement ≡ y.statement = some_same _ _ (sym p.is ∙ q.is) in
-    sized_same x y e (length_once one y.statement.item x.long y.long (subst (λ (s : Statement). HasLength s.item x.long) e p.long) q.long)
+    sized_same x y e (length_once one y.statement.item x.long y.long (subst (λ (s : Statement). HasLength s.item x.long)
+    e p.long) q.long)
 
-pub are_read_once : WordsAreOne → (lines : List (List ℕ)) (xs ys : List Sized) → AreRead lines xs → AreRead lines ys → xs ≡ ys
+pub are_read_once : WordsAreOne → (lines : List (List ℕ)) (xs ys : List Sized) → AreRead lines xs → AreRead lines ys →
+    xs ≡ ys
 are_read_once one [] [] [] a b = refl
 are_read_once one [] [] (y ∷ ys) a b = absurd b
 are_read_once one [] (x ∷ xs) ys a b = absurd a
@@ -85,7 +97,8 @@ pub record IsFirst (line : List ℕ) (lines : List (List ℕ)) (xs : List Sized)
   pub reads : Reads line first
   pub read : AreRead lines others
 
-pub first_read : (line : List ℕ) (lines : List (List ℕ)) (xs : List Sized) → AreRead (line ∷ lines) xs → IsFirst line lines xs
+pub first_read : (line : List ℕ) (lines : List (List ℕ)) (xs : List Sized) → AreRead (line ∷ lines) xs →
+    IsFirst line lines xs
 first_read line lines [] a = absurd a
 first_read line lines (x ∷ xs) a = record { first = x; others = xs; parts = refl; reads = a.0; read = a.1 }
 
@@ -95,35 +108,48 @@ later_fits : (at n m : ℕ) (r : Option ℕ) → IfSome r (λ p. p ≤ at + n + 
 later_fits at n m None h = tt
 later_fits at n m (Some p) h = omega (arith, h)
 
-first_fits : (t : Bool) (at n : ℕ) (r : Option ℕ) → IfSome r (λ p. p ≤ at + n) → IfSome (if t then Some at else r) (λ p. p ≤ at + n)
+first_fits : (t : Bool) (at n : ℕ) (r : Option ℕ) → IfSome r (λ p. p ≤ at + n) → IfSome (if t then Some at else
+    r) (λ p. p ≤ at + n)
 first_fits true at n r h = omega arith
 first_fits false at n r h = h
 
-label_fits : (label : Option Name'.Name) (at n : ℕ) (rest : List Label) (name : Name'.Name) → IfSome (place_of_label name rest) (λ p. p ≤ at + n) → IfSome (place_of_label name (own_label label at ++ rest)) (λ p. p ≤ at + n)
+label_fits : (label : Option Name'.Name) (at n : ℕ) (rest : List Label) (name : Name'.Name) →
+    IfSome (place_of_label name rest) (λ p. p ≤ at + n) → IfSome (place_of_label name (own_label label at
+    ++ rest)) (λ p. p ≤ at + n)
 label_fits None at n rest name h = h
 label_fits (Some l) at n rest name h = first_fits (bytes_eq l.bytes name.bytes) at n (place_of_label name rest) h
 
-pub place_fits : (at : ℕ) (xs : List Sized) (name : Name'.Name) → IfSome (place_of_label name (labels_from at xs)) (λ p. p ≤ at + total xs)
+pub place_fits : (at : ℕ) (xs : List Sized) (name : Name'.Name) →
+    IfSome (place_of_label name (labels_from at xs)) (λ p. p ≤ at + total xs)
 place_fits at [] name = tt
 place_fits at (x ∷ xs) name =
     label_fits x.statement.label at (x.long + total xs) (labels_from (at + x.long) xs) name
-    (later_fits at x.long (total xs) (place_of_label name (labels_from (at + x.long) xs)) (place_fits (at + x.long) xs name))
+    (later_fits at x.long (total xs) (place_of_label name (labels_from (at + x.long) xs))
+    (place_fits (at + x.long) xs name))
 
 -- ---- bytes
 
-pub coded_more : (labels : List Label) (at : ℕ) (xs : List Sized) (ps : List (List ℕ)) (x : Sized) (p : List ℕ) → AreCoded labels at xs ps → Codes labels (at + length (joined ps)) x.statement.item p → AreCoded labels at (xs ++ x ∷ []) (ps ++ p ∷ [])
-coded_more labels at [] [] x p a c = (subst (λ (k : ℕ). Codes labels k x.statement.item p) (let e : at + 0 ≡ at = omega arith in e) c, tt)
+pub coded_more : (labels : List Label) (at : ℕ) (xs : List Sized) (ps : List (List ℕ)) (x : Sized) (p : List ℕ) →
+    AreCoded labels at xs ps → Codes labels (at + length (joined ps)) x.statement.item p →
+    AreCoded labels at (xs ++ x ∷ []) (ps ++ p ∷ [])
+coded_more labels at [] [] x p a c = (
+  subst (λ (k : ℕ). Codes labels k x.statement.item p) (let e : at + 0 ≡ at =
+      omega arith in e) c,
+  tt,
+)
 coded_more labels at [] (q ∷ ps) x p a c = absurd a
 coded_more labels at (y ∷ xs) [] x p a c = absurd a
 coded_more labels at (y ∷ xs) (q ∷ ps) x p a c =
-    let e : at + length (q ++ joined ps) ≡ at + length q + length (joined ps) = omega (arith, length-append q (joined ps)) in
+    let e : at + length (q ++ joined ps) ≡ at + length q + length (joined ps) =
+    omega (arith, length-append q (joined ps)) in
     (a.0, coded_more labels (at + length q) xs ps x p a.1 (subst (λ (k : ℕ). Codes labels k x.statement.item p) e c))
 
 pub joined_more : (ps : List (List ℕ)) (p : List ℕ) → joined (ps ++ p ∷ []) ≡ joined ps ++ p
 joined_more [] p = append-nil p
 joined_more (q ∷ ps) p = ap (λ r. q ++ r) (joined_more ps p) ∙ sym (append_assoc q (joined ps) p)
 
-same_length : {A : Type 0} (f : A → Option ℕ) (xs : List A) (ys : List ℕ) → map f xs ≡ map Some ys → length xs ≡ length ys
+same_length : {A : Type 0} (f : A → Option ℕ) (xs : List A) (ys : List ℕ) → map f xs ≡ map Some ys →
+    length xs ≡ length ys
 same_length f [] [] h = refl
 same_length f [] (y ∷ ys) h = absurd cc
 same_length f (x ∷ xs) [] h = absurd cc
@@ -133,7 +159,8 @@ flat_length : (ws : List ℕ) → length (flat_map word_bytes ws) ≡ 2 * length
 flat_length [] = refl
 flat_length (w ∷ ws) = let h : length (flat_map word_bytes ws) ≡ 2 * length ws = flat_length ws in omega (arith, h)
 
-pub code_long : WordsAreOne → (labels : List Label) (at : ℕ) (i : Item) (code : List ℕ) (n : ℕ) → Codes labels at i code → HasLength i n → length code ≡ n
+pub code_long : WordsAreOne → (labels : List Label) (at : ℕ) (i : Item) (code : List ℕ) (n : ℕ) →
+    Codes labels at i code → HasLength i n → length code ≡ n
 code_long one labels at nothing code n c h = ap length c ∙ sym h
 code_long one labels at (instruction i) code n c h = shape_once one i (length code) n c.shape h
 code_long one labels at (bytes b) code n c h = sym (same_length amount_byte b code c) ∙ sym h

@@ -46,7 +46,11 @@ value_word labels v = do
 
 -- what an instruction is written as before its labels have places
 abbrev pub outlined : Instruction → Words
-outlined i = record { mnemonic = i.mnemonic; first = outline_of i.mnemonic i.first; second = outline_of i.mnemonic i.second }
+outlined i = record {
+  mnemonic = i.mnemonic;
+  first = outline_of i.mnemonic i.first;
+  second = outline_of i.mnemonic i.second;
+}
 
 -- an instruction has n bytes, as it has wherever it and its labels stand: it is counted as if each label were 0 and
 -- each target the next instruction (`outline_of`). If the table has no such instruction, it has no length, and the line

@@ -21,11 +21,14 @@ TextsHaveOneAnswer = (text : List ℕ) (a b : Result (List ℕ) AssemblyRefusal)
 
 -- the listing of a program's bytes (`disassemble`) assembles to these bytes, if they are 65,278 at most
 abbrev pub ListingsAssemble : Type 0
-ListingsAssemble = (bytes text : List ℕ) → AllByRecursion (λ b. b < 2 ^ 8) bytes → length bytes ≤ longest_program → IsListing bytes text → Assembles text bytes
+ListingsAssemble = (bytes text : List ℕ) → AllByRecursion (λ b. b < 2 ^ 8) bytes → length bytes ≤ longest_program →
+    IsListing bytes text → Assembles text bytes
 
 -- the listing of a program's bytes, at most 65,278, has no other result of assembly than these bytes: it is not refused
 abbrev pub ListingsAreAnswered : Type 0
-ListingsAreAnswered = (bytes text : List ℕ) (answer : Result (List ℕ) AssemblyRefusal) → AllByRecursion (λ b. b < 2 ^ 8) bytes → length bytes ≤ longest_program → IsListing bytes text → IsAnswer text answer → answer ≡ Ok bytes
+ListingsAreAnswered = (bytes text : List ℕ) (answer : Result (List ℕ) AssemblyRefusal) →
+    AllByRecursion (λ b. b < 2 ^ 8) bytes → length bytes ≤ longest_program → IsListing bytes text →
+    IsAnswer text answer → answer ≡ Ok bytes
 
 -- the `long` bytes at a place of a program are the preferred bytes of an instruction of its text: of the instruction
 -- of the table with its prefixes and operands
@@ -40,4 +43,6 @@ pub record IsSpelled (labels : List Label) (bytes : List ℕ) (at long : ℕ) (i
 
 -- the bytes of a program spell each instruction of its text, after the bytes of all statements before it
 abbrev pub TextsAreSpelled : Type 0
-TextsAreSpelled = (text bytes : List ℕ) (before after : List Sized) (x : Sized) (i : Instruction) → Assembles text bytes → Laid (lines_of text) (before ++ x ∷ after) → x.statement.item ≡ instruction i → IsSpelled (labels_of (before ++ x ∷ after)) bytes (total before) x.long i
+TextsAreSpelled = (text bytes : List ℕ) (before after : List Sized) (x : Sized) (i : Instruction) →
+    Assembles text bytes → Laid (lines_of text) (before ++ x ∷ after) → x.statement.item ≡ instruction i →
+    IsSpelled (labels_of (before ++ x ∷ after)) bytes (total before) x.long i

@@ -114,11 +114,16 @@ pub record IsBehindCoded (text : List ℕ) (n : ℕ) (labels : List Label) (at :
 -- the error of a text: the first line that is no statement with a length, or has the label of one before it; else too
 -- many bytes; else the first line that names an unknown label, or has no bytes as something is out of range
 pub data Refuses (text : List ℕ) : AssemblyRefusal → Type 0 where
-  syntax : (n : ℕ) (line : List ℕ) (xs : List Sized) → IsBehindGood text n line xs → ((x : Sized) → Reads line x → ⊥) → Refuses text (refusal.Syntax n)
-  twice : (n : ℕ) (line : List ℕ) (xs : List Sized) (x : Sized) → IsBehindGood text n line xs → Reads line x → (IsFree x.statement.label (labels_of xs) → ⊥) → Refuses text (refusal.Twice n)
+  syntax : (n : ℕ) (line : List ℕ) (xs : List Sized) → IsBehindGood text n line xs → ((x : Sized) → Reads line x → ⊥) →
+      Refuses text (refusal.Syntax n)
+  twice : (n : ℕ) (line : List ℕ) (xs : List Sized) (x : Sized) → IsBehindGood text n line xs → Reads line x →
+      (IsFree x.statement.label (labels_of xs) → ⊥) → Refuses text (refusal.Twice n)
   too_long : (xs : List Sized) → Laid (lines_of text) xs → longest_program < total xs → Refuses text refusal.TooLong
-  unknown : (n : ℕ) (labels : List Label) (at : ℕ) (x : Sized) → IsBehindCoded text n labels at x → (Knows labels x.statement.item → ⊥) → Refuses text (refusal.Unknown n)
-  range : (n : ℕ) (labels : List Label) (at : ℕ) (x : Sized) → IsBehindCoded text n labels at x → Knows labels x.statement.item → ((code : List ℕ) → Codes labels at x.statement.item code → ⊥) → Refuses text (refusal.Range n)
+  unknown : (n : ℕ) (labels : List Label) (at : ℕ) (x : Sized) → IsBehindCoded text n labels at x →
+      (Knows labels x.statement.item → ⊥) → Refuses text (refusal.Unknown n)
+  range : (n : ℕ) (labels : List Label) (at : ℕ) (x : Sized) → IsBehindCoded text n labels at x →
+      Knows labels x.statement.item → ((code : List ℕ) → Codes labels at x.statement.item code → ⊥) →
+      Refuses text (refusal.Range n)
 
 -- the result of assembling a text: its bytes, or its error
 abbrev pub IsAnswer : List ℕ → Result (List ℕ) AssemblyRefusal → Type 0

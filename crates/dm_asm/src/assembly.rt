@@ -27,7 +27,10 @@ const MOST: u128 = 65_278;
 /// The statement of a line, and the number of its bytes; None if the line is no statement, or the table does not have
 /// its instruction. The data of a DB or DW is put into `items`; `tokens` may be overwritten.
 fn read(line: &[u8], tokens: &mut Tokens, items: &mut Items) -> Option<(Statement, usize)>
-    ensures found { IfSome result (λ r. Reads line.now (record { statement = seen_statement items.new r.0; long = r.1 })) }
+    ensures found { IfSome result (λ r. Reads line.now (record {
+      statement = seen_statement items.new r.0;
+      long = r.1;
+    })) }
     ensures none { IfNone result ((x : Sized) → Reads line.now x → ⊥) }
     ensures short { IfSome result (λ r. r.1 ≤ 256) }
 {
@@ -44,8 +47,10 @@ fn add_label(
     place: u128,
     number: usize,
 ) -> Result<(), AssemblyRefusal>
-    ensures added { OnOk result ((list : List Label) → AreKept labels.old list → IsFree label list × AreKept labels.new (list ++ own_label label place)) }
-    ensures refused { IfErr result (λ e. (e ≡ OutOfMemory) ⊎ ((e ≡ IsTwice number) × ((list : List Label) → AreKept labels.old list → IsFree label list → ⊥))) }
+    ensures added { OnOk result ((list : List Label) → AreKept labels.old list → IsFree label list ×
+        AreKept labels.new (list ++ own_label label place)) }
+    ensures refused { IfErr result (λ e. (e ≡ OutOfMemory) ⊎ ((e ≡ IsTwice number) ×
+        ((list : List Label) → AreKept labels.old list → IsFree label list → ⊥))) }
 {
     let Some(name) = label else {
         return Ok(());

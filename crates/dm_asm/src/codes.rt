@@ -43,7 +43,8 @@ fn written_for(
     term: &Term,
 ) -> Option<Written>
     requires { AreNear labels.now }
-    ensures { (list : List Label) → AreKept labels.now list → result ≡ placed_of list instruction.now.mnemonic next term.now }
+    ensures { (list : List Label) → AreKept labels.now list →
+        result ≡ placed_of list instruction.now.mnemonic next term.now }
 {
     let place = labels.term_place(term)?;
     written_of(instruction.mnemonic, term, place as u16, next)
@@ -98,8 +99,10 @@ fn instruction_code(
     requires near { AreNear labels.now }
     requires shape { HasShape instruction.now length }
     requires fits { at + length < 2 ^ 16 }
-    ensures found { IfSome result (λ code. (list : List Label) → AreKept labels.now list → IsCoded list at instruction.now code.items) }
-    ensures none { IfNone result ((list : List Label) (code : List ℕ) → AreKept labels.now list → IsCoded list at instruction.now code → ⊥) }
+    ensures found { IfSome result (λ code. (list : List Label) → AreKept labels.now list →
+        IsCoded list at instruction.now code.items) }
+    ensures none { IfNone result ((list : List Label) (code : List ℕ) → AreKept labels.now list →
+        IsCoded list at instruction.now code → ⊥) }
 {
     words_are_one_instruction();
     outlines_stand();
@@ -139,8 +142,10 @@ fn word_of(labels: &Labels, value: &Expression) -> Option<u16>
 fn words_code(labels: &Labels, values: &[Expression]) -> Option<Code>
     requires near { AreNear labels.now }
     requires few { length values.now ≤ 128 }
-    ensures found { IfSome result (λ code. (list : List Label) → AreKept labels.now list → AreWordsOf list values.now code.items) }
-    ensures none { IfNone result ((list : List Label) (code : List ℕ) → AreKept labels.now list → AreWordsOf list values.now code → ⊥) }
+    ensures found { IfSome result (λ code. (list : List Label) → AreKept labels.now list →
+        AreWordsOf list values.now code.items) }
+    ensures none { IfNone result ((list : List Label) (code : List ℕ) → AreKept labels.now list →
+        AreWordsOf list values.now code → ⊥) }
 {
     let mut code = ArrayVec::new();
     for value in values {
@@ -153,7 +158,8 @@ fn words_code(labels: &Labels, values: &[Expression]) -> Option<Code>
 
 /// Whether some line has each label that is named in the values of a DW; a value that is a number alone names none.
 fn knows_all(labels: &Labels, values: &[Expression]) -> bool
-    ensures { (list : List Label) → AreKept labels.now list → IsTrue result ↔ AllByRecursion (λ v. IsSome (label_place list v)) values.now }
+    ensures { (list : List Label) → AreKept labels.now list → IsTrue result ↔ AllByRecursion (λ v. IsSome
+        (label_place list v)) values.now }
 {
     for value in values {
         match labels.place_of(value) {
@@ -195,8 +201,10 @@ fn item_code(labels: &Labels, at: u16, length: usize, item: Item, items: &Items)
     requires near { AreNear labels.now }
     requires long { HasLength (seen_item items.now item) length }
     requires fits { at + length < 2 ^ 16 }
-    ensures found { IfSome result (λ code. (list : List Label) → AreKept labels.now list → Codes list at (seen_item items.now item) code.items) }
-    ensures none { IfNone result ((list : List Label) (code : List ℕ) → AreKept labels.now list → Codes list at (seen_item items.now item) code → ⊥) }
+    ensures found { IfSome result (λ code. (list : List Label) → AreKept labels.now list →
+        Codes list at (seen_item items.now item) code.items) }
+    ensures none { IfNone result ((list : List Label) (code : List ℕ) → AreKept labels.now list →
+        Codes list at (seen_item items.now item) code → ⊥) }
 {
     match item {
         Item::Nothing => Some(ArrayVec::new()),
@@ -221,8 +229,10 @@ pub(crate) fn code_of(
     requires near { AreNear labels.now }
     requires long { HasLength (seen_item items.now item) length }
     requires fits { at + length < 2 ^ 16 }
-    ensures code { IfOk result (λ code. (list : List Label) → AreKept labels.now list → Codes list at (seen_item items.now item) code.items) }
-    ensures problem { IfErr result (λ problem. (list : List Label) → AreKept labels.now list → IsProblem list at (seen_item items.now item) problem) }
+    ensures code { IfOk result (λ code. (list : List Label) → AreKept labels.now list →
+        Codes list at (seen_item items.now item) code.items) }
+    ensures problem { IfErr result (λ problem. (list : List Label) → AreKept labels.now list →
+        IsProblem list at (seen_item items.now item) problem) }
 {
     if !knows(labels, item, items) {
         return Err(Problem::Unknown);

@@ -37,8 +37,11 @@ impl Labels {
     /// Puts a label at a place. Returns true if it is new; false if a line before has it, and then
     /// its place is overwritten: such a text is refused.
     pub(crate) fn add(&mut self, name: &Name, place: u128) -> Result<bool, AllocError>
-        ensures added { IfOk result (λ added. added ≡ true → (labels : List Label) → AreKept self.old labels → (find_of name.now labels ≡ None) × AreKept self.new (labels ++ record { name = name.now; place = place } ∷ [])) }
-        ensures had { IfOk result (λ added. added ≡ false → (labels : List Label) → AreKept self.old labels → find_of name.now labels ≡ None → ⊥) }
+        ensures added { IfOk result (λ added. added ≡ true → (labels : List Label) → AreKept self.old labels →
+            (find_of name.now labels ≡ None) × AreKept self.new (labels ++ record { name = name.now; place = place }
+            ∷ [])) }
+        ensures had { IfOk result (λ added. added ≡ false → (labels : List Label) → AreKept self.old labels →
+            find_of name.now labels ≡ None → ⊥) }
     {
         match self.places.insert(name.bytes, place) {
             Ok(old) => Ok(old.is_none()),

@@ -9,14 +9,21 @@ use Rattle.dm_blocks.specs.Reading.{IsFront, IsSpelledFrom, is_nil}
 use Rattle.dm_blocks.specs.inner.Reading.{AreLeft, HasCaughtUp, IsCursor}
 use Rattle.dm_blocks.proofs.Chains.{has_either, has_right, spells_above}
 
-left_by : (S : Memory) (e : ListedHeader) (N : List Header) (r q : Bool) → e.last ≡ r → r ≡ is_nil N → Spells S (next e.header) N → (n : ℕ) → n ≡ next e.header → AreLeft S (if r then None else Some n) N
+left_by : (S : Memory) (e : ListedHeader) (N : List Header) (r q : Bool) → e.last ≡ r → r ≡ is_nil N →
+    Spells S (next e.header) N → (n : ℕ) → n ≡ next e.header → AreLeft S (if r then None else Some n) N
 left_by S e [] true q l is s n at = refl
 left_by S e (c ∷ N) true q l is s n at = absurd (let x : true ≡ false = is in cc)
 left_by S e [] false q l is s n at = absurd (let x : false ≡ true = is in cc)
-left_by S e (c ∷ N) false q l is s n at = record { nonempty = tt; spells = (let F : ℕ → Type 0 = λ x. Spells S x (c ∷ N) in subst F (sym at) s) }
+left_by S e (c ∷ N) false q l is s n at = record {
+  nonempty = tt;
+  spells = (let F : ℕ → Type 0 =
+      λ x. Spells S x (c ∷ N) in subst F (sym at) s);
+}
 
 -- one header further
-module _ (S : Memory) (here : ℕ) (e : ListedHeader) (there : e.header.segment ≡ here) (front : (L : List Header) → IsSpelledFrom S here L → (K : List Header) × IsFront S L e K) (o : Option ℕ) (n : ℕ) (at : n ≡ next e.header) (is : o ≡ (if e.last then None else Some n)) where
+module _ (S : Memory) (here : ℕ) (e : ListedHeader) (there : e.header.segment ≡ here) (front : (L : List Header) →
+    IsSpelledFrom S here L → (K : List Header) × IsFront S L e K) (o : Option ℕ) (n : ℕ) (at : n ≡ next e.header)
+    (is : o ≡ (if e.last then None else Some n)) where
   more : (K : List Header) → IsSpelledFrom S here K → (N : List Header) × (K ≡ e.header ∷ N) × AreLeft S o N
   more K s =
       let f = front K s in
@@ -43,7 +50,8 @@ module _ (S : Memory) (here : ℕ) (e : ListedHeader) (there : e.header.segment 
 pub cursor-at : (S : Memory) (F : List Header) (a b : Option ℕ) (t : ℕ) → a ≡ b → IsCursor S F a t → IsCursor S F b t
 cursor-at S F a b t e k = (let G : Option ℕ → Type 0 = λ x. IsCursor S F x t in subst G e k)
 
-pub left-at : (S : Memory) (a b : Option ℕ) → a ≡ b → (K : List Header) × AreLeft S a K → (K : List Header) × AreLeft S b K
+pub left-at : (S : Memory) (a b : Option ℕ) → a ≡ b → (K : List Header) × AreLeft S a K → (K : List Header) ×
+    AreLeft S b K
 left-at S a b e k = (let G : Option ℕ → Type 0 = λ x. (K : List Header) × AreLeft S x K in subst G e k)
 
 pub caught-at : (a b : Option ℕ) (t : ℕ) → a ≡ b → HasCaughtUp a t → HasCaughtUp b t
@@ -51,13 +59,22 @@ caught-at a b t e k = (let G : Option ℕ → Type 0 = λ x. HasCaughtUp x t in 
 
 -- whether the list has a header where the cursor has caught up
 pub cursor-later : (S : Memory) (F : List Header) (o : Option ℕ) (t u : ℕ) → t ≤ u → IsCursor S F o t → IsCursor S F o u
-cursor-later S F o t u le k = record { passed = k.passed; rest = k.rest; is = k.is; below = λ g w. (let x = k.below g w in omega arith); left = k.left }
+cursor-later S F o t u le k = record {
+  passed = k.passed;
+  rest = k.rest;
+  is = k.is;
+  below = λ g w. (let x = k.below g w in omega arith);
+  left = k.left;
+}
 
-left-none : (S : Memory) (o : Option ℕ) (K : List Header) (t : ℕ) → AreLeft S o K → HasCaughtUp o t → o ≢ Some t → HasHeader K t → ⊥
+left-none : (S : Memory) (o : Option ℕ) (K : List Header) (t : ℕ) → AreLeft S o K → HasCaughtUp o t → o ≢ Some t →
+    HasHeader K t → ⊥
 left-none S None K t l c ne w = (let F : List Header → Type 0 = λ X. HasHeader X t in absurd (subst F l w))
-left-none S (Some h) K t l c ne w = (let x = spells_above S h K l.spells t w in ne (ap (λ (z : ℕ). Some z) (omega arith)))
+left-none S (Some h) K t l c ne w = (let x = spells_above S h K l.spells t w in
+    ne (ap (λ (z : ℕ). Some z) (omega arith)))
 
-pub not-met : (S : Memory) (F : List Header) (o : Option ℕ) (t : ℕ) → IsCursor S F o t → HasCaughtUp o t → o ≢ Some t → HasHeader F t → ⊥
+pub not-met : (S : Memory) (F : List Header) (o : Option ℕ) (t : ℕ) → IsCursor S F o t → HasCaughtUp o t → o ≢ Some t →
+    HasHeader F t → ⊥
 not-met S F o t k c ne w =
     let G : List Header → Type 0 = λ X. HasHeader X t in
     elim (has_either k.passed k.rest t (subst G k.is w)) [

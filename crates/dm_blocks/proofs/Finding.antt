@@ -10,7 +10,8 @@ use Rattle.dm_blocks.specs.Reading.{is_nil, IsFront, FindsBlock, IsFoundAt, IsEn
 use Rattle.dm_blocks.specs.inner.Reading.{IsFinding, IsSeeking}
 use Rattle.dm_blocks.proofs.Chains.{has_either}
 
-module _ (S : Memory) (L : List Header) (segment h : ℕ) (e : ListedHeader) (there : e.header.segment ≡ h) (P K : List Header) (f : IsFinding S L segment h P K) (N : List Header) (g : IsFront S K e N) where
+module _ (S : Memory) (L : List Header) (segment h : ℕ) (e : ListedHeader) (there : e.header.segment
+    ≡ h) (P K : List Header) (f : IsFinding S L segment h P K) (N : List Header) (g : IsFront S K e N) where
   all : L ≡ P ++ e.header ∷ N
   all = f.is ∙ ap (λ X. P ++ X) g.is
 
@@ -33,20 +34,28 @@ module _ (S : Memory) (L : List Header) (segment h : ℕ) (e : ListedHeader) (th
       nil_of [] z = refl
       nil_of (x ∷ X) z = absurd (let y : false ≡ true = z in cc)
 
-pub finding_more : (S : Memory) (L : List Header) (segment h : ℕ) (e : ListedHeader) → e.header.segment ≡ h → (P K : List Header) → IsFinding S L segment h P K → (N : List Header) → IsFront S K e N → (h + 1 ≡ segment → ⊥) → e.last ≡ false → (t : ℕ) → t ≡ next e.header → (P' : List Header) × (K' : List Header) × IsFinding S L segment t P' K'
+pub finding_more : (S : Memory) (L : List Header) (segment h : ℕ) (e : ListedHeader) → e.header.segment ≡ h →
+    (P K : List Header) → IsFinding S L segment h P K → (N : List Header) → IsFront S K e N → (h + 1 ≡ segment → ⊥) →
+    e.last ≡ false → (t : ℕ) → t ≡ next e.header → (P' : List Header) × (K' : List Header) ×
+    IsFinding S L segment t P' K'
 finding_more S L segment h e there P K f [] g ne l t ist = absurd (let x : false ≡ true = sym l ∙ g.last in cc)
 finding_more S L segment h e there P K f (c ∷ N) g ne l t ist = (
   P ++ e.header ∷ [],
   c ∷ N,
   record {
-    spelled = record { nonempty = tt; spells = (let F : ℕ → Type 0 = λ x. Spells S x (c ∷ N) in subst F (sym ist) g.rest) };
+    spelled = record {
+      nonempty = tt;
+      spells = (let F : ℕ → Type 0 = λ x. Spells S x (c ∷ N) in
+          subst F (sym ist) g.rest);
+    };
     is = f.is ∙ ap (λ X. P ++ X) g.is ∙ sym (append_assoc P (e.header ∷ []) (c ∷ N));
     none = none_more S L segment h e there P K f (c ∷ N) g ne;
   },
 )
 
 -- by the end
-no-end-more : (P : List Header) (b : Header) (segment : ℕ) → NoEndAt P segment → next b ≢ segment → NoEndAt (P ++ b ∷ []) segment
+no-end-more : (P : List Header) (b : Header) (segment : ℕ) → NoEndAt P segment → next b ≢ segment →
+    NoEndAt (P ++ b ∷ []) segment
 no-end-more [] b segment n ne = (ne, tt)
 no-end-more (p ∷ P) b segment n ne = (n.0, no-end-more P b segment n.1 ne)
 
@@ -54,7 +63,8 @@ nil_of : (X : List Header) → is_nil X ≡ true → X ≡ []
 nil_of [] z = refl
 nil_of (x ∷ X) z = absurd (let y : false ≡ true = z in cc)
 
-module _ (S : Memory) (L : List Header) (segment h : ℕ) (e : ListedHeader) (P K : List Header) (f : IsSeeking S L segment h P K) (N : List Header) (g : IsFront S K e N) where
+module _ (S : Memory) (L : List Header) (segment h : ℕ) (e : ListedHeader) (P K : List Header)
+    (f : IsSeeking S L segment h P K) (N : List Header) (g : IsFront S K e N) where
   whole : L ≡ P ++ e.header ∷ N
   whole = f.is ∙ ap (λ X. P ++ X) g.is
 
@@ -64,15 +74,22 @@ module _ (S : Memory) (L : List Header) (segment h : ℕ) (e : ListedHeader) (P 
   pub no_end : next e.header ≢ segment → e.last ≡ true → NoEndAt L segment
   no_end ne l =
       let F : List Header → Type 0 = λ X. NoEndAt X segment in
-      subst F (sym (whole ∙ ap (λ X. P ++ e.header ∷ X) (nil_of N (sym g.last ∙ l)))) (no-end-more P e.header segment f.none ne)
+      subst F (sym (whole ∙ ap (λ X. P ++ e.header ∷ X) (nil_of N (sym g.last ∙ l))))
+      (no-end-more P e.header segment f.none ne)
 
-pub seeking_more : (S : Memory) (L : List Header) (segment h : ℕ) (e : ListedHeader) (P K : List Header) → IsSeeking S L segment h P K → (N : List Header) → IsFront S K e N → next e.header ≢ segment → e.last ≡ false → (t : ℕ) → t ≡ next e.header → (P' : List Header) × (K' : List Header) × IsSeeking S L segment t P' K'
+pub seeking_more : (S : Memory) (L : List Header) (segment h : ℕ) (e : ListedHeader) (P K : List Header) →
+    IsSeeking S L segment h P K → (N : List Header) → IsFront S K e N → next e.header ≢ segment → e.last ≡ false →
+    (t : ℕ) → t ≡ next e.header → (P' : List Header) × (K' : List Header) × IsSeeking S L segment t P' K'
 seeking_more S L segment h e P K f [] g ne l t ist = absurd (let x : false ≡ true = sym l ∙ g.last in cc)
 seeking_more S L segment h e P K f (c ∷ N) g ne l t ist = (
   P ++ e.header ∷ [],
   c ∷ N,
   record {
-    spelled = record { nonempty = tt; spells = (let F : ℕ → Type 0 = λ x. Spells S x (c ∷ N) in subst F (sym ist) g.rest) };
+    spelled = record {
+      nonempty = tt;
+      spells = (let F : ℕ → Type 0 = λ x. Spells S x (c ∷ N) in
+          subst F (sym ist) g.rest);
+    };
     is = f.is ∙ ap (λ X. P ++ X) g.is ∙ sym (append_assoc P (e.header ∷ []) (c ∷ N));
     none = no-end-more P e.header segment f.none ne;
   },
@@ -95,7 +112,8 @@ linked-none (b ∷ L) n =
     let r = linked-none L (λ h w. n h (inr w)) in
     rw t r
 
-pub linked-found : (S : Memory) (L : List Header) (o : Option ListedHeader) → FindsBlock S 0x100 0xA000 o → IsSpelledFrom S 0x100 L → is_some o ≡ is_linked L
+pub linked-found : (S : Memory) (L : List Header) (o : Option ListedHeader) → FindsBlock S 0x100 0xA000 o →
+    IsSpelledFrom S 0x100 L → is_some o ≡ is_linked L
 linked-found S L None f s = sym (linked-none L (f L s))
 linked-found S L (Some e) f s =
     let r = f L s in

@@ -18,7 +18,11 @@ use Rattle.dm_blocks.proofs.Walks.{path-more, path-below, told, closes, bad-head
 -- no header is passed yet
 pub at-first : (S : Memory) → IsUpTo S [] first_header
 at-first S = record {
-  leads = record { path = refl; clear = record { writable = λ h w. absurd w; apart = λ h g w. absurd w }; apart = λ g w v. w };
+  leads = record {
+    path = refl;
+    clear = record { writable = λ h w. absurd w; apart = λ h g w. absurd w };
+    apart = λ g w v. w;
+  };
   unoccupied = λ occupied a. a;
 }
 
@@ -27,10 +31,12 @@ header-signed S b m n e x = let F : ℕ → Type 0 = λ v. IsHeader S b v in sub
 
 -- the headers P lead to segment t below C000h
 module _ (S : Memory) (P : List Header) (t : ℕ) (u : IsUpTo S P t) where
-  pub none-behind : ((b : Header) (L : List Header) → b.segment ≡ t → IsHeader S b (signature L) → ⊥) → NoArena S first_header
+  pub none-behind : ((b : Header) (L : List Header) → b.segment ≡ t → IsHeader S b (signature L) → ⊥) →
+      NoArena S first_header
   none-behind bad L a = no_arena S [] 0x100 P t u.leads (λ e. bad-header S [] P t e bad) L (a.0, a.1, λ g x y. x)
 
-  module _ (low : t < 0xC000) (e : ListedHeader) (at : e.header.segment ≡ t) (x : IsHeader S e.header (signature_byte e.last)) where
+  module _ (low : t < 0xC000) (e : ListedHeader) (at : e.header.segment ≡ t) (x : IsHeader S e.header
+      (signature_byte e.last)) where
     ram : place S (16 * t) ≡ Low (16 * t)
     ram = place-low S (16 * t) (omega arith)
 
@@ -48,7 +54,8 @@ module _ (S : Memory) (P : List Header) (t : ℕ) (u : IsUpTo S P t) where
       P ++ e.header ∷ [],
       record {
         leads = record {
-          path = path-more S 0x100 P t e.header u.leads.path at (header-signed S e.header _ _ (ap signature_byte last) x);
+          path = path-more S 0x100 P t e.header u.leads.path at (header-signed S e.header _ _
+              (ap signature_byte last) x);
           clear = follows.clear;
           apart = follows.apart;
         };
@@ -61,7 +68,8 @@ pub leads-first : (S : Memory) → Leads S [] first_header [] first_header
 leads-first S = (at-first S).leads
 
 -- a header that is read below C000h leads a walk on
-module _ (S : Memory) (P : List Header) (t : ℕ) (u : Leads S [] first_header P t) (low : t < 0xC000) (e : ListedHeader) (at : e.header.segment ≡ t) (x : IsHeader S e.header (signature_byte e.last)) where
+module _ (S : Memory) (P : List Header) (t : ℕ) (u : Leads S [] first_header P t) (low : t < 0xC000) (e : ListedHeader)
+    (at : e.header.segment ≡ t) (x : IsHeader S e.header (signature_byte e.last)) where
   fresh : HasHeader P t → ⊥
   fresh w = let l = path-below S 0x100 P t u.path t w in omega arith
 
@@ -82,12 +90,15 @@ module _ (S : Memory) (P : List Header) (t : ℕ) (u : Leads S [] first_header P
   pub stands : StandsAfter S e.last (next e.header)
   stands = stands-by e.last refl
 
-pub proceeds : (S : Memory) (h : ℕ) (o : Option ListedHeader) → h < 0xC000 → IsEntryAt S h o → IfSome o (λ e. LeadsOn S h e.last (next e.header))
+pub proceeds : (S : Memory) (h : ℕ) (o : Option ListedHeader) → h < 0xC000 → IsEntryAt S h o →
+    IfSome o (λ e. LeadsOn S h e.last (next e.header))
 proceeds S h None low x = tt
 proceeds S h (Some e) low x = λ P u. stands S P h u low e x.0 x.1
 
-pub stands-whole : (S : Memory) (last : Bool) (t : ℕ) → last ≡ true → StandsAfter S last t → (L : List Header) × IsArena S first_header L
+pub stands-whole : (S : Memory) (last : Bool) (t : ℕ) → last ≡ true → StandsAfter S last t → (L : List Header) ×
+    IsArena S first_header L
 stands-whole S last t l s = subst (λ b. StandsAfter S b t) l s
 
-pub stands-up : (S : Memory) (last : Bool) (t : ℕ) → last ≡ false → StandsAfter S last t → (P : List Header) × Leads S [] first_header P t
+pub stands-up : (S : Memory) (last : Bool) (t : ℕ) → last ≡ false → StandsAfter S last t → (P : List Header) ×
+    Leads S [] first_header P t
 stands-up S last t l s = subst (λ b. StandsAfter S b t) l s

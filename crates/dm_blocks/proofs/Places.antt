@@ -12,7 +12,8 @@ bool_cases true = inl refl
 bool_cases false = inr refl
 
 -- a value that is chosen by a test
-chosen : (t : Bool) (p q r : Place) (X : Type 0) → (t ≡ true → p ≡ r → X) → (t ≡ false → q ≡ r → X) → (if t then p else q) ≡ r → X
+chosen : (t : Bool) (p q r : Place) (X : Type 0) → (t ≡ true → p ≡ r → X) → (t ≡ false → q ≡ r → X) →
+    (if t then p else q) ≡ r → X
 chosen true p q r X f g e = f refl e
 chosen false p q r X f g e = g refl e
 
@@ -57,9 +58,12 @@ low-own m a l e =
     chosen (nat_lt a 0xC0000) (Low a) _ (Low l) (a ≡ l) (λ _. low-injective a l) (λ _.
     chosen (nat_lt a 0xD0000) Nothing _ (Low l) (a ≡ l) (λ _ x. absurd (nothing≢low l x)) (λ _.
     chosen (nat_lt a 0xE0000) (Low a) _ (Low l) (a ≡ l) (λ _. low-injective a l) (λ _.
-    chosen (nat_lt a 0xF0000) (shown (slice_index_or m.windows ((a - 0xE0000) / 0x4000) None) ((a - 0xE0000) % 0x4000)) _ (Low l) (a ≡ l) (λ _ x. absurd (shown≢low (slice_index_or m.windows ((a - 0xE0000) / 0x4000) None) ((a - 0xE0000) % 0x4000) l x)) (λ _.
+    chosen (nat_lt a 0xF0000) (shown (slice_index_or m.windows ((a - 0xE0000) / 0x4000) None) ((a - 0xE0000) % 0x4000))
+    _ (Low l) (a ≡ l) (λ _ x. absurd (shown≢low (slice_index_or m.windows ((a - 0xE0000) / 0x4000) None)
+    ((a - 0xE0000) % 0x4000) l x)) (λ _.
     chosen (nat_lt a 0x100000) (Rom (a - 0xF0000)) _ (Low l) (a ≡ l) (λ _ x. absurd (rom≢low _ l x)) (λ _.
-    chosen (nat_lt a 0x10FFF0) (Low a) Nothing (Low l) (a ≡ l) (λ _. low-injective a l) (λ _ x. absurd (nothing≢low l x))))))) e
+    chosen (nat_lt a 0x10FFF0) (Low a) Nothing (Low l) (a ≡ l) (λ _. low-injective a l)
+    (λ _ x. absurd (nothing≢low l x))))))) e
 
 -- a page at a paragraph is shown by one of the four windows, and the paragraph is one of its own
 pub record IsFramed (m : Memory) (block offset : ℕ) : Type 0 where
@@ -77,13 +81,18 @@ shown-offset : (o : Option ℕ) (k p l : ℕ) → shown o k ≡ Page p l → k �
 shown-offset None k p l e = absurd (nothing≢page p l e)
 shown-offset (Some q) k p l e = page-second q k p l e
 
-framed-window : (m : Memory) (h block offset : ℕ) → 0xE0000 ≤ 16 * h → 16 * h < 0xF0000 → shown (slice_index_or m.windows ((16 * h - 0xE0000) / 0x4000) None) ((16 * h - 0xE0000) % 0x4000) ≡ Page block offset → IsFramed m block offset
+framed-window : (m : Memory) (h block offset : ℕ) → 0xE0000 ≤ 16 * h → 16 * h < 0xF0000 →
+    shown (slice_index_or m.windows ((16 * h - 0xE0000) / 0x4000) None) ((16 * h - 0xE0000) % 0x4000)
+    ≡ Page block offset → IsFramed m block offset
 framed-window m h block offset low high e =
-    let o : (16 * h - 0xE0000) % 0x4000 ≡ offset = shown-offset (slice_index_or m.windows ((16 * h - 0xE0000) / 0x4000) None) ((16 * h - 0xE0000) % 0x4000) block offset e in
+    let o : (16 * h - 0xE0000) % 0x4000 ≡ offset =
+    shown-offset (slice_index_or m.windows ((16 * h - 0xE0000) / 0x4000) None) ((16 * h - 0xE0000) % 0x4000) block
+    offset e in
     record {
       window = (16 * h - 0xE0000) / 0x4000;
       small = omega arith;
-      shows = shown-block (slice_index_or m.windows ((16 * h - 0xE0000) / 0x4000) None) ((16 * h - 0xE0000) % 0x4000) block offset e;
+      shows = shown-block (slice_index_or m.windows ((16 * h - 0xE0000) / 0x4000) None) ((16 * h - 0xE0000) % 0x4000)
+          block offset e;
       within = omega arith;
       aligned = omega arith;
     }
@@ -92,12 +101,19 @@ pub page-framed : (m : Memory) (h block offset : ℕ) → place m (16 * h) ≡ P
 unfolding place
 page-framed m h block offset e =
     let r : Place = Page block offset in
-    chosen (nat_lt (16 * h) 0xC0000) (Low (16 * h)) _ r (IsFramed m block offset) (λ _ x. absurd (low≢page _ block offset x)) (λ _.
-    chosen (nat_lt (16 * h) 0xD0000) Nothing _ r (IsFramed m block offset) (λ _ x. absurd (nothing≢page block offset x)) (λ _.
-    chosen (nat_lt (16 * h) 0xE0000) (Low (16 * h)) _ r (IsFramed m block offset) (λ _ x. absurd (low≢page _ block offset x)) (λ above.
-    chosen (nat_lt (16 * h) 0xF0000) (shown (slice_index_or m.windows ((16 * h - 0xE0000) / 0x4000) None) ((16 * h - 0xE0000) % 0x4000)) _ r (IsFramed m block offset) (λ below. framed-window m h block offset (grind (arith, nat_tests)) (grind (arith, nat_tests))) (λ _.
-    chosen (nat_lt (16 * h) 0x100000) (Rom (16 * h - 0xF0000)) _ r (IsFramed m block offset) (λ _ x. absurd (rom≢page _ block offset x)) (λ _.
-    chosen (nat_lt (16 * h) 0x10FFF0) (Low (16 * h)) Nothing r (IsFramed m block offset) (λ _ x. absurd (low≢page _ block offset x)) (λ _ x. absurd (nothing≢page block offset x))))))) e
+    chosen (nat_lt (16 * h) 0xC0000) (Low (16 * h)) _ r (IsFramed m block offset)
+    (λ _ x. absurd (low≢page _ block offset x)) (λ _.
+    chosen (nat_lt (16 * h) 0xD0000) Nothing _ r (IsFramed m block offset) (λ _ x. absurd (nothing≢page block offset x))
+    (λ _.
+    chosen (nat_lt (16 * h) 0xE0000) (Low (16 * h)) _ r (IsFramed m block offset)
+    (λ _ x. absurd (low≢page _ block offset x)) (λ above.
+    chosen (nat_lt (16 * h) 0xF0000) (shown (slice_index_or m.windows ((16 * h - 0xE0000) / 0x4000) None)
+    ((16 * h - 0xE0000) % 0x4000)) _ r (IsFramed m block offset) (λ below. framed-window m h block offset
+    (grind (arith, nat_tests)) (grind (arith, nat_tests))) (λ _.
+    chosen (nat_lt (16 * h) 0x100000) (Rom (16 * h - 0xF0000)) _ r (IsFramed m block offset)
+    (λ _ x. absurd (rom≢page _ block offset x)) (λ _.
+    chosen (nat_lt (16 * h) 0x10FFF0) (Low (16 * h)) Nothing r (IsFramed m block offset)
+    (λ _ x. absurd (low≢page _ block offset x)) (λ _ x. absurd (nothing≢page block offset x))))))) e
 
 -- the first window that shows a block
 test-same : (a b : ℕ) → a ≡ b → nat_eq a b ≡ true
@@ -123,7 +139,8 @@ is-shown (Some s) b e = test-same s b (some-injective s b e)
 first-here : (w : Option ℕ) (ws : List (Option ℕ)) (b : ℕ) → is_shown w b ≡ true → first_showing (w ∷ ws) b ≡ 0
 first-here w ws b t = rw t refl
 
-first-later : (w : Option ℕ) (ws : List (Option ℕ)) (b : ℕ) → is_shown w b ≡ false → first_showing (w ∷ ws) b ≡ suc (first_showing ws b)
+first-later : (w : Option ℕ) (ws : List (Option ℕ)) (b : ℕ) → is_shown w b ≡ false →
+    first_showing (w ∷ ws) b ≡ suc (first_showing ws b)
 first-later w ws b t = rw t refl
 
 record IsFirst (ws : List (Option ℕ)) (b : ℕ) (i : ℕ) : Type 0 where
@@ -163,7 +180,8 @@ sixteenths a b k l u v e = omega arith
 offsets : (a b k l : ℕ) → k % 16 ≡ 0 → l % 16 ≡ 0 → a ≡ b → 0x400 * a + k / 16 ≡ 0x400 * b + l / 16 → k ≡ l
 offsets a b k l u v s e = omega arith
 
-pub paragraph-apart : (m : Memory) (b k c l : ℕ) → IsFramed m b k → IsFramed m c l → frame_paragraph m b k ≡ frame_paragraph m c l → Page b k ≡ Page c l
+pub paragraph-apart : (m : Memory) (b k c l : ℕ) → IsFramed m b k → IsFramed m c l →
+    frame_paragraph m b k ≡ frame_paragraph m c l → Page b k ≡ Page c l
 paragraph-apart m b k c l f g e =
     let r = first-at m.windows f.window b f.shows in
     let q = first-at m.windows g.window c g.shows in

@@ -13,7 +13,8 @@ use Rattle.dm_blocks.proofs.Places.{low-own}
 pub place-of : (S : Memory) (h : ℕ) (p q : Place) → q ≡ place S (h * 16) → q ≡ p → place S (16 * h) ≡ p
 place-of S h p q e f = ap (place S) (omega arith) ∙ sym e ∙ f
 
-pub low-stands : (S : Memory) (L : List Header) (h l : ℕ) → place S (16 * h) ≡ Low l → (HasHeader L h → ⊥) → MayStand S L h
+pub low-stands : (S : Memory) (L : List Header) (h l : ℕ) → place S (16 * h) ≡ Low l → (HasHeader L h → ⊥) →
+    MayStand S L h
 low-stands S L h l e new = record {
   writable = subst IsWritable (sym e) tt;
   apart = λ g w same. (let F : ℕ → Type 0 = λ x. HasHeader L x in
@@ -23,13 +24,15 @@ low-stands S L h l e new = record {
       new (subst F at w));
 }
 
-pub page-stands : (S : Memory) (L : List Header) (h b k : ℕ) → place S (16 * h) ≡ Page b k → (Occupies S L (Page b k) → ⊥) → MayStand S L h
+pub page-stands : (S : Memory) (L : List Header) (h b k : ℕ) → place S (16 * h) ≡ Page b k →
+    (Occupies S L (Page b k) → ⊥) → MayStand S L h
 page-stands S L h b k e free = record {
   writable = subst IsWritable (sym e) tt;
   apart = λ g w same. free (record { segment = g; has = w; is = same ∙ e });
 }
 
-pub occupied-stands : (S : Memory) (L : List Header) (h : ℕ) (p : Place) → place S (16 * h) ≡ p → Occupies S L p → MayStand S L h → ⊥
+pub occupied-stands : (S : Memory) (L : List Header) (h : ℕ) (p : Place) → place S (16 * h) ≡ p → Occupies S L p →
+    MayStand S L h → ⊥
 occupied-stands S L h p e o m = m.apart o.segment o.has (o.is ∙ sym e)
 
 rom-stands : (S : Memory) (L : List Header) (h k : ℕ) → place S (16 * h) ≡ Rom k → MayStand S L h → ⊥
@@ -38,16 +41,20 @@ rom-stands S L h k e m = subst IsWritable e m.writable
 nothing-stands : (S : Memory) (L : List Header) (h : ℕ) → place S (16 * h) ≡ Nothing → MayStand S L h → ⊥
 nothing-stands S L h e m = subst IsWritable e m.writable
 
-pub lost-stands : (S : Memory) (L : List Header) (h : ℕ) (q : Place) → q ≡ place S (h * 16) → ((k : ℕ) × (q ≡ Rom k)) ⊎ (q ≡ Nothing) → MayStand S L h → ⊥
+pub lost-stands : (S : Memory) (L : List Header) (h : ℕ) (q : Place) → q ≡ place S (h * 16) → ((k : ℕ) × (q ≡ Rom k)) ⊎
+    (q ≡ Nothing) → MayStand S L h → ⊥
 lost-stands S L h q e (inl r) = rom-stands S L h r.0 (place-of S h (Rom r.0) q e r.1)
 lost-stands S L h q e (inr r) = nothing-stands S L h (place-of S h Nothing q e r)
 
-pub page-decides : (S : Memory) (L : List Header) (h b k : ℕ) (r : Bool) → place S (16 * h) ≡ Page b k → MatchBool r (Occupies S L (Page b k)) (Occupies S L (Page b k) → ⊥) → MatchBool (not r) (MayStand S L h) (MayStand S L h → ⊥)
+pub page-decides : (S : Memory) (L : List Header) (h b k : ℕ) (r : Bool) → place S (16 * h) ≡ Page b k →
+    MatchBool r (Occupies S L (Page b k)) (Occupies S L (Page b k) → ⊥) →
+    MatchBool (not r) (MayStand S L h) (MayStand S L h → ⊥)
 page-decides S L h b k true e o = occupied-stands S L h (Page b k) e o
 page-decides S L h b k false e o = page-stands S L h b k e o
 
 -- a list with a new header
-pub clear-with : (S : Memory) (L : List Header) (h : ℕ) (M : List Header) → IsClear S L → MayStand S L h → ((g : ℕ) → HasHeader M g → HasHeader L g ⊎ (g ≡ h)) → IsClear S M
+pub clear-with : (S : Memory) (L : List Header) (h : ℕ) (M : List Header) → IsClear S L → MayStand S L h →
+    ((g : ℕ) → HasHeader M g → HasHeader L g ⊎ (g ≡ h)) → IsClear S M
 clear-with S L h M c m either = record {
   writable = λ g w. elim (either g w) [
     | inl l ↦ c.writable g l
@@ -65,7 +72,8 @@ clear-with S L h M c m either = record {
   ];
 }
 
-pub unclear-with : (S : Memory) (L : List Header) (h : ℕ) (M : List Header) → (MayStand S L h → ⊥) → (HasHeader L h → ⊥) → ((g : ℕ) → HasHeader L g → HasHeader M g) → HasHeader M h → IsClear S M → ⊥
+pub unclear-with : (S : Memory) (L : List Header) (h : ℕ) (M : List Header) → (MayStand S L h → ⊥) →
+    (HasHeader L h → ⊥) → ((g : ℕ) → HasHeader L g → HasHeader M g) → HasHeader M h → IsClear S M → ⊥
 unclear-with S L h M bad new in' w c = bad (record {
   writable = c.writable h w;
   apart = λ g v same. (let F : ℕ → Type 0 = λ x. HasHeader L x in new (subst F (c.apart g h (in' g v) w same) v));

@@ -12,7 +12,8 @@ use Rattle.dm_blocks.specs.inner.Reading.{steps_left}
 use Rattle.dm_blocks.specs.inner.Telling.{HasToldAll, IsBroken, IsToldAll}
 
 -- v is a later state of the walk w, which has told nothing that breaks the list
-module _ (w v : Walking) (memory : v.memory ≡ w.memory) (second : v.second ≡ w.second) (stands : (t : ℕ) × (v.at ≡ Some t) × (t ≤ 0xFFFF)) (s : Met) (o : Option ℕ) (x : MeetsNext v s o) where
+module _ (w v : Walking) (memory : v.memory ≡ w.memory) (second : v.second ≡ w.second) (stands : (t : ℕ) ×
+    (v.at ≡ Some t) × (t ≤ 0xFFFF)) (s : Met) (o : Option ℕ) (x : MeetsNext v s o) where
   behind : IsBehind w.memory w.second x.front
   behind =
       let G : Memory → Type 0 = λ y. IsBehind y v.second x.front in
@@ -34,7 +35,8 @@ module _ (w v : Walking) (memory : v.memory ≡ w.memory) (second : v.second ≡
       subst H second (subst G memory (subst F stands.1 x.told))
 
   at-step : (q : Met) → s ≡ q → IsMetFrom w.memory x.front (start_of w.second) stands.0 q o
-  at-step q e = (let F : Met → Type 0 = λ y. IsMetFrom w.memory x.front (start_of w.second) stands.0 y o in subst F e from)
+  at-step q e = (let F : Met → Type 0 = λ y. IsMetFrom w.memory x.front (start_of w.second) stands.0 y o in
+      subst F e from)
 
   pub not_ended : s ≡ End → ⊥
   not_ended e = at-step End e
@@ -92,17 +94,21 @@ first-broken w e b L a =
     subst H (first-behind w.memory w.second b.front e b.behind) (subst G e b.none) L (a.0, a.1, λ g x y. x)
 
 -- the second
-second-told : (w : Walking) → w.second ≡ true → IsToldAll w → (L U : List Header) × IsArena w.memory first_header L × IsArenaBehind w.memory L link_header U
+second-told : (w : Walking) → w.second ≡ true → IsToldAll w → (L U : List Header) × IsArena w.memory first_header L ×
+    IsArenaBehind w.memory L link_header U
 second-told w e t =
     let G : Bool → Type 0 = λ x. IsArenaBehind w.memory t.front (start_of x) t.list in
     (t.front, t.list, second-behind w.memory w.second t.front e t.behind, subst G e t.arena)
 
-second-broken : (w : Walking) → w.second ≡ true → IsBroken w → (L : List Header) × IsArena w.memory first_header L × NoArenaBehind w.memory L link_header
+second-broken : (w : Walking) → w.second ≡ true → IsBroken w → (L : List Header) × IsArena w.memory first_header L ×
+    NoArenaBehind w.memory L link_header
 second-broken w e b =
     let G : Bool → Type 0 = λ x. NoArenaBehind w.memory b.front (start_of x) in
     (b.front, second-behind w.memory w.second b.front e b.behind, subst G e b.none)
 
-pub second-decides : (S : Memory) (w : Walking) (o : Option Walking) → w.memory ≡ S → w.second ≡ true → HasToldAll w o → MatchBool (is_some o) ((L U : List Header) × IsArena S first_header L × IsArenaBehind S L link_header U) ((L : List Header) × IsArena S first_header L × NoArenaBehind S L link_header)
+pub second-decides : (S : Memory) (w : Walking) (o : Option Walking) → w.memory ≡ S → w.second ≡ true → HasToldAll w o →
+    MatchBool (is_some o) ((L U : List Header) × IsArena S first_header L × IsArenaBehind S L link_header U)
+    ((L : List Header) × IsArena S first_header L × NoArenaBehind S L link_header)
 second-decides S w None m s b =
     let G : Memory → Type 0 = λ y. (L : List Header) × IsArena y first_header L × NoArenaBehind y L link_header in
     subst G m (second-broken w s b)
@@ -110,18 +116,23 @@ second-decides S w (Some v) m s t =
     let G : Memory → Type 0 = λ y. (L U : List Header) × IsArena y first_header L × IsArenaBehind y L link_header U in
     subst G m (second-told w s t.3)
 
-pub first-decides : (S : Memory) (w : Walking) (o : Option Walking) → w.memory ≡ S → w.second ≡ false → HasToldAll w o → MatchBool (is_some o) ((L : List Header) × IsArena S first_header L) (NoArena S first_header)
+pub first-decides : (S : Memory) (w : Walking) (o : Option Walking) → w.memory ≡ S → w.second ≡ false → HasToldAll w o →
+    MatchBool (is_some o) ((L : List Header) × IsArena S first_header L) (NoArena S first_header)
 first-decides S w None m s b = (let G : Memory → Type 0 = λ y. NoArena y first_header in subst G m (first-broken w s b))
-first-decides S w (Some v) m s t = (let G : Memory → Type 0 = λ y. (L : List Header) × IsArena y first_header L in subst G m (first-told w s t.3))
+first-decides S w (Some v) m s t = (let G : Memory → Type 0 = λ y. (L : List Header) × IsArena y first_header L in
+    subst G m (first-told w s t.3))
 
 -- ---- the same by whether the walk has told all
 
-pub second-told_all : (S : Memory) (w v : Walking) (b : Bool) → w.memory ≡ S → w.second ≡ true → MatchBool b (HasToldAll w (Some v)) (HasToldAll w None) →
-    MatchBool b ((L U : List Header) × IsArena S first_header L × IsArenaBehind S L link_header U) ((L : List Header) × IsArena S first_header L × NoArenaBehind S L link_header)
+pub second-told_all : (S : Memory) (w v : Walking) (b : Bool) → w.memory ≡ S → w.second ≡ true →
+    MatchBool b (HasToldAll w (Some v)) (HasToldAll w None) →
+    MatchBool b ((L U : List Header) × IsArena S first_header L × IsArenaBehind S L link_header U) ((L : List Header) ×
+    IsArena S first_header L × NoArenaBehind S L link_header)
 second-told_all S w v true m s h = second-decides S w (Some v) m s h
 second-told_all S w v false m s h = second-decides S w None m s h
 
-pub first-told_all : (S : Memory) (w v : Walking) (b : Bool) → w.memory ≡ S → w.second ≡ false → MatchBool b (HasToldAll w (Some v)) (HasToldAll w None) →
+pub first-told_all : (S : Memory) (w v : Walking) (b : Bool) → w.memory ≡ S → w.second ≡ false →
+    MatchBool b (HasToldAll w (Some v)) (HasToldAll w None) →
     MatchBool b ((L : List Header) × IsArena S first_header L) (NoArena S first_header)
 first-told_all S w v true m s h = first-decides S w (Some v) m s h
 first-told_all S w v false m s h = first-decides S w None m s h

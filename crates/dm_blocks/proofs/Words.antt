@@ -20,7 +20,8 @@ behind [] k = refl
 behind (b ∷ bs) k = refl
 
 -- a number of bytes by the first five of them, and what is left after these
-first-five : (xs : List ℕ) → (r : ℕ) × (little xs ≡ slice_index xs 0 + 256 * (slice_index xs 1 + 256 * (slice_index xs 2 + 256 * (slice_index xs 3 + 256 * (slice_index xs 4 + 256 * r)))))
+first-five : (xs : List ℕ) → (r : ℕ) × (little xs ≡ slice_index xs 0 + 256 * (slice_index xs 1
+    + 256 * (slice_index xs 2 + 256 * (slice_index xs 3 + 256 * (slice_index xs 4 + 256 * r)))))
 first-five xs =
     let a = rest xs in let b = rest a in let c = rest b in let d = rest c in
     let b0 = behind a 0 ∙ behind xs 1 in
@@ -28,7 +29,8 @@ first-five xs =
     let d0 = behind c 0 ∙ behind b 1 ∙ behind a 2 ∙ behind xs 3 in
     (little (rest d), omega (arith, parted xs, parted a, parted b, parted c, parted d, behind xs 0, b0, c0, d0))
 
-fields-of : (a b c d e r w : ℕ) → a < 256 → b < 256 → c < 256 → d < 256 → e < 256 → w ≡ a + 256 * (b + 256 * (c + 256 * (d + 256 * (e + 256 * r)))) →
+fields-of : (a b c d e r w : ℕ) → a < 256 → b < 256 → c < 256 → d < 256 → e < 256 →
+    w ≡ a + 256 * (b + 256 * (c + 256 * (d + 256 * (e + 256 * r)))) →
     (w % 0x100 ≡ a) × (w / 0x100 % 0x10000 ≡ b + 256 * c) × (w / 0x1000000 % 0x10000 ≡ d + 256 * e)
 fields-of a b c d e r w ha hb hc hd he is = (omega arith, omega arith, omega arith)
 
@@ -44,7 +46,8 @@ number-of m h w small x =
     let e : (0 + k) % 65536 ≡ k = omega arith in
     x.shown k less (omega arith) ∙ ap (λ o. peek m (linear m.a20 h o)) e ∙ read-at m h k _ small (omega arith) refl in
     let f = first-five x.bytes in
-    let t = fields-of _ _ _ _ _ f.0 w (x.are_bytes 0) (x.are_bytes 1) (x.are_bytes 2) (x.are_bytes 3) (x.are_bytes 4) (x.is ∙ f.1) in
+    let t = fields-of _ _ _ _ _ f.0 w (x.are_bytes 0) (x.are_bytes 1) (x.are_bytes 2) (x.are_bytes 3) (x.are_bytes 4)
+    (x.is ∙ f.1) in
     let zero : 16 * h + 0 ≡ 16 * h = omega arith in
     let two : 16 * h + 2 ≡ 16 * h + 1 + 1 = omega arith in
     let four : 16 * h + 4 ≡ 16 * h + 3 + 1 = omega arith in

@@ -52,10 +52,12 @@ Closes S F start P e = e.last ≡ true → IsArenaBehind S F start (P ++ e.heade
 -- spells no such list. `End` is no result here
 abbrev pub IsMetFrom : Memory → List Header → ℕ → ℕ → Met → Option ℕ → Type 0
 IsMetFrom S F start t (Told e) at =
-    (at ≡ (if e.last then None else Some (next e.header))) × ((P : List Header) → Leads S F start P t → Follows S F P t e × Closes S F start P e)
+    (at ≡ (if e.last then None else Some (next e.header))) × ((P : List Header) → Leads S F start P t →
+    Follows S F P t e × Closes S F start P e)
 IsMetFrom S F start t End at = ⊥
 IsMetFrom S F start t (Destroyed h) at =
-    (h ≡ t) × (at ≡ Some t) × NoArenaBehind S F start × ((P : List Header) → Leads S F start P t → (e : ListedHeader) → Follows S F P t e → ⊥)
+    (h ≡ t) × (at ≡ Some t) × NoArenaBehind S F start × ((P : List Header) → Leads S F start P t → (e : ListedHeader) →
+    Follows S F P t e → ⊥)
 
 -- what a step meets, and where the walk stands after it; a walk past the last header returns `End` and stays
 abbrev pub IsMet : Memory → List Header → ℕ → Option ℕ → Met → Option ℕ → Type 0
@@ -78,7 +80,8 @@ pub record MeetsNext (w : Walking) (met : Met) (at : Option ℕ) : Type 0 where
 -- where a walk over the first list stands after a header: past the last one, memory spells a clear list; else its
 -- headers lead to segment t
 abbrev pub StandsAfter : Memory → Bool → ℕ → Type 0
-StandsAfter S last t = MatchBool last ((L : List Header) × IsArena S first_header L) ((P : List Header) × Leads S [] first_header P t)
+StandsAfter S last t = MatchBool last ((L : List Header) × IsArena S first_header L) ((P : List Header) ×
+    Leads S [] first_header P t)
 
 -- a header, the last or not, leads a walk over the first list on from segment h to segment t
 abbrev pub LeadsOn : Memory → ℕ → Bool → ℕ → Type 0

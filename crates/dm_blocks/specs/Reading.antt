@@ -39,7 +39,8 @@ pub record IsFoundAt (S : Memory) (L : List Header) (segment : ℕ) (e : ListedH
 -- none
 abbrev pub FindsBlock : Memory → ℕ → ℕ → Option ListedHeader → Type 0
 FindsBlock S start segment None = (L : List Header) → IsSpelledFrom S start L → NoBlockAt L segment
-FindsBlock S start segment (Some e) = (L : List Header) → IsSpelledFrom S start L → (P : List Header) × (Q : List Header) × IsFoundAt S L segment e P Q
+FindsBlock S start segment (Some e) = (L : List Header) → IsSpelledFrom S start L → (P : List Header) ×
+    (Q : List Header) × IsFoundAt S L segment e P Q
 
 -- no block of L ends at the segment
 abbrev pub NoEndAt : List Header → ℕ → Type 0
@@ -58,4 +59,5 @@ pub record IsEndingAt (S : Memory) (L : List Header) (segment : ℕ) (e : Listed
 -- it has none
 abbrev pub EndsBefore : Memory → ℕ → ℕ → Option ListedHeader → Type 0
 EndsBefore S start segment None = (L : List Header) → IsSpelledFrom S start L → NoEndAt L segment
-EndsBefore S start segment (Some e) = (L : List Header) → IsSpelledFrom S start L → (P : List Header) × (Q : List Header) × IsEndingAt S L segment e P Q
+EndsBefore S start segment (Some e) = (L : List Header) → IsSpelledFrom S start L → (P : List Header) ×
+    (Q : List Header) × IsEndingAt S L segment e P Q

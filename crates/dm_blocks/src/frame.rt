@@ -72,7 +72,9 @@ impl FrameHeaders {
     /// Occupies a paragraph; the others stay. Returns true if it was not occupied before.
     fn occupy(&mut self, paragraph: usize) -> bool
         requires { paragraph < 0x1000 }
-        ensures { MatchBool result ((slice_index_or self.old.occupied paragraph false ≡ false) × (self.new.occupied ≡ slice_set self.old.occupied paragraph true)) ((slice_index_or self.old.occupied paragraph false ≡ true) × (self.new.occupied ≡ self.old.occupied)) }
+        ensures { MatchBool result ((slice_index_or self.old.occupied paragraph false ≡ false) ×
+            (self.new.occupied ≡ slice_set self.old.occupied paragraph true)) ((slice_index_or self.old.occupied
+            paragraph false ≡ true) × (self.new.occupied ≡ self.old.occupied)) }
     {
         if self.occupied[paragraph] {
             return false;

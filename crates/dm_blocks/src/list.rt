@@ -24,7 +24,8 @@ pub fn spelled_entry(space: &Space, segment: u16) -> ListedHeader
     requires { (L : List Header) × IsSpelledFrom space.now.memory segment L }
     ensures there { result.header.segment ≡ segment }
     ensures fits { next result.header ≤ 0xFFFF }
-    ensures front { (L : List Header) → IsSpelledFrom space.now.memory segment L → (K : List Header) × IsFront space.now.memory L result K }
+    ensures front { (L : List Header) → IsSpelledFrom space.now.memory segment L → (K : List Header) ×
+        IsFront space.now.memory L result K }
 {
     let Some(entry) = header_at(space, segment) else {
         unreachable!()
@@ -53,7 +54,8 @@ fn tell_all(headers: &mut Headers<'_>) -> bool
 
 /// Whether memory spells a clear list from the first header on.
 pub fn is_arena(space: &Space) -> bool
-    ensures { MatchBool result ((L : List Header) × IsArena space.now.memory first_header L) (NoArena space.now.memory first_header) }
+    ensures { MatchBool result ((L : List Header) × IsArena space.now.memory first_header L) (NoArena space.now.memory
+        first_header) }
 {
     match low_part(space) {
         LowPart::Whole => true,
@@ -66,7 +68,9 @@ pub fn is_arena(space: &Space) -> bool
 /// the first, and the first list followed by it is clear. False where the lists are linked.
 pub fn has_second(space: &Space) -> bool
     requires { (L : List Header) × IsArena space.now.memory first_header L }
-    ensures { MatchBool result ((L U : List Header) × IsArena space.now.memory first_header L × IsArenaBehind space.now.memory L link_header U) ((L : List Header) × IsArena space.now.memory first_header L × NoArenaBehind space.now.memory L link_header) }
+    ensures { MatchBool result ((L U : List Header) × IsArena space.now.memory first_header L ×
+        IsArenaBehind space.now.memory L link_header U) ((L : List Header) × IsArena space.now.memory first_header L ×
+        NoArenaBehind space.now.memory L link_header) }
 {
     let mut first = walk(space);
     if !tell_all(&mut first) {
@@ -128,7 +132,8 @@ pub fn before_link(space: &Space) -> Option<ListedHeader>
 /// returns it; None if the first list has no such header, or if the cursor was None.
 pub(crate) fn catch_up(space: &Space, cursor: Option<u16>, segment: u16) -> Option<u16>
     requires { (K : List Header) × AreLeft space.now.memory cursor K }
-    ensures { (F : List Header) → IsCursor space.now.memory F cursor segment → IsCursor space.now.memory F result segment × HasCaughtUp result segment }
+    ensures { (F : List Header) → IsCursor space.now.memory F cursor segment →
+        IsCursor space.now.memory F result segment × HasCaughtUp result segment }
 {
     let mut moved = cursor;
     'walk: loop {

@@ -47,7 +47,11 @@ impl<'a> Model for Headers<'a> {
 
     ghost view = { λ w. record { memory = w.space.now.memory; second = w.second; at = w.at } };
 
-    ghost invariant = { λ w. FitsWalk (record { memory = w.space.now.memory; second = w.second; at = w.at }) w.beside w.in_frame.occupied };
+    ghost invariant = { λ w. FitsWalk (record {
+      memory = w.space.now.memory;
+      second = w.second;
+      at = w.at;
+    }) w.beside w.in_frame.occupied };
 }
 
 /// Starts a walk over the first list, at its first header.

@@ -51,7 +51,8 @@ pub(crate) fn low_part(space: &Space) -> LowPart
 pub fn low_entry(space: &Space, segment: u16) -> Option<ListedHeader>
     ensures there { IfSome result (λ e. e.header.segment ≡ segment) }
     ensures fits { IfSome result (λ e. next e.header ≤ 0xFFFF) }
-    ensures front { IfSome result (λ e. (L : List Header) → IsSpelledFrom space.now.memory segment L → (K : List Header) × IsFront space.now.memory L e K) }
+    ensures front { IfSome result (λ e. (L : List Header) → IsSpelledFrom space.now.memory segment L →
+        (K : List Header) × IsFront space.now.memory L e K) }
     ensures proceeds { IfSome result (λ e. LeadsOn space.now.memory segment e.last (next e.header)) }
 {
     if segment >= END {

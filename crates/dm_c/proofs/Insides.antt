@@ -27,10 +27,15 @@ module _ {M : Type 1} {𝓤 : Ura M} {𝓛 : Logic 𝓤} {K : Type 0} {Γ : List
       k (subst (λ (ps : List Val). vs ≡ vstruct (of_list (ps ++ [])) ∷ []) ep ev))))
 
   pub inside_in : K → (p : Ptr) (x : Option Hosted)
-      → Step K 𝓛 (‵ (inside.the_row.own_val (record { at = p; value = x }) (single (ptr_val p) ∷ [])) ∷ Γ) G (‵ (held p x) ∷ Γ) G
+      → Step K 𝓛 (‵ (inside.the_row.own_val (record { at = p; value = x }) (single (ptr_val p) ∷ []))
+      ∷ Γ) G (‵ (held p x) ∷ Γ) G
   inside_in t p x = step (λ s. let v : Val = single (ptr_val p) in
-      nothing t $ feq_i t (List Val) (ptr_val p ∷ []) (ptr_val p ∷ []) refl $ fjoin t $ feq_i t (List Val) (v ∷ []) (v ∷ []) refl $ fjoin t $
-      fpack t (Valss (RawPtr ∷ [])) (within (shape inside.the_type) (p, tt) (v ∷ [])) (ptr_val p ∷ [], tt) $ fjoin t $ s)
+      nothing t $ feq_i t (List Val) (ptr_val p ∷ []) (ptr_val p ∷ []) refl $ fjoin t $ feq_i t (List Val) (v ∷ []) (v
+      ∷ []) refl $ fjoin t $
+      fpack t (Valss (RawPtr ∷ [])) (within (shape inside.the_type) (p, tt) (v ∷ [])) (
+        ptr_val p ∷ [],
+        tt,
+      ) $ fjoin t $ s)
 
 -- what is there
 pub of_some : {A : Type 0} (o : Option A) → is_some o ≡ true → (x : A) × (o ≡ Some x)

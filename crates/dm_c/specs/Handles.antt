@@ -12,9 +12,15 @@ use Rattle.dm_c.specs.calls.Statuses.{status_of}
 -- holds none
 pub data Makes (old new : Option Hosted) (sizes : Sizes) (variables : List ℕ) (upper : Bool) (status : ℕ) : Type 0 where
   in_use : (h : Hosted) → old ≡ Some h → new ≡ Some h → status ≡ 2 → Makes old new sizes variables upper status
-  made : old ≡ None → new ≡ Some (new_host (record { sizes = sizes; variables = variables; upper = upper; programs = [] })) → status ≡ 0
+  made : old ≡ None → new ≡ Some (new_host (record {
+    sizes = sizes;
+    variables = variables;
+    upper = upper;
+    programs = [];
+  })) → status ≡ 0
       → (IsTooLarge sizes → ⊥) × (length variables ≤ 0x7FFF) → Makes old new sizes variables upper status
-  refused : (why : Refusal) → old ≡ None → new ≡ None → status ≡ status_of why → IsNewFault sizes variables why → Makes old new sizes variables upper status
+  refused : (why : Refusal) → old ≡ None → new ≡ None → status ≡ status_of why → IsNewFault sizes variables why →
+      Makes old new sizes variables upper status
 
 -- `dm_c_copy`: a second machine, the same as h, is made in a handle that holds none; a handle in use stays (status
 -- 2), and where an allocation failed (status 3) the handle still holds none

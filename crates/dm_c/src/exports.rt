@@ -41,7 +41,10 @@ pub extern "C" fn dm_c_new(
     variables: &[u8],
     upper: u32,
 ) -> u32
-    ensures { Makes machine.old.inside.value machine.new.inside.value (record { ems_pages = ems_pages; xms_kib = xms_kib }) variables.now (nat_lt 0 upper) result }
+    ensures { Makes machine.old.inside.value machine.new.inside.value (record {
+      ems_pages = ems_pages;
+      xms_kib = xms_kib;
+    }) variables.now (nat_lt 0 upper) result }
 {
     if machine.is_held() {
         return IN_USE;
@@ -69,7 +72,8 @@ pub extern "C" fn dm_c_copy(
     machine: &mut MachineHandle,
     copy: &mut MachineHandle,
 ) -> u32
-    ensures { IsCall machine.old.inside.value machine.new.inside.value ((result ≡ 1) × (copy.new ≡ copy.old)) (λ h g. CopiesTo h copy.old.inside.value copy.new.inside.value result × (g ≡ h)) }
+    ensures { IsCall machine.old.inside.value machine.new.inside.value ((result ≡ 1) ×
+        (copy.new ≡ copy.old)) (λ h g. CopiesTo h copy.old.inside.value copy.new.inside.value result × (g ≡ h)) }
 {
     on_machine!(machine, alloc, host => copies::copy(alloc, &host, copy))
 }
@@ -92,7 +96,8 @@ pub extern "C" fn dm_c_add(
     name: &[u8],
     program: &[u8],
 ) -> u32
-    ensures { IsCall machine.old.inside.value machine.new.inside.value (result ≡ 1) (λ h g. AddsTo h name.now program.now result g) }
+    ensures { IsCall machine.old.inside.value machine.new.inside.value (result
+        ≡ 1) (λ h g. AddsTo h name.now program.now result g) }
 {
     on_machine!(machine, alloc, host => calls::add_program(alloc, &mut host, name, program))
 }
@@ -107,7 +112,8 @@ pub extern "C" fn dm_c_load(
     tail: &[u8],
     input: &[u8],
 ) -> u32
-    ensures { IsCall machine.old.inside.value machine.new.inside.value (result ≡ 1) (λ h g. LoadsTo h name.now tail.now input.now result g) }
+    ensures { IsCall machine.old.inside.value machine.new.inside.value (result
+        ≡ 1) (λ h g. LoadsTo h name.now tail.now input.now result g) }
 {
     on_machine!(machine, alloc, host => calls::load(alloc, &mut host, name, tail, input))
 }
@@ -120,7 +126,8 @@ pub extern "C" fn dm_c_run(
     steps: u64,
     stopped: &mut Stopped,
 ) -> u32
-    ensures { IsCall machine.old.inside.value machine.new.inside.value ((result ≡ 1) × (stopped.new ≡ stopped.old)) (λ h g. RunsBy h steps stopped.old stopped.new result g) }
+    ensures { IsCall machine.old.inside.value machine.new.inside.value ((result ≡ 1) ×
+        (stopped.new ≡ stopped.old)) (λ h g. RunsBy h steps stopped.old stopped.new result g) }
 {
     on_machine!(machine, alloc, host => calls::run(&mut host, steps, stopped))
 }
@@ -135,7 +142,8 @@ pub extern "C" fn dm_c_run_until(
     points: &[Point],
     stopped: &mut Stopped,
 ) -> u32
-    ensures { IsCall machine.old.inside.value machine.new.inside.value ((result ≡ 1) × (stopped.new ≡ stopped.old)) (λ h g. RunsUntilTo h steps points.now stopped.old stopped.new result g) }
+    ensures { IsCall machine.old.inside.value machine.new.inside.value ((result ≡ 1) ×
+        (stopped.new ≡ stopped.old)) (λ h g. RunsUntilTo h steps points.now stopped.old stopped.new result g) }
 {
     on_machine!(machine, alloc, host => calls::run_until(alloc, &mut host, steps, points, stopped))
 }
@@ -152,7 +160,9 @@ pub extern "C" fn dm_c_run_to(
     stopped: &mut Stopped,
     index: &mut usize,
 ) -> u32
-    ensures { IsCall machine.old.inside.value machine.new.inside.value ((result ≡ 1) × (stopped.new ≡ stopped.old) × (index.new ≡ index.old)) (λ h g. EventsTo h steps events.now stopped.old stopped.new index.old index.new result g) }
+    ensures { IsCall machine.old.inside.value machine.new.inside.value ((result ≡ 1) × (stopped.new ≡ stopped.old) ×
+        (index.new ≡ index.old)) (λ h g. EventsTo h steps events.now stopped.old stopped.new index.old index.new result
+        g) }
 {
     on_machine!(machine, alloc, host => calls::run_to(alloc, &mut host, steps, events, stopped, index))
 }
@@ -161,7 +171,8 @@ pub extern "C" fn dm_c_run_to(
 /// status is 0.
 #[unsafe(no_mangle)]
 pub extern "C" fn dm_c_steps(alloc: Global, machine: &mut MachineHandle, steps: &mut u64) -> u32
-    ensures { IsCall machine.old.inside.value machine.new.inside.value ((result ≡ 1) × (steps.new ≡ steps.old)) (λ h g. StepsTo h steps.old steps.new result g) }
+    ensures { IsCall machine.old.inside.value machine.new.inside.value ((result ≡ 1) ×
+        (steps.new ≡ steps.old)) (λ h g. StepsTo h steps.old steps.new result g) }
 {
     on_machine!(machine, alloc, host => calls::steps(&host, steps))
 }
@@ -173,7 +184,8 @@ pub extern "C" fn dm_c_registers(
     machine: &mut MachineHandle,
     registers: &mut Registers,
 ) -> u32
-    ensures { IsCall machine.old.inside.value machine.new.inside.value ((result ≡ 1) × (registers.new ≡ registers.old)) (λ h g. RegistersTo h registers.old registers.new result g) }
+    ensures { IsCall machine.old.inside.value machine.new.inside.value ((result ≡ 1) ×
+        (registers.new ≡ registers.old)) (λ h g. RegistersTo h registers.old registers.new result g) }
 {
     on_machine!(machine, alloc, host => calls::registers(&host, registers))
 }
@@ -186,7 +198,8 @@ pub extern "C" fn dm_c_set_registers(
     machine: &mut MachineHandle,
     registers: &Registers,
 ) -> u32
-    ensures { IsCall machine.old.inside.value machine.new.inside.value (result ≡ 1) (λ h g. SetsRegistersTo h registers.now result g) }
+    ensures { IsCall machine.old.inside.value machine.new.inside.value (result
+        ≡ 1) (λ h g. SetsRegistersTo h registers.now result g) }
 {
     on_machine!(machine, alloc, host => calls::set_registers(&mut host, *registers))
 }
@@ -201,7 +214,8 @@ pub extern "C" fn dm_c_read(
     offset: u16,
     buffer: &mut [u8],
 ) -> u32
-    ensures { IsCall machine.old.inside.value machine.new.inside.value ((result ≡ 1) × (buffer.new ≡ buffer.old)) (λ h g. ReadsTo h segment offset buffer.old buffer.new result g) }
+    ensures { IsCall machine.old.inside.value machine.new.inside.value ((result ≡ 1) ×
+        (buffer.new ≡ buffer.old)) (λ h g. ReadsTo h segment offset buffer.old buffer.new result g) }
 {
     on_machine!(machine, alloc, host => calls::read(&host, segment, offset, buffer))
 }
@@ -216,7 +230,8 @@ pub extern "C" fn dm_c_write(
     offset: u16,
     bytes: &[u8],
 ) -> u32
-    ensures { IsCall machine.old.inside.value machine.new.inside.value (result ≡ 1) (λ h g. WritesTo h segment offset bytes.now result g) }
+    ensures { IsCall machine.old.inside.value machine.new.inside.value (result
+        ≡ 1) (λ h g. WritesTo h segment offset bytes.now result g) }
 {
     on_machine!(machine, alloc, host => calls::write(&mut host, segment, offset, bytes))
 }
@@ -231,7 +246,8 @@ pub extern "C" fn dm_c_read_linear(
     address: u32,
     buffer: &mut [u8],
 ) -> u32
-    ensures { IsCall machine.old.inside.value machine.new.inside.value ((result ≡ 1) × (buffer.new ≡ buffer.old)) (λ h g. ReadsLinearTo h address buffer.old buffer.new result g) }
+    ensures { IsCall machine.old.inside.value machine.new.inside.value ((result ≡ 1) ×
+        (buffer.new ≡ buffer.old)) (λ h g. ReadsLinearTo h address buffer.old buffer.new result g) }
 {
     on_machine!(machine, alloc, host => calls::read_linear(&host, address, buffer))
 }
@@ -246,7 +262,8 @@ pub extern "C" fn dm_c_write_linear(
     address: u32,
     bytes: &[u8],
 ) -> u32
-    ensures { IsCall machine.old.inside.value machine.new.inside.value (result ≡ 1) (λ h g. WritesLinearTo h address bytes.now result g) }
+    ensures { IsCall machine.old.inside.value machine.new.inside.value (result
+        ≡ 1) (λ h g. WritesLinearTo h address bytes.now result g) }
 {
     on_machine!(machine, alloc, host => calls::write_linear(&mut host, address, bytes))
 }
@@ -262,7 +279,8 @@ pub extern "C" fn dm_c_output(
     buffer: &mut [u8],
     wanted: &mut usize,
 ) -> u32
-    ensures { IsCall machine.old.inside.value machine.new.inside.value ((result ≡ 1) × (buffer.new ≡ buffer.old) × (wanted.new ≡ wanted.old)) (λ h g. OutputTo h from buffer.old buffer.new wanted.old wanted.new result g) }
+    ensures { IsCall machine.old.inside.value machine.new.inside.value ((result ≡ 1) × (buffer.new ≡ buffer.old) ×
+        (wanted.new ≡ wanted.old)) (λ h g. OutputTo h from buffer.old buffer.new wanted.old wanted.new result g) }
 {
     on_machine!(machine, alloc, host => calls::output(&host, from, buffer, wanted))
 }
@@ -274,7 +292,8 @@ pub extern "C" fn dm_c_output_count(
     machine: &mut MachineHandle,
     count: &mut usize,
 ) -> u32
-    ensures { IsCall machine.old.inside.value machine.new.inside.value ((result ≡ 1) × (count.new ≡ count.old)) (λ h g. OutputCountTo h count.old count.new result g) }
+    ensures { IsCall machine.old.inside.value machine.new.inside.value ((result ≡ 1) ×
+        (count.new ≡ count.old)) (λ h g. OutputCountTo h count.old count.new result g) }
 {
     on_machine!(machine, alloc, host => calls::output_count(&host, count))
 }
@@ -283,7 +302,8 @@ pub extern "C" fn dm_c_output_count(
 /// stops the run (4), and the run can go on once there is more. Nothing changes unless the status is 0.
 #[unsafe(no_mangle)]
 pub extern "C" fn dm_c_open_input(alloc: Global, machine: &mut MachineHandle) -> u32
-    ensures { IsCall machine.old.inside.value machine.new.inside.value (result ≡ 1) (λ h g. SetsMoreTo h true result g) }
+    ensures { IsCall machine.old.inside.value machine.new.inside.value (result
+        ≡ 1) (λ h g. SetsMoreTo h true result g) }
 {
     on_machine!(machine, alloc, host => calls::open_input(&mut host))
 }
@@ -291,7 +311,8 @@ pub extern "C" fn dm_c_open_input(alloc: Global, machine: &mut MachineHandle) ->
 /// Says that no more console input comes after what is left. Nothing changes unless the status is 0.
 #[unsafe(no_mangle)]
 pub extern "C" fn dm_c_close_input(alloc: Global, machine: &mut MachineHandle) -> u32
-    ensures { IsCall machine.old.inside.value machine.new.inside.value (result ≡ 1) (λ h g. SetsMoreTo h false result g) }
+    ensures { IsCall machine.old.inside.value machine.new.inside.value (result
+        ≡ 1) (λ h g. SetsMoreTo h false result g) }
 {
     on_machine!(machine, alloc, host => calls::close_input(&mut host))
 }
@@ -300,7 +321,8 @@ pub extern "C" fn dm_c_close_input(alloc: Global, machine: &mut MachineHandle) -
 /// unless the status is 0.
 #[unsafe(no_mangle)]
 pub extern "C" fn dm_c_supply(alloc: Global, machine: &mut MachineHandle, bytes: &[u8]) -> u32
-    ensures { IsCall machine.old.inside.value machine.new.inside.value (result ≡ 1) (λ h g. SuppliesTo h bytes.now result g) }
+    ensures { IsCall machine.old.inside.value machine.new.inside.value (result
+        ≡ 1) (λ h g. SuppliesTo h bytes.now result g) }
 {
     on_machine!(machine, alloc, host => calls::supply(&mut host, bytes))
 }
@@ -312,7 +334,8 @@ pub extern "C" fn dm_c_input_left(
     machine: &mut MachineHandle,
     left: &mut usize,
 ) -> u32
-    ensures { IsCall machine.old.inside.value machine.new.inside.value ((result ≡ 1) × (left.new ≡ left.old)) (λ h g. InputLeftTo h left.old left.new result g) }
+    ensures { IsCall machine.old.inside.value machine.new.inside.value ((result ≡ 1) ×
+        (left.new ≡ left.old)) (λ h g. InputLeftTo h left.old left.new result g) }
 {
     on_machine!(machine, alloc, host => calls::input_left(&host, left))
 }
@@ -327,7 +350,8 @@ pub extern "C" fn dm_c_command(
     line: &[u8],
     wanted: &mut usize,
 ) -> u32
-    ensures { IsCall machine.old.inside.value machine.new.inside.value ((result ≡ 1) × (wanted.new ≡ wanted.old)) (λ h g. CommandsTo h line.now wanted.old wanted.new result g) }
+    ensures { IsCall machine.old.inside.value machine.new.inside.value ((result ≡ 1) ×
+        (wanted.new ≡ wanted.old)) (λ h g. CommandsTo h line.now wanted.old wanted.new result g) }
 {
     on_machine!(machine, alloc, host => calls::command(alloc, &mut host, line, wanted))
 }
@@ -343,7 +367,8 @@ pub extern "C" fn dm_c_check(
     stopped: &mut Stopped,
     wanted: &mut usize,
 ) -> u32
-    ensures { IsCall machine.old.inside.value machine.new.inside.value ((result ≡ 1) × (stopped.new ≡ stopped.old) × (wanted.new ≡ wanted.old)) (λ h g. ChecksTo h steps stopped.old stopped.new wanted.old wanted.new result g) }
+    ensures { IsCall machine.old.inside.value machine.new.inside.value ((result ≡ 1) × (stopped.new ≡ stopped.old) ×
+        (wanted.new ≡ wanted.old)) (λ h g. ChecksTo h steps stopped.old stopped.new wanted.old wanted.new result g) }
 {
     on_machine!(machine, alloc, host => calls::check(alloc, &mut host, steps, stopped, wanted))
 }
@@ -358,7 +383,8 @@ pub extern "C" fn dm_c_answer(
     buffer: &mut [u8],
     wanted: &mut usize,
 ) -> u32
-    ensures { IsCall machine.old.inside.value machine.new.inside.value ((result ≡ 1) × (buffer.new ≡ buffer.old) × (wanted.new ≡ wanted.old)) (λ h g. AnswersTo h buffer.old buffer.new wanted.new result g) }
+    ensures { IsCall machine.old.inside.value machine.new.inside.value ((result ≡ 1) × (buffer.new ≡ buffer.old) ×
+        (wanted.new ≡ wanted.old)) (λ h g. AnswersTo h buffer.old buffer.new wanted.new result g) }
 {
     on_machine!(machine, alloc, host => give_items(host.answer(), buffer, wanted))
 }

@@ -22,7 +22,9 @@ pub extern "C" fn dm_c_blocks(
     wanted: &mut usize,
     end: &mut ListEnd,
 ) -> u32
-    ensures { IsCall machine.old.inside.value machine.new.inside.value ((result ≡ 1) × (buffer.new ≡ buffer.old) × (wanted.new ≡ wanted.old) × (end.new ≡ end.old)) (λ h g. BlocksTo h buffer.old buffer.new wanted.old wanted.new end.old end.new result g) }
+    ensures { IsCall machine.old.inside.value machine.new.inside.value ((result ≡ 1) × (buffer.new ≡ buffer.old) ×
+        (wanted.new ≡ wanted.old) × (end.new ≡ end.old)) (λ h g. BlocksTo h buffer.old buffer.new wanted.old wanted.new
+        end.old end.new result g) }
 {
     on_machine!(machine, alloc, host => calls::blocks(alloc, &host, buffer, wanted, end))
 }
@@ -36,7 +38,8 @@ pub extern "C" fn dm_c_page_handles(
     buffer: &mut [PageHandle],
     wanted: &mut usize,
 ) -> u32
-    ensures { IsCall machine.old.inside.value machine.new.inside.value ((result ≡ 1) × (buffer.new ≡ buffer.old) × (wanted.new ≡ wanted.old)) (λ h g. PageHandlesTo h buffer.old buffer.new wanted.old wanted.new result g) }
+    ensures { IsCall machine.old.inside.value machine.new.inside.value ((result ≡ 1) × (buffer.new ≡ buffer.old) ×
+        (wanted.new ≡ wanted.old)) (λ h g. PageHandlesTo h buffer.old buffer.new wanted.old wanted.new result g) }
 {
     on_machine!(machine, alloc, host => calls::page_handles(alloc, &host, buffer, wanted))
 }
@@ -50,7 +53,8 @@ pub extern "C" fn dm_c_windows(
     buffer: &mut [Window],
     wanted: &mut usize,
 ) -> u32
-    ensures { IsCall machine.old.inside.value machine.new.inside.value ((result ≡ 1) × (buffer.new ≡ buffer.old) × (wanted.new ≡ wanted.old)) (λ h g. WindowsTo h buffer.old buffer.new wanted.old wanted.new result g) }
+    ensures { IsCall machine.old.inside.value machine.new.inside.value ((result ≡ 1) × (buffer.new ≡ buffer.old) ×
+        (wanted.new ≡ wanted.old)) (λ h g. WindowsTo h buffer.old buffer.new wanted.old wanted.new result g) }
 {
     on_machine!(machine, alloc, host => calls::windows(&host, buffer, wanted))
 }
@@ -65,7 +69,8 @@ pub extern "C" fn dm_c_extended_blocks(
     buffer: &mut [ExtendedBlock],
     wanted: &mut usize,
 ) -> u32
-    ensures { IsCall machine.old.inside.value machine.new.inside.value ((result ≡ 1) × (buffer.new ≡ buffer.old) × (wanted.new ≡ wanted.old)) (λ h g. ExtendedBlocksTo h buffer.old buffer.new wanted.old wanted.new result g) }
+    ensures { IsCall machine.old.inside.value machine.new.inside.value ((result ≡ 1) × (buffer.new ≡ buffer.old) ×
+        (wanted.new ≡ wanted.old)) (λ h g. ExtendedBlocksTo h buffer.old buffer.new wanted.old wanted.new result g) }
 {
     on_machine!(machine, alloc, host => calls::extended_blocks(alloc, &host, buffer, wanted))
 }
@@ -80,7 +85,8 @@ pub extern "C" fn dm_c_upper_blocks(
     buffer: &mut [UpperBlock],
     wanted: &mut usize,
 ) -> u32
-    ensures { IsCall machine.old.inside.value machine.new.inside.value ((result ≡ 1) × (buffer.new ≡ buffer.old) × (wanted.new ≡ wanted.old)) (λ h g. UpperBlocksTo h buffer.old buffer.new wanted.old wanted.new result g) }
+    ensures { IsCall machine.old.inside.value machine.new.inside.value ((result ≡ 1) × (buffer.new ≡ buffer.old) ×
+        (wanted.new ≡ wanted.old)) (λ h g. UpperBlocksTo h buffer.old buffer.new wanted.old wanted.new result g) }
 {
     on_machine!(machine, alloc, host => calls::upper_blocks(alloc, &host, buffer, wanted))
 }
@@ -94,7 +100,8 @@ pub extern "C" fn dm_c_high_memory(
     a20: &mut u32,
     used: &mut u32,
 ) -> u32
-    ensures { IsCall machine.old.inside.value machine.new.inside.value ((result ≡ 1) × (a20.new ≡ a20.old) × (used.new ≡ used.old)) (λ h g. HighMemoryTo h a20.old a20.new used.old used.new result g) }
+    ensures { IsCall machine.old.inside.value machine.new.inside.value ((result ≡ 1) × (a20.new ≡ a20.old) ×
+        (used.new ≡ used.old)) (λ h g. HighMemoryTo h a20.old a20.new used.old used.new result g) }
 {
     on_machine!(machine, alloc, host => calls::high_memory(&host, a20, used))
 }
@@ -111,7 +118,8 @@ pub extern "C" fn dm_c_read_page(
     offset: usize,
     buffer: &mut [u8],
 ) -> u32
-    ensures { IsCall machine.old.inside.value machine.new.inside.value ((result ≡ 1) × (buffer.new ≡ buffer.old)) (λ h g. ReadsPageTo h handle page offset buffer.old buffer.new result g) }
+    ensures { IsCall machine.old.inside.value machine.new.inside.value ((result ≡ 1) ×
+        (buffer.new ≡ buffer.old)) (λ h g. ReadsPageTo h handle page offset buffer.old buffer.new result g) }
 {
     on_machine!(machine, alloc, host => calls::read_page(&host, handle, page, offset, buffer))
 }
@@ -127,7 +135,8 @@ pub extern "C" fn dm_c_read_block(
     offset: usize,
     buffer: &mut [u8],
 ) -> u32
-    ensures { IsCall machine.old.inside.value machine.new.inside.value ((result ≡ 1) × (buffer.new ≡ buffer.old)) (λ h g. ReadsBlockTo h handle offset buffer.old buffer.new result g) }
+    ensures { IsCall machine.old.inside.value machine.new.inside.value ((result ≡ 1) ×
+        (buffer.new ≡ buffer.old)) (λ h g. ReadsBlockTo h handle offset buffer.old buffer.new result g) }
 {
     on_machine!(machine, alloc, host => calls::read_block(&host, handle, offset, buffer))
 }
@@ -142,7 +151,8 @@ pub extern "C" fn dm_c_findings(
     buffer: &mut [FoundRecord],
     wanted: &mut usize,
 ) -> u32
-    ensures { IsCall machine.old.inside.value machine.new.inside.value ((result ≡ 1) × (buffer.new ≡ buffer.old) × (wanted.new ≡ wanted.old)) (λ h g. FindingsTo h buffer.old buffer.new wanted.old wanted.new result g) }
+    ensures { IsCall machine.old.inside.value machine.new.inside.value ((result ≡ 1) × (buffer.new ≡ buffer.old) ×
+        (wanted.new ≡ wanted.old)) (λ h g. FindingsTo h buffer.old buffer.new wanted.old wanted.new result g) }
 {
     on_machine!(machine, alloc, host => calls::findings(alloc, &host, buffer, wanted))
 }
@@ -157,7 +167,9 @@ pub extern "C" fn dm_c_finding_counts(
     notes: &mut u64,
     not_listed: &mut u64,
 ) -> u32
-    ensures { IsCall machine.old.inside.value machine.new.inside.value ((result ≡ 1) × (errors.new ≡ errors.old) × (notes.new ≡ notes.old) × (not_listed.new ≡ not_listed.old)) (λ h g. FindingCountsTo h errors.new notes.new not_listed.new result g) }
+    ensures { IsCall machine.old.inside.value machine.new.inside.value ((result ≡ 1) × (errors.new ≡ errors.old) ×
+        (notes.new ≡ notes.old) × (not_listed.new ≡ not_listed.old)) (λ h g. FindingCountsTo h errors.new notes.new
+        not_listed.new result g) }
 {
     on_machine!(machine, alloc, host => calls::finding_counts(&host, errors, notes, not_listed))
 }
@@ -173,7 +185,8 @@ pub extern "C" fn dm_c_finding_line(
     buffer: &mut [u8],
     wanted: &mut usize,
 ) -> u32
-    ensures { IsCall machine.old.inside.value machine.new.inside.value ((result ≡ 1) × (buffer.new ≡ buffer.old) × (wanted.new ≡ wanted.old)) (λ h g. FindingLineTo h k buffer.old buffer.new wanted.old wanted.new result g) }
+    ensures { IsCall machine.old.inside.value machine.new.inside.value ((result ≡ 1) × (buffer.new ≡ buffer.old) ×
+        (wanted.new ≡ wanted.old)) (λ h g. FindingLineTo h k buffer.old buffer.new wanted.old wanted.new result g) }
 {
     on_machine!(machine, alloc, host => calls::finding_line(alloc, &host, k, buffer, wanted))
 }

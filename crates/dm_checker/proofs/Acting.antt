@@ -25,10 +25,13 @@ use Rattle.dm_checker.specs.inner.Steps.{IsBefore, IsUnlisted, IsNextAct, an_ins
 pub call_acts : (b : Before) (call : Call) → b.call ≡ Some call → (s : State) → IsBefore s b → IsAct s (act.Call call)
 call_acts b call e s h = called call (sym h.call ∙ e) refl
 
-begins : (bytes : List ℕ) (o : Option (Ins × ℕ)) (i : Ins) (k : ℕ) → Decodes bytes o → o ≡ Some (i, k) → BeginsWith bytes i k
+begins : (bytes : List ℕ) (o : Option (Ins × ℕ)) (i : Ins) (k : ℕ) → Decodes bytes o → o ≡ Some (i, k) →
+    BeginsWith bytes i k
 begins bytes o i k d e = let both = (d i k).0 e in record { short = both.0; spells = both.1 }
 
-pub instruction_acts : (b : Before) (o : Option (Ins × ℕ)) (i : Ins) (k behind : ℕ) → b.call ≡ None → Decodes b.bytes o → o ≡ Some (i, k) → behind ≡ up b.cpu.ip k → (s : State) → IsBefore s b → IsAct s (act.Instruction i behind)
+pub instruction_acts : (b : Before) (o : Option (Ins × ℕ)) (i : Ins) (k behind : ℕ) → b.call ≡ None →
+    Decodes b.bytes o → o ≡ Some (i, k) → behind ≡ up b.cpu.ip k → (s : State) → IsBefore s b →
+    IsAct s (act.Instruction i behind)
 instruction_acts b o i k behind none d e is s h =
     let F : List ℕ → Type 0 = λ bytes. BeginsWith bytes i k in
     instructed i k (sym h.call ∙ none) (subst F (h.bytes none) (begins b.bytes o i k d e))
@@ -37,7 +40,8 @@ instruction_acts b o i k behind none d e is s h =
 pub some_none : {A : Type 0} (a : A) → Some a ≡ None → ⊥
 some_none a e = cc
 
-pub nothing_acts : (b : Before) (o : Option (Ins × ℕ)) → b.call ≡ None → Decodes b.bytes o → o ≡ None → (s : State) → IsBefore s b → IsUnlisted s
+pub nothing_acts : (b : Before) (o : Option (Ins × ℕ)) → b.call ≡ None → Decodes b.bytes o → o ≡ None → (s : State) →
+    IsBefore s b → IsUnlisted s
 nothing_acts b o none d e s h = record {
   call = sym h.call ∙ none;
   none = λ i k x. (let F : List ℕ → Type 0 = λ bytes. BeginsWith bytes i k in
@@ -50,7 +54,8 @@ nothing_acts b o none d e s h = record {
 pub called_next : (b : Before) (call : Call) → b.call ≡ Some call → (s : State) → IsBefore s b → IsNextAct s None
 called_next b call e s h = no_instruction (λ i k none x. some_none call (sym e ∙ h.call ∙ none))
 
-pub decoded_next : (b : Before) (o : Option (Ins × ℕ)) → b.call ≡ None → Decodes b.bytes o → (s : State) → IsBefore s b → IsNextAct s o
+pub decoded_next : (b : Before) (o : Option (Ins × ℕ)) → b.call ≡ None → Decodes b.bytes o → (s : State) →
+    IsBefore s b → IsNextAct s o
 decoded_next b None none d s h = no_instruction (λ i k e x. (let F : List ℕ → Type 0 = λ bytes. BeginsWith bytes i k in
     let y : BeginsWith b.bytes i k = subst F (sym (h.bytes none)) x in
     some_none (i, k) (sym ((d i k).1 (y.short, y.spells)))))
@@ -66,15 +71,18 @@ uncalled s x (Some (entry_point.Service service)) none h = absurd (some_none _ n
 uncalled s x (Some (entry_point.Driver driver)) none h = absurd (some_none _ none)
 uncalled s x None none h = h
 
-pub uncalled_acts : (s : State) (x : Answer) → call_of s.cpu ≡ None → Acts s (entry_point_at s.cpu.cs s.cpu.ip) x → Instructs s x
+pub uncalled_acts : (s : State) (x : Answer) → call_of s.cpu ≡ None → Acts s (entry_point_at s.cpu.cs s.cpu.ip) x →
+    Instructs s x
 unfolding call_of
 uncalled_acts s x none h = uncalled s x (entry_point_at s.cpu.cs s.cpu.ip) none h
 
-unlisted_acts : (s t : State) → ((i : Ins) (k : ℕ) → BeginsWith (fetched s.memory s.cpu) i k → ⊥) → Instructs s (record { stop = None; state = t }) → ⊥
+unlisted_acts : (s t : State) → ((i : Ins) (k : ℕ) → BeginsWith (fetched s.memory s.cpu) i k → ⊥) →
+    Instructs s (record { stop = None; state = t }) → ⊥
 unlisted_acts s t none (listed i k b e) = none i k b
 unlisted_acts s t none (unlisted f e) = (let stop : None ≡ Some Unlisted = ap (λ (x : Answer). x.stop) e in cc)
 
-unlisted_runs : (s t : State) (o : Option ℕ) → IsUnlisted s → ActsUnlessEnded s o (record { stop = None; state = t }) → ⊥
+unlisted_runs : (s t : State) (o : Option ℕ) → IsUnlisted s → ActsUnlessEnded s o (record { stop = None; state = t }) →
+    ⊥
 unlisted_runs s t (Some code) u e = (let stop : None ≡ Some (Exited code) = ap (λ (x : Answer). x.stop) e in cc)
 unlisted_runs s t None u h = unlisted_acts s t u.none (uncalled_acts s _ u.call h)
 
@@ -85,23 +93,29 @@ unlisted_stops s t u h = unlisted_runs s t s.exited u h
 
 -- ---- exits without a call
 
-exits_none : (s t : State) (n : Next) (g : Guest) (code : ℕ) → record { stop = Some (Exited code); state = t } ≡ after s n g → ⊥
+exits_none : (s t : State) (n : Next) (g : Guest) (code : ℕ) → record { stop = Some (Exited code); state = t }
+    ≡ after s n g → ⊥
 exits_none s t Go g code e = (let stop : Some (Exited code) ≡ None = ap (λ (x : Answer). x.stop) e in cc)
 exits_none s t Halt g code e = (let stop : Some (Exited code) ≡ Some Halted = ap (λ (x : Answer). x.stop) e in cc)
 
 instructs_none : (s t : State) (code : ℕ) → Instructs s (record { stop = Some (Exited code); state = t }) → ⊥
-instructs_none s t code (listed i k b e) = exits_none s t (next_of i.action.mnemonic) (effect (guest s.cpu s.memory) i k) code e
-instructs_none s t code (unlisted f e) = (let stop : Some (Exited code) ≡ Some Unlisted = ap (λ (x : Answer). x.stop) e in cc)
+instructs_none s t code (listed i k b e) = exits_none s t (next_of i.action.mnemonic)
+    (effect (guest s.cpu s.memory) i k) code e
+instructs_none s t code (unlisted f e) = (let stop : Some (Exited code) ≡ Some Unlisted =
+    ap (λ (x : Answer). x.stop) e in cc)
 
-exits_over : (s t : State) (code : ℕ) (o : Option ℕ) → call_of s.cpu ≡ None → ActsUnlessEnded s o (record { stop = Some (Exited code); state = t }) → t ≡ s
+exits_over : (s t : State) (code : ℕ) (o : Option ℕ) → call_of s.cpu ≡ None →
+    ActsUnlessEnded s o (record { stop = Some (Exited code); state = t }) → t ≡ s
 exits_over s t code (Some other) none e = ap (λ (x : Answer). x.state) e
 exits_over s t code None none h = absurd (instructs_none s t code (uncalled_acts s _ none h))
 
-over_before : (s t : State) (code : ℕ) (o : Option ℕ) → call_of s.cpu ≡ None → ActsUnlessEnded s o (record { stop = Some (Exited code); state = t }) → (other : ℕ) × (o ≡ Some other)
+over_before : (s t : State) (code : ℕ) (o : Option ℕ) → call_of s.cpu ≡ None →
+    ActsUnlessEnded s o (record { stop = Some (Exited code); state = t }) → (other : ℕ) × (o ≡ Some other)
 over_before s t code (Some other) none e = (other, refl)
 over_before s t code None none h = absurd (instructs_none s t code (uncalled_acts s _ none h))
 
-pub had_ended : (s t : State) (code : ℕ) → call_of s.cpu ≡ None → Answers s (Some (Exited code)) t → (other : ℕ) × (s.exited ≡ Some other)
+pub had_ended : (s t : State) (code : ℕ) → call_of s.cpu ≡ None → Answers s (Some (Exited code)) t → (other : ℕ) ×
+    (s.exited ≡ Some other)
 unfolding MakesStep
 had_ended s t code none h = over_before s t code s.exited none h
 

@@ -14,14 +14,20 @@ record Begins (old new : List Listed) : Type 0 where
   more : List Found
   is : founds new ≡ founds old ++ more
 
-begins_by : (seen : List Found) (x : Found) (xs ys : List Found) (b : Bool) → is_listed seen x ≡ b → (b ≡ true → Begins (lines_from (seen ++ x ∷ []) xs) (lines_from (seen ++ x ∷ []) (xs ++ ys)))
-    → (b ≡ false → Begins (lines_from seen xs) (lines_from seen (xs ++ ys))) → Begins (lines_from seen (x ∷ xs)) (lines_from seen (x ∷ (xs ++ ys)))
-begins_by seen x xs ys true is h k = (let p = h refl in record { more = p.more; is = rw is (ap (λ (l : List Found). x ∷ l) p.is) })
+begins_by : (seen : List Found) (x : Found) (xs ys : List Found) (b : Bool) → is_listed seen x ≡ b →
+    (b ≡ true → Begins (lines_from (seen ++ x ∷ []) xs) (lines_from (seen ++ x ∷ []) (xs ++ ys)))
+    → (b ≡ false → Begins (lines_from seen xs) (lines_from seen (xs ++ ys))) →
+    Begins (lines_from seen (x ∷ xs)) (lines_from seen (x ∷ (xs ++ ys)))
+begins_by seen x xs ys true is h k = (let p = h refl in record {
+  more = p.more;
+  is = rw is (ap (λ (l : List Found). x ∷ l) p.is);
+})
 begins_by seen x xs ys false is h k = (let p = k refl in record { more = p.more; is = rw is p.is })
 
 lines_begin : (xs seen ys : List Found) → Begins (lines_from seen xs) (lines_from seen (xs ++ ys))
 lines_begin [] seen ys = record { more = founds (lines_from seen ys); is = refl }
-lines_begin (x ∷ xs) seen ys = begins_by seen x xs ys (is_listed seen x) refl (λ e. lines_begin xs (seen ++ x ∷ []) ys) (λ e. lines_begin xs seen ys)
+lines_begin (x ∷ xs) seen ys = begins_by seen x xs ys (is_listed seen x) refl (λ e. lines_begin xs (seen ++ x
+    ∷ []) ys) (λ e. lines_begin xs seen ys)
 
 report_begins : (xs ys : List Found) → IsLonger (report_of xs) (report_of (xs ++ ys))
 unfolding report_of
@@ -31,9 +37,14 @@ pub longer_same : (r : Reported) → IsLonger r r
 longer_same r = record { more = []; is = sym (append-nil (founds r.listed)) }
 
 pub longer_on : (a b c : Reported) → IsLonger a b → IsLonger b c → IsLonger a c
-longer_on a b c p q = record { more = p.more ++ q.more; is = q.is ∙ ap (λ (l : List Found). l ++ q.more) p.is ∙ append_assoc (founds a.listed) p.more q.more }
+longer_on a b c p q = record {
+  more = p.more ++ q.more;
+  is = q.is ∙ ap (λ (l : List Found). l
+      ++ q.more) p.is ∙ append_assoc (founds a.listed) p.more q.more;
+}
 
-pub longer_by : (free : Bool) (a b : Reported) (fs more : List Found) → a ≡ report_of (reported free fs) → ReportsMore free a b more → IsLonger a b
+pub longer_by : (free : Bool) (a b : Reported) (fs more : List Found) → a ≡ report_of (reported free fs) →
+    ReportsMore free a b more → IsLonger a b
 longer_by free a b fs more e h =
     let p = report_begins (reported free fs) (reported free more) in
     record {
@@ -47,7 +58,8 @@ longer_by free a b fs more e h =
 none_more : (xs ys : List Found) → length (xs ++ ys) ≤ length xs → ys ≡ []
 none_more xs ys few = nil_from_length ys (let both = length-append xs ys in omega (arith, few, both))
 
-pub listed_same : (a b : Reported) → IsLonger a b → length b.listed ≤ length a.listed → founds b.listed ≡ founds a.listed
+pub listed_same : (a b : Reported) → IsLonger a b → length b.listed ≤ length a.listed →
+    founds b.listed ≡ founds a.listed
 listed_same a b p few =
     let of_a = length-map a.listed (λ (l : Listed). l.found) in
     let of_b = length-map b.listed (λ (l : Listed). l.found) in

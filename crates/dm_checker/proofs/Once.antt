@@ -27,8 +27,12 @@ instructs_other : (s t : State) → Instructs s (record { stop = Some AllSteps; 
 instructs_other s t (listed i k b e) = after_other s t (next_of i.action.mnemonic) (effect (guest s.cpu s.memory) i k) e
 instructs_other s t (unlisted f e) = (let stop : Some AllSteps ≡ Some Unlisted = ap (λ (x : Answer). x.stop) e in cc)
 
-runs_other : (s t : State) (o : Option ℕ) → call_of s.cpu ≡ None → ActsUnlessEnded s o (record { stop = Some AllSteps; state = t }) → ⊥
-runs_other s t (Some code) none e = (let stop : Some AllSteps ≡ Some (Exited code) = ap (λ (x : Answer). x.stop) e in cc)
+runs_other : (s t : State) (o : Option ℕ) → call_of s.cpu ≡ None → ActsUnlessEnded s o (record {
+  stop = Some AllSteps;
+  state = t;
+}) → ⊥
+runs_other s t (Some code) none e = (let stop : Some AllSteps ≡ Some (Exited code) = ap (λ (x : Answer). x.stop) e in
+    cc)
 runs_other s t None none h = instructs_other s t (uncalled_acts s _ none h)
 
 other_stop : (s t : State) → call_of s.cpu ≡ None → Answers s (Some AllSteps) t → ⊥
@@ -40,13 +44,15 @@ other_stop s t none h = runs_other s t s.exited none h
 was_ended : (s t : State) (code : ℕ) → s.exited ≡ Some code → t ≡ s → Answers s (Some (Exited code)) t
 unfolding MakesStep
 was_ended s t code e same =
-    let here : Answers s (Some (Exited code)) s = subst (λ o. ActsUnlessEnded s o (stop_at (Exited code) s)) (sym e) refl in
+    let here : Answers s (Some (Exited code)) s = subst (λ o. ActsUnlessEnded s o (stop_at (Exited code) s))
+    (sym e) refl in
     subst (λ u. Answers s (Some (Exited code)) u) (sym same) here
 
 answers_by : (s t : State) (a b : Stop) → a ≡ b → Answers s (Some b) t → Answers s (Some a) t
 answers_by s t a b e h = subst (λ x. Answers s (Some x) t) (sym e) h
 
-first_of : (s t u : State) (n : ℕ) (stop : Stop) → Goes s n u → n ≡ 0 → Answers u (Some stop) t → Answers s (Some stop) t
+first_of : (s t u : State) (n : ℕ) (stop : Stop) → Goes s n u → n ≡ 0 → Answers u (Some stop) t →
+    Answers s (Some stop) t
 first_of s t u n stop goes e h = subst (λ x. Answers x (Some stop) t) (none-made s u n goes e) h
 
 -- ---- both outcomes
@@ -54,9 +60,11 @@ first_of s t u n stop goes e h = subst (λ x. Answers x (Some stop) t) (none-mad
 pub ran_on : (s t : State) → call_of s.cpu ≡ None → IsRun s 1 AllSteps t → Answers s None t
 ran_on s t none (over code e f g) = (let no : AllSteps ≡ Exited code = f in cc)
 ran_on s t none (whole e f goes) = goes_once s t 1 goes refl
-ran_on s t none (cut e w) = (let less = w.fewer in absurd (other_stop s t none (first_of s t w.before w.made AllSteps w.goes (omega arith) w.answers)))
+ran_on s t none (cut e w) = (let less = w.fewer in
+    absurd (other_stop s t none (first_of s t w.before w.made AllSteps w.goes (omega arith) w.answers)))
 
 pub ran_out : (s t : State) (stop : Stop) → (stop ≡ AllSteps → ⊥) → IsRun s 1 stop t → Answers s (Some stop) t
 ran_out s t stop other (over code e f g) = answers_by s t stop (Exited code) f (was_ended s t code e g)
 ran_out s t stop other (whole e f goes) = absurd (other f)
-ran_out s t stop other (cut e w) = (let less = w.fewer in first_of s t w.before w.made stop w.goes (omega arith) w.answers)
+ran_out s t stop other (cut e w) = (let less = w.fewer in first_of s t w.before w.made stop w.goes
+    (omega arith) w.answers)

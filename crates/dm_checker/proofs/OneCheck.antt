@@ -55,7 +55,8 @@ origins_once s t u (suc n) k l x y =
     let i = last_known s t (suc n) n k x (omega arith) in
     let j = last_known s u (suc n) n l y (omega arith) in
     let same = origins_once s i.before j.before n i.known j.known i.origins j.origins in
-    let before = goes-one s i.before j.before n (origins_goes s i.before n i.known i.origins) (origins_goes s j.before n j.known j.origins) in
+    let before = goes-one s i.before j.before n (origins_goes s i.before n i.known i.origins)
+    (origins_goes s j.before n j.known j.origins) in
     let to = goes-one s t u (suc n) (origins_goes s t (suc n) k x) (origins_goes s u (suc n) l y) in
     let F : State → Type 0 = λ v. IsKnownAfter v t i.known k in
     let G : State → Type 0 = λ v. IsKnownAfter j.before v i.known k in
@@ -81,7 +82,19 @@ last : (s u : State) (m n : ℕ) (found : List Found) → FindsIn s m u found �
 last s u m n found here e = absurd (omega arith)
 last s u m n found (further j t v k l fs gs h o a w x) e =
     let same : j ≡ n = omega arith in
-    record { before = t; front = fs; more = gs; known = k; after = l; finds = subst (λ (i : ℕ). FindsIn s i t fs) same h; origins = subst (λ (i : ℕ). OriginsIn s i t k) same o; steps = a; knows = w; at = x; is = refl }
+    record {
+      before = t;
+      front = fs;
+      more = gs;
+      known = k;
+      after = l;
+      finds = subst (λ (i : ℕ). FindsIn s i t fs) same h;
+      origins = subst (λ (i : ℕ). OriginsIn s i t k) same o;
+      steps = a;
+      knows = w;
+      at = x;
+      is = refl;
+    }
 
 none_made : (s u : State) (m : ℕ) (found : List Found) → FindsIn s m u found → m ≡ 0 → found ≡ []
 none_made s u m found here e = refl
@@ -96,14 +109,16 @@ in_once s t u (suc n) fs gs x y =
     let i = last s t (suc n) n fs x (omega arith) in
     let j = last s u (suc n) n gs y (omega arith) in
     let front = in_once s i.before j.before n i.front j.front i.finds j.finds in
-    let before = goes-one s i.before j.before n (finds_goes s i.before n i.front i.finds) (finds_goes s j.before n j.front j.finds) in
+    let before = goes-one s i.before j.before n (finds_goes s i.before n i.front i.finds)
+    (finds_goes s j.before n j.front j.finds) in
     let to = goes-one s t u (suc n) (finds_goes s t (suc n) fs x) (finds_goes s u (suc n) gs y) in
     let F : State → Type 0 = λ v. FindsAt v t i.after i.more in
     let G : State → Type 0 = λ v. FindsAt j.before v i.after i.more in
     let K : State → Type 0 = λ v. IsKnownAfter v t i.known i.after in
     let L : State → Type 0 = λ v. IsKnownAfter j.before v i.known i.after in
     let known = origins_once s i.before j.before n i.known j.known i.origins j.origins in
-    let after = known_once j.before u i.known j.known i.after j.after known (subst L to (subst K before i.knows)) j.knows in
+    let after = known_once j.before u i.known j.known i.after j.after known (subst L to (subst K before i.knows))
+    j.knows in
     let more = step_once j.before u i.after j.after i.more j.more after (subst G to (subst F before i.at)) j.at in
     i.is ∙ both i.front j.front i.more j.more front more ∙ sym j.is
 
@@ -122,27 +137,40 @@ record Cut (s : State) (n : ℕ) (stop : Stop) (t : State) (found : List Found) 
   at : FindsAtStop before stop t known more
   is : found ≡ front ++ more
 
-within : (s t : State) (n m : ℕ) (stop : Stop) (found : List Found) → (c : Cut s n stop t found) → c.made < m → StopsWithin s m stop t
+within : (s t : State) (n m : ℕ) (stop : Stop) (found : List Found) → (c : Cut s n stop t found) → c.made < m →
+    StopsWithin s m stop t
 within s t n m stop found c less =
-    record { made = c.made; before = c.before; fewer = less; goes = finds_goes s c.before c.made c.front c.finds; answers = c.answers }
+    record {
+      made = c.made;
+      before = c.before;
+      fewer = less;
+      goes = finds_goes s c.before c.made c.front c.finds;
+      answers = c.answers;
+    }
 
-not_further : (s t u : State) (n m : ℕ) (stop : Stop) (fs gs : List Found) → stop ≢ NoMemory → FindsIn s m u gs → (c : Cut s n stop t fs) → c.made < m → ⊥
-not_further s t u n m stop fs gs p x c less = not_beyond s u t m stop p (finds_goes s u m gs x) (within s t n m stop fs c less)
+not_further : (s t u : State) (n m : ℕ) (stop : Stop) (fs gs : List Found) → stop ≢ NoMemory → FindsIn s m u gs →
+    (c : Cut s n stop t fs) → c.made < m → ⊥
+not_further s t u n m stop fs gs p x c less = not_beyond s u t m stop p (finds_goes s u m gs x)
+    (within s t n m stop fs c less)
 
-same_made : (s t u : State) (n : ℕ) (a b : Stop) (fs gs : List Found) → a ≡ b → t ≡ u → (c : Cut s n a t fs) → (d : Cut s n b u gs) → c.made ≡ d.made → fs ≡ gs
+same_made : (s t u : State) (n : ℕ) (a b : Stop) (fs gs : List Found) → a ≡ b → t ≡ u → (c : Cut s n a t fs) →
+    (d : Cut s n b u gs) → c.made ≡ d.made → fs ≡ gs
 same_made s t u n a b fs gs stop to c d e =
     let x : FindsIn s d.made c.before c.front = subst (λ (k : ℕ). FindsIn s k c.before c.front) e c.finds in
     let front = in_once s c.before d.before d.made c.front d.front x d.finds in
-    let before = goes-one s c.before d.before d.made (finds_goes s c.before d.made c.front x) (finds_goes s d.before d.made d.front d.finds) in
+    let before = goes-one s c.before d.before d.made (finds_goes s c.before d.made c.front x)
+    (finds_goes s d.before d.made d.front d.finds) in
     let F : State → Type 0 = λ v. FindsAtStop v a t c.known c.more in
     let G : Stop → Type 0 = λ z. FindsAtStop d.before z t c.known c.more in
     let H : State → Type 0 = λ v. FindsAtStop d.before b v c.known c.more in
     let origins : OriginsIn s d.made c.before c.known = subst (λ (k : ℕ). OriginsIn s k c.before c.known) e c.origins in
     let known = origins_once s c.before d.before d.made c.known d.known origins d.origins in
-    let more = stop_once d.before b u c.known d.known c.more d.more known (subst H to (subst G stop (subst F before c.at))) d.at in
+    let more = stop_once d.before b u c.known d.known c.more d.more known
+    (subst H to (subst G stop (subst F before c.at))) d.at in
     c.is ∙ both c.front d.front c.more d.more front more ∙ sym d.is
 
-cut_once : (s t u : State) (n : ℕ) (a b : Stop) (fs gs : List Found) → a ≢ NoMemory → b ≢ NoMemory → a ≡ b → t ≡ u → Cut s n a t fs → Cut s n b u gs → fs ≡ gs
+cut_once : (s t u : State) (n : ℕ) (a b : Stop) (fs gs : List Found) → a ≢ NoMemory → b ≢ NoMemory → a ≡ b → t ≡ u →
+    Cut s n a t fs → Cut s n b u gs → fs ≡ gs
 cut_once s t u n a b fs gs p q stop to c d = elim (cases_lt c.made d.made) [
   | inl less ↦ absurd (not_further s t d.before n d.made a fs d.front p d.finds c less)
   | inr least ↦
@@ -152,23 +180,75 @@ cut_once s t u n a b fs gs p q stop to c d = elim (cases_lt c.made d.made) [
       ]
 ]
 
-found_once : (s t u : State) (n : ℕ) (a b : Stop) (fs gs : List Found) → Checks s n a t fs → Checks s n b u gs → a ≢ NoMemory → b ≢ NoMemory → a ≡ b → t ≡ u → fs ≡ gs
+found_once : (s t u : State) (n : ℕ) (a b : Stop) (fs gs : List Found) → Checks s n a t fs → Checks s n b u gs →
+    a ≢ NoMemory → b ≢ NoMemory → a ≡ b → t ≡ u → fs ≡ gs
 found_once s t u n a b fs gs (over c e f g h) (over d i j k l) p q stop to = h ∙ sym l
 found_once s t u n a b fs gs (over c e f g h) (whole i j x) p q stop to = absurd (some-none s.exited c e i)
-found_once s t u n a b fs gs (over c e f g h) (cut made before k l m i less x o w y is) p q stop to = absurd (some-none s.exited c e i)
+found_once s t u n a b fs gs (over c e f g h) (cut made before k l m i less x o w y is) p q stop to =
+    absurd (some-none s.exited c e i)
 found_once s t u n a b fs gs (whole i j x) (over c e f g h) p q stop to = absurd (some-none s.exited c e i)
 found_once s t u n a b fs gs (whole i j x) (whole k l y) p q stop to = in_once s t u n fs gs x y
 found_once s t u n a b fs gs (whole i j x) (cut made before k l m e less y o w z is) p q stop to =
-    let d : Cut s n b u gs = record { made = made; before = before; front = l; more = m; known = k; fewer = less; finds = y; origins = o; answers = w; at = z; is = is } in
+    let d : Cut s n b u gs = record {
+      made = made;
+      before = before;
+      front = l;
+      more = m;
+      known = k;
+      fewer = less;
+      finds = y;
+      origins = o;
+      answers = w;
+      at = z;
+      is = is;
+    } in
     absurd (not_further s u t n n b gs fs q x d less)
-found_once s t u n a b fs gs (cut made before k l m i less x o w y is) (over c e f g h) p q stop to = absurd (some-none s.exited c e i)
+found_once s t u n a b fs gs (cut made before k l m i less x o w y is) (over c e f g h) p q stop to =
+    absurd (some-none s.exited c e i)
 found_once s t u n a b fs gs (cut made before k l m e less y o w z is) (whole i j x) p q stop to =
-    let d : Cut s n a t fs = record { made = made; before = before; front = l; more = m; known = k; fewer = less; finds = y; origins = o; answers = w; at = z; is = is } in
+    let d : Cut s n a t fs = record {
+      made = made;
+      before = before;
+      front = l;
+      more = m;
+      known = k;
+      fewer = less;
+      finds = y;
+      origins = o;
+      answers = w;
+      at = z;
+      is = is;
+    } in
     absurd (not_further s t u n n a fs gs p x d less)
-found_once s t u n a b fs gs (cut made before k l m e less y o w z is) (cut made' before' k' l' m' e' less' y' o' w' z' is') p q stop to =
+found_once s t u n a b fs gs (cut made before k l m e less y o w z is)
+    (cut made' before' k' l' m' e' less' y' o' w' z' is') p q stop to =
     cut_once s t u n a b fs gs p q stop to
-    (record { made = made; before = before; front = l; more = m; known = k; fewer = less; finds = y; origins = o; answers = w; at = z; is = is })
-    (record { made = made'; before = before'; front = l'; more = m'; known = k'; fewer = less'; finds = y'; origins = o'; answers = w'; at = z'; is = is' })
+    (record {
+      made = made;
+      before = before;
+      front = l;
+      more = m;
+      known = k;
+      fewer = less;
+      finds = y;
+      origins = o;
+      answers = w;
+      at = z;
+      is = is;
+    })
+    (record {
+      made = made';
+      before = before';
+      front = l';
+      more = m';
+      known = k';
+      fewer = less';
+      finds = y';
+      origins = o';
+      answers = w';
+      at = z';
+      is = is';
+    })
 
 pub check_once : CheckHasOneReport
 check_once s t u n a b fs gs x y p q =

@@ -24,7 +24,9 @@ four_none : (a b c d e : List Finding) → a ≡ [] → b ≡ [] → c ≡ [] �
 four_none a b c d e p q r = rw (p, q, r) refl
 
 -- of a step after which memory shows the same headers, only what a call did is found
-pub seen_findings : (s t : State) (w : Watch) → IsWatch s.upper s.memory w → IsSeen t.upper t.memory w → findings s t (shown_of w) (shown_of w) ≡ freed_twice s.cpu t.cpu (call_of s.cpu) (map header_of w.headers.items) ++ call_findings s.cpu t.cpu (call_of s.cpu)
+pub seen_findings : (s t : State) (w : Watch) → IsWatch s.upper s.memory w → IsSeen t.upper t.memory w →
+    findings s t (shown_of w) (shown_of w) ≡ freed_twice s.cpu t.cpu (call_of s.cpu) (map header_of w.headers.items)
+    ++ call_findings s.cpu t.cpu (call_of s.cpu)
 seen_findings s t w x y = four_none _ _ _ _ _
     (none_either_way (arranges s.cpu (call_of s.cpu)) _ (seen_overwritten s.upper t.upper s.memory t.memory w x y))
     (seen_mapped_away s.upper t.upper s.memory t.memory w x y)

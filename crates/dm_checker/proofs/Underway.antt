@@ -30,10 +30,19 @@ exited_with s t code (run.cut e w) = (let less = w.fewer in absurd (omega arith)
 
 -- ---- the steps so far
 
-pub made_of : (s t : State) (n : ℕ) (c : UnderWay) → c.left ≤ n → HasChecked c.free s (n - c.left) t c.origins c.report → HasMade s n t c
-made_of s t n c few h = record { running = h.running; few = few; found = h.found; finds = h.finds; knows = h.knows; reports = h.is }
+pub made_of : (s t : State) (n : ℕ) (c : UnderWay) → c.left ≤ n →
+    HasChecked c.free s (n - c.left) t c.origins c.report → HasMade s n t c
+made_of s t n c few h = record {
+  running = h.running;
+  few = few;
+  found = h.found;
+  finds = h.finds;
+  knows = h.knows;
+  reports = h.is;
+}
 
-pub checked_of : (s t : State) (n : ℕ) (c : UnderWay) → HasMade s n t c → HasChecked c.free s (n - c.left) t c.origins c.report
+pub checked_of : (s t : State) (n : ℕ) (c : UnderWay) → HasMade s n t c →
+    HasChecked c.free s (n - c.left) t c.origins c.report
 checked_of s t n c h = record { running = h.running; found = h.found; finds = h.finds; knows = h.knows; is = h.reports }
 
 pub record Going (s : State) (n : ℕ) (t : State) (c : UnderWay) : Type 0 where
@@ -45,24 +54,28 @@ pub going_of : (s t : State) (n : ℕ) (c : UnderWay) → c.over ≡ None → Is
 going_of s t n c e (going f made watch) = record { few = made.few; checked = checked_of s t n c made; watch = watch }
 going_of s t n c e (had_ended code f g h i first) = absurd (let no : Some code ≡ None = sym f ∙ e in cc)
 
-pub ended_of : (s t : State) (n code : ℕ) (c : UnderWay) → c.over ≡ Some code → IsUnderWay s n t c → IsReport s n c.free (Exited code) t c.report
+pub ended_of : (s t : State) (n code : ℕ) (c : UnderWay) → c.over ≡ Some code → IsUnderWay s n t c →
+    IsReport s n c.free (Exited code) t c.report
 ended_of s t n code c e (going f made watch) = absurd (let no : Some code ≡ None = sym e ∙ f in cc)
 ended_of s t n code c e (had_ended other f g h i first) =
     let same : Some other ≡ Some code = sym f ∙ e in
     record { found = []; checks = checks.over code (g ∙ same) refl h refl; is = i }
 
-pub begins : (s t : State) (n : ℕ) (c : UnderWay) → c.over ≡ s.exited → t ≡ s → c.left ≡ n → c.report ≡ report_of [] → c.origins ≡ known_at s → IsWatch t.upper t.memory c.watch → IsUnderWay s n t c
+pub begins : (s t : State) (n : ℕ) (c : UnderWay) → c.over ≡ s.exited → t ≡ s → c.left ≡ n → c.report ≡ report_of [] →
+    c.origins ≡ known_at s → IsWatch t.upper t.memory c.watch → IsUnderWay s n t c
 begins s t n c e same left empty first watch = by s.exited refl
   where
     by : (o : Option ℕ) → s.exited ≡ o → IsUnderWay s n t c
     by None h =
         let none : 0 ≡ n - c.left = omega (arith, left) in
-        going (e ∙ h) (made_of s t n c (omega (arith, left)) (subst (λ (k : ℕ). HasChecked c.free s k t c.origins c.report) none (checked_none c.free s t c.origins c.report h same first empty))) watch
+        going (e ∙ h) (made_of s t n c (omega (arith, left)) (subst (λ (k : ℕ). HasChecked c.free s k t c.origins
+        c.report) none (checked_none c.free s t c.origins c.report h same first empty))) watch
     by (Some code) h = had_ended code (e ∙ h) h same empty first
 
 -- ---- one more step
 
-module _ (free : Bool) (s t u : State) (n left passed : ℕ) (k : Known) (r : Reported) (few : left ≤ n) (h : HasChecked free s (n - left) t k r) (f : PassesIn t passed u) where
+module _ (free : Bool) (s t u : State) (n left passed : ℕ) (k : Known) (r : Reported) (few : left
+    ≤ n) (h : HasChecked free s (n - left) t k r) (f : PassesIn t passed u) where
   on : HasChecked free s (n - left + passed) u k r
   on = checked_on free s t u (n - left) passed k r h f
 
@@ -71,21 +84,29 @@ module _ (free : Bool) (s t u : State) (n left passed : ℕ) (k : Known) (r : Re
   all_made all = checked_all free s u (n - left + passed) n k r on (omega (arith, all, few))
 
   -- a stop came
-  pub stopped : passed < left → (v : State) (stop : Stop) (w : Watch) (l : Known) (new : Reported) → ChecksOne free u (Some stop) v w k l r new → IsReport s n free stop v new
-  stopped less v stop w l new x = checked_cut free s u v (n - left + passed) n stop w k l r new on (omega (arith, less, few)) x
+  pub stopped : passed < left → (v : State) (stop : Stop) (w : Watch) (l : Known) (new : Reported) →
+      ChecksOne free u (Some stop) v w k l r new → IsReport s n free stop v new
+  stopped less v stop w l new x = checked_cut free s u v (n - left + passed) n stop w k l r new on (omega (
+    arith,
+    less,
+    few,
+  )) x
 
   -- the machine goes on
-  pub gone_on : passed < left → (v : State) (w : Watch) (l : Known) (new : Reported) → ChecksOne free u None v w k l r new → HasChecked free s (n - (left - passed - 1)) v l new
+  pub gone_on : passed < left → (v : State) (w : Watch) (l : Known) (new : Reported) →
+      ChecksOne free u None v w k l r new → HasChecked free s (n - (left - passed - 1)) v l new
   gone_on less v w l new x =
       let one_more : n - left + passed + 1 ≡ n - (left - passed - 1) = omega (arith, less, few) in
-      subst (λ (i : ℕ). HasChecked free s i v l new) one_more (checked_more free s u v (n - left + passed) w k l r new on x)
+      subst (λ (i : ℕ). HasChecked free s i v l new) one_more (checked_more free s u v (n - left + passed) w k l r new
+      on x)
 
   -- an allocation failed
   pub part_lost : passed < left → (v : State) → IsPart u v → RunsPart s n v
   part_lost less v x = part_next free s u v (n - left + passed) n k r on (omega (arith, less, few)) x
 
   -- what is listed stays listed
-  pub listed_on : (v : State) (stop : Option Stop) (w : Watch) (l : Known) (new : Reported) → ChecksOne free u stop v w k l r new → IsLonger r new
+  pub listed_on : (v : State) (stop : Option Stop) (w : Watch) (l : Known) (new : Reported) →
+      ChecksOne free u stop v w k l r new → IsLonger r new
   listed_on v stop w l new x = longer_by free r new h.found x.found h.is x.reports
 
   -- ---- the processes
@@ -93,56 +114,83 @@ module _ (free : Bool) (s t u : State) (n left passed : ℕ) (k : Known) (r : Re
   pub all_processes : passed ≡ left → AreProcesses s n AllSteps u k.processes
   all_processes all =
       let made : n - left + passed ≡ n = omega (arith, all, few) in
-      record { known = k; knows = processes.whole h.running refl (subst (λ (i : ℕ). OriginsIn s i u k) made on.knows); are = refl }
+      record {
+        known = k;
+        knows = processes.whole h.running refl (subst (λ (i : ℕ). OriginsIn s i u k) made on.knows);
+        are = refl;
+      }
 
-  pub stop_processes : passed < left → (v : State) (stop : Stop) (w : Watch) (l : Known) (new : Reported) → ChecksOne free u (Some stop) v w k l r new → AreProcesses s n stop v l.processes
+  pub stop_processes : passed < left → (v : State) (stop : Stop) (w : Watch) (l : Known) (new : Reported) →
+      ChecksOne free u (Some stop) v w k l r new → AreProcesses s n stop v l.processes
   stop_processes less v stop w l new x =
-      record { known = l; knows = processes.cut (n - left + passed) u k h.running (omega (arith, less, few)) on.knows x.answers x.knows; are = refl }
+      record {
+        known = l;
+        knows = processes.cut (n - left + passed) u k h.running (omega (
+          arith,
+          less,
+          few,
+        )) on.knows x.answers x.knows;
+        are = refl;
+      }
 
   -- ---- up to the first finding that `old` does not list
 
-  module _ (old new : UnderWay) (same : old.free ≡ free) (longer : IsLonger old.report r) (no_more : length r.listed ≤ length old.report.listed) where
+  module _ (old new : UnderWay) (same : old.free ≡ free) (longer : IsLonger old.report r) (no_more : length r.listed
+      ≤ length old.report.listed) where
     lists_same : ListsSame old on.found
     lists_same =
-        ap (λ (b : Bool). founds (report_of (reported b on.found)).listed) same ∙ ap (λ (x : Reported). founds x.listed) (sym on.is)
+        ap (λ (b : Bool). founds (report_of (reported b on.found)).listed) same
+        ∙ ap (λ (x : Reported). founds x.listed) (sym on.is)
         ∙ listed_same old.report r longer no_more
 
     -- the report is that of these findings
-    report_as : (x : Reported) (fs : List Found) → x ≡ report_of (reported free fs) → x ≡ report_of (reported old.free fs)
+    report_as : (x : Reported) (fs : List Found) → x ≡ report_of (reported free fs) →
+        x ≡ report_of (reported old.free fs)
     report_as x fs e = e ∙ ap (λ (b : Bool). report_of (reported b fs)) (sym same)
 
     -- the machine goes on, and the report lists more
-    pub first_listed : passed < left → (v : State) (w : Watch) (l : Known) → ChecksOne free u None v w k l r new.report → new.left ≡ left - passed - 1
+    pub first_listed : passed < left → (v : State) (w : Watch) (l : Known) →
+        ChecksOne free u None v w k l r new.report → new.left ≡ left - passed - 1
         → length old.report.listed < length new.report.listed → GoesToFirst s n old v new None
     first_listed less v w l x left_is more =
         let one : n - left + passed ≡ n - new.left - 1 = omega (arith, less, few, left_is) in
         let all : n - (left - passed - 1) ≡ n - new.left = omega (arith, left_is) in
         let g = gone_on less v w l new.report x in
-        lists_more u on.found g.found h.running (omega (arith, less, few, left_is)) (subst (λ (i : ℕ). FindsIn s i u on.found) one on.finds) lists_same
+        lists_more u on.found g.found h.running (omega (arith, less, few, left_is))
+        (subst (λ (i : ℕ). FindsIn s i u on.found) one on.finds) lists_same
         (subst (λ (i : ℕ). FindsIn s i v g.found) all g.finds) more (report_as new.report g.found g.is)
 
     -- a stop came
-    pub first_stopped : passed < left → (v : State) (stop : Stop) (w : Watch) (l : Known) → ChecksOne free u (Some stop) v w k l r new.report → GoesToFirst s n old v new (Some stop)
+    pub first_stopped : passed < left → (v : State) (stop : Stop) (w : Watch) (l : Known) →
+        ChecksOne free u (Some stop) v w k l r new.report → GoesToFirst s n old v new (Some stop)
     first_stopped less v stop w l x =
-        checking.cut (n - left + passed) u k on.found x.found stop h.running (omega (arith, less, few)) on.finds on.knows lists_same x.answers x.finds
+        checking.cut (n - left + passed) u k on.found x.found stop h.running (omega (
+          arith,
+          less,
+          few,
+        )) on.finds on.knows lists_same x.answers x.finds
         (report_as new.report (on.found ++ x.found) (x.reports on.found on.is))
 
     -- all steps were made
     pub first_whole : passed ≡ left → new.report ≡ r → GoesToFirst s n old u new (Some AllSteps)
     first_whole all is =
         let made : n - left + passed ≡ n = omega (arith, all, few) in
-        checking.whole on.found h.running (subst (λ (i : ℕ). FindsIn s i u on.found) made on.finds) lists_same (report_as new.report on.found (is ∙ on.is))
+        checking.whole on.found h.running (subst (λ (i : ℕ). FindsIn s i u on.found) made on.finds) lists_same
+        (report_as new.report on.found (is ∙ on.is))
 
 -- the program had ended
-pub ended_processes : (s t : State) (n code : ℕ) (c : UnderWay) → c.over ≡ Some code → IsUnderWay s n t c → AreProcesses s n (Exited code) t c.origins.processes
+pub ended_processes : (s t : State) (n code : ℕ) (c : UnderWay) → c.over ≡ Some code → IsUnderWay s n t c →
+    AreProcesses s n (Exited code) t c.origins.processes
 ended_processes s t n code c e (going f made watch) = absurd (let no : Some code ≡ None = sym e ∙ f in cc)
 ended_processes s t n code c e (had_ended other f g h i first) =
     let same : Some other ≡ Some code = sym f ∙ e in
     record { known = c.origins; knows = processes.over code (g ∙ same) refl h first; are = refl }
 
-pub first_ended : (s t : State) (n code : ℕ) (old new : UnderWay) → old.over ≡ Some code → new.report ≡ old.report → IsUnderWay s n t old → GoesToFirst s n old t new (Some (Exited code))
+pub first_ended : (s t : State) (n code : ℕ) (old new : UnderWay) → old.over ≡ Some code → new.report ≡ old.report →
+    IsUnderWay s n t old → GoesToFirst s n old t new (Some (Exited code))
 first_ended s t n code old new e is (going f made watch) = absurd (let no : Some code ≡ None = sym e ∙ f in cc)
-first_ended s t n code old new e is (had_ended other f g h i first) = (let same : Some other ≡ Some code = sym f ∙ e in checking.over code (g ∙ same) h (is ∙ i))
+first_ended s t n code old new e is (had_ended other f g h i first) = (let same : Some other ≡ Some code = sym f ∙ e in
+    checking.over code (g ∙ same) h (is ∙ i))
 
 -- ---- no step was made
 
@@ -150,5 +198,10 @@ pub part_none : (s t : State) (n : ℕ) → t ≡ s → RunsPart s n t
 part_none s t n same = by s.exited refl
   where
     by : (o : Option ℕ) → s.exited ≡ o → RunsPart s n t
-    by None h = record { most = 0; stop = AllSteps; few = omega arith; run = run.whole h refl (subst (λ (u : State). run.Goes s 0 u) (sym same) run.here) }
+    by None h = record {
+      most = 0;
+      stop = AllSteps;
+      few = omega arith;
+      run = run.whole h refl (subst (λ (u : State). run.Goes s 0 u) (sym same) run.here);
+    }
     by (Some code) h = record { most = 0; stop = Exited code; few = omega arith; run = run.over code h refl same }

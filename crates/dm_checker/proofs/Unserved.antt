@@ -49,13 +49,16 @@ called_at : (s : State) (n : ℕ) → call_of s.cpu ≡ Some (Dos n) → Called 
 unfolding call_of
 called_at s n e = called s.cpu n (entry_point_at s.cpu.cs s.cpu.ip) e
 
-answers : (s t : State) (n : ℕ) → call_of s.cpu ≡ Some (Dos n) → function_of n ≡ Unknown → MakesStep s (record { stop = None; state = t }) → record { stop = None; state = t } ≡ no_function s
+answers : (s t : State) (n : ℕ) → call_of s.cpu ≡ Some (Dos n) → function_of n ≡ Unknown →
+    MakesStep s (record { stop = None; state = t }) → record { stop = None; state = t } ≡ no_function s
 unfolding MakesStep
 answers s t n e none h =
     let k = called_at s n e in
     let x : Answer = record { stop = None; state = t } in
-    let acts : Acts s (entry_point_at s.cpu.cs s.cpu.ip) x = subst (λ (o : Option ℕ). ActsUnlessEnded s o x) (still_running s t h) h in
-    let calls : Calls s (function_of (byte_of s.cpu Ah)) x = subst (λ (o : Option EntryPoint). Acts s o x) k.entry acts in
+    let acts : Acts s (entry_point_at s.cpu.cs s.cpu.ip) x =
+    subst (λ (o : Option ℕ). ActsUnlessEnded s o x) (still_running s t h) h in
+    let calls : Calls s (function_of (byte_of s.cpu Ah)) x =
+    subst (λ (o : Option EntryPoint). Acts s o x) k.entry acts in
     unknown s x n none (subst (λ (m : ℕ). Calls s (function_of m) x) k.number calls)
 
 -- ---- what is found of it

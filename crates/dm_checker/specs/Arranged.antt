@@ -24,7 +24,8 @@ use Rattle.dm_checker.specs.Shown.{Shown}
 -- present one (`present`, the segment of its prefix); none if it is another block or free
 abbrev pub other_block : ℕ → ℕ → Header → List Finding
 other_block present segment b =
-    if (b.segment + 1 == segment) && not (b.owner == 0) && not (b.owner == present) then OtherFreed segment b.owner ∷ [] else []
+    if (b.segment + 1 == segment) && not (b.owner == 0) && not (b.owner == present) then OtherFreed segment b.owner ∷ []
+    else []
 
 -- the finding that a call of 49h freed the block at segment ES, which another process owned; none for any other call.
 -- c and d are the registers before and after the call, `headers` the arena before it
@@ -67,11 +68,13 @@ if_whole (Some at) fs = []
 
 -- what is found by the list of blocks after the call, if that list is valid
 abbrev pub found_after_call : Bool → ℕ → Cpu → Cpu → ℕ → Shown → List Finding
-found_after_call a20 present c d number new = if_whole new.broken (stack_freed a20 c d number new.headers ++ not_resized present c number new.headers)
+found_after_call a20 present c d number new = if_whole new.broken (stack_freed a20 c d number new.headers
+    ++ not_resized present c number new.headers)
 
 -- what is found of a call, by the arena before it (old) and after it (new): of a function of INT 21h alone
 abbrev pub arranged_by : Bool → ℕ → Cpu → Cpu → Option Call → List Header → Shown → List Finding
-arranged_by a20 present c d (Some (Dos number)) old new = other_freed present c d number old ++ found_after_call a20 present c d number new
+arranged_by a20 present c d (Some (Dos number)) old new = other_freed present c d number old
+    ++ found_after_call a20 present c d number new
 arranged_by a20 present c d _ old new = []
 
 -- what is found of the step from s to t, if it performs a call: a block of another process that it freed, a stack that

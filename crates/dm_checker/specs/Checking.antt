@@ -39,7 +39,8 @@ pub record HasMade (s : State) (n : ℕ) (t : State) (c : UnderWay) : Type 0 whe
 -- there is no step, and nothing is found)
 pub data IsUnderWay (s : State) (n : ℕ) (t : State) (c : UnderWay) : Type 0 where
   going : c.over ≡ None → HasMade s n t c → IsWatch t.upper t.memory c.watch → IsUnderWay s n t c
-  had_ended : (code : ℕ) → c.over ≡ Some code → s.exited ≡ Some code → t ≡ s → c.report ≡ report_of [] → c.origins ≡ known_at s → IsUnderWay s n t c
+  had_ended : (code : ℕ) → c.over ≡ Some code → s.exited ≡ Some code → t ≡ s → c.report ≡ report_of [] →
+      c.origins ≡ known_at s → IsUnderWay s n t c
 
 -- the run goes on from `old` to `new` in state t (None), after a step at least; or it stops for a reason, and `new` has
 -- the report of the whole run of at most n steps from s
@@ -71,9 +72,15 @@ ListsSame c fs = founds (report_of (reported c.free fs)).listed ≡ founds c.rep
 -- there (None), or stops before; what is found up to the step before that one is listed by `old`. The report is that of
 -- all that is found
 pub data GoesToFirst (s : State) (n : ℕ) (old : UnderWay) (t : State) (new : UnderWay) : Option Stop → Type 0 where
-  lists_more : (before : State) (fs gs : List Found) → s.exited ≡ None → new.left < n → FindsIn s (n - new.left - 1) before fs → ListsSame old fs
-      → FindsIn s (n - new.left) t gs → length old.report.listed < length new.report.listed → new.report ≡ report_of (reported old.free gs) → GoesToFirst s n old t new None
-  over : (code : ℕ) → s.exited ≡ Some code → t ≡ s → new.report ≡ report_of [] → GoesToFirst s n old t new (Some (Exited code))
-  whole : (fs : List Found) → s.exited ≡ None → FindsIn s n t fs → ListsSame old fs → new.report ≡ report_of (reported old.free fs) → GoesToFirst s n old t new (Some AllSteps)
-  cut : (made : ℕ) (before : State) (k : Known) (fs gs : List Found) (stop : Stop) → s.exited ≡ None → made < n → FindsIn s made before fs → OriginsIn s made before k
-      → ListsSame old fs → Answers before (Some stop) t → FindsAtStop before stop t k gs → new.report ≡ report_of (reported old.free (fs ++ gs)) → GoesToFirst s n old t new (Some stop)
+  lists_more : (before : State) (fs gs : List Found) → s.exited ≡ None → new.left < n →
+      FindsIn s (n - new.left - 1) before fs → ListsSame old fs
+      → FindsIn s (n - new.left) t gs → length old.report.listed < length new.report.listed →
+      new.report ≡ report_of (reported old.free gs) → GoesToFirst s n old t new None
+  over : (code : ℕ) → s.exited ≡ Some code → t ≡ s → new.report ≡ report_of [] →
+      GoesToFirst s n old t new (Some (Exited code))
+  whole : (fs : List Found) → s.exited ≡ None → FindsIn s n t fs → ListsSame old fs →
+      new.report ≡ report_of (reported old.free fs) → GoesToFirst s n old t new (Some AllSteps)
+  cut : (made : ℕ) (before : State) (k : Known) (fs gs : List Found) (stop : Stop) → s.exited ≡ None → made < n →
+      FindsIn s made before fs → OriginsIn s made before k
+      → ListsSame old fs → Answers before (Some stop) t → FindsAtStop before stop t k gs →
+      new.report ≡ report_of (reported old.free (fs ++ gs)) → GoesToFirst s n old t new (Some stop)

@@ -57,14 +57,18 @@ FindsAtStop s NoMemory t k found = found ≡ []
 -- n steps lead from s to this state, none of them ended the program, and this is what is found in them, in their order
 pub data FindsIn (s : State) : ℕ → State → List Found → Type 0 where
   here : FindsIn s 0 s []
-  further : (n : ℕ) (t u : State) (k l : Known) (fs gs : List Found) → FindsIn s n t fs → OriginsIn s n t k → MakesStep t (record { stop = None; state = u }) → IsKnownAfter t u k l → FindsAt t u l gs → FindsIn s (n + 1) u (fs ++ gs)
+  further : (n : ℕ) (t u : State) (k l : Known) (fs gs : List Found) → FindsIn s n t fs → OriginsIn s n t k →
+      MakesStep t (record { stop = None; state = u }) → IsKnownAfter t u k l → FindsAt t u l gs →
+      FindsIn s (n + 1) u (fs ++ gs)
 
 -- a run of at most n steps from s stops for this reason and leaves t, and `found` is what is found in it: the program
 -- had ended before (`over`), n steps were made (`whole`), or a stop came earlier (`cut`)
 pub data Checks (s : State) (n : ℕ) (stop : Stop) (t : State) (found : List Found) : Type 0 where
   over : (code : ℕ) → s.exited ≡ Some code → stop ≡ Exited code → t ≡ s → found ≡ [] → Checks s n stop t found
   whole : s.exited ≡ None → stop ≡ AllSteps → FindsIn s n t found → Checks s n stop t found
-  cut : (made : ℕ) (before : State) (k : Known) (fs gs : List Found) → s.exited ≡ None → made < n → FindsIn s made before fs → OriginsIn s made before k → Answers before (Some stop) t → FindsAtStop before stop t k gs → found ≡ fs ++ gs → Checks s n stop t found
+  cut : (made : ℕ) (before : State) (k : Known) (fs gs : List Found) → s.exited ≡ None → made < n →
+      FindsIn s made before fs → OriginsIn s made before k → Answers before (Some stop) t →
+      FindsAtStop before stop t k gs → found ≡ fs ++ gs → Checks s n stop t found
 
 -- the findings that are reported: all of them, or, unless free memory is looked at (`free`), those that are not about
 -- it

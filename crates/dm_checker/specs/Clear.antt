@@ -25,7 +25,8 @@ keeps_writes m ws a =
     if nat_lt a 0xC0000 then true else
     if nat_lt a 0xD0000 then false else
     if nat_lt a 0xE0000 then true else
-    if nat_lt a 0xF0000 then is_some (slice_index_or m.windows ((a - 0xE0000) / 0x4000) None) && not (list_any is_high ws) else not (nat_lt a 0x100000) && nat_lt a 0x10FFF0
+    if nat_lt a 0xF0000 then is_some (slice_index_or m.windows ((a - 0xE0000) / 0x4000) None) &&
+    not (list_any is_high ws) else not (nat_lt a 0x100000) && nat_lt a 0x10FFF0
 
 -- whether nothing is found of a read of the linear address
 abbrev pub is_read_clear : List Watched → ℕ → Bool

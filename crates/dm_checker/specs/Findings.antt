@@ -40,7 +40,9 @@ all_overwritten may S T headers = if may then [] else flat_map (overwritten S T)
 -- what is found of the bytes that the step from s touches, by the arena that memory shows before it (`old`): something
 -- only if an instruction is performed, not where a call is (`calling`), nor once the program has ended (`over`)
 pub data FindsTouched (s : State) (old : Shown) (found : List Finding) : Type 0 where
-  touching : (i : Ins) (length : ℕ) → s.exited ≡ None → call_of s.cpu ≡ None → BeginsWith (fetched s.memory s.cpu) i length → found ≡ touch_findings (guest s.cpu s.memory) i length old.broken old.headers → FindsTouched s old found
+  touching : (i : Ins) (length : ℕ) → s.exited ≡ None → call_of s.cpu ≡ None →
+      BeginsWith (fetched s.memory s.cpu) i length → found ≡ touch_findings (guest s.cpu s.memory) i length old.broken
+      old.headers → FindsTouched s old found
   calling : (call : Call) → call_of s.cpu ≡ Some call → found ≡ [] → FindsTouched s old found
   over : (code : ℕ) → s.exited ≡ Some code → found ≡ [] → FindsTouched s old found
 
@@ -71,13 +73,21 @@ pub record Finds (s t : State) (found : List Finding) : Type 0 where
 -- a is what the step from s performs: a call, or an instruction with the offset after it
 pub data IsAct (s : State) (a : Act) : Type 0 where
   called : (call : Call) → call_of s.cpu ≡ Some call → a ≡ act.Call call → IsAct s a
-  instructed : (i : Ins) (length : ℕ) → call_of s.cpu ≡ None → BeginsWith (fetched s.memory s.cpu) i length → a ≡ act.Instruction i (up s.cpu.ip length) → IsAct s a
+  instructed : (i : Ins) (length : ℕ) → call_of s.cpu ≡ None → BeginsWith (fetched s.memory s.cpu) i length →
+      a ≡ act.Instruction i (up s.cpu.ip length) → IsAct s a
 
 -- the findings with their step from s to t, which performs a: its number (the machine's count of steps after it), the
 -- process that was present, and where in its code the program performs it: an instruction at CS:IP, a call at its
 -- caller. k is what is known after it of who allocated and who freed
 abbrev pub found_at : State → State → Known → Act → List Finding → List Found
-found_at s t k a = map (λ f. record { step = t.steps; process = s.processes.present; site = site_of s.memory s.cpu; act = a; finding = f; origin = origin_of k s.memory.a20 f })
+found_at s t k a = map (λ f. record {
+  step = t.steps;
+  process = s.processes.present;
+  site = site_of s.memory s.cpu;
+  act = a;
+  finding = f;
+  origin = origin_of k s.memory.a20 f;
+})
 
 -- `found` is the findings fs with their step from s to t, after which k is known; the empty list if there are none
 pub data IsFound (s t : State) (k : Known) (fs : List Finding) (found : List Found) : Type 0 where

@@ -16,7 +16,8 @@ use Rattle.dm_checker.specs.Checks.{Checks}
 
 -- a checked run is a run: the same steps, stop and state
 abbrev pub ACheckedRunIsARun : Type 0
-ACheckedRunIsARun = (s t : State) (n : ℕ) (stop : Stop) (found : List Found) → Checks s n stop t found → IsRun s n stop t
+ACheckedRunIsARun = (s t : State) (n : ℕ) (stop : Stop) (found : List Found) → Checks s n stop t found →
+    IsRun s n stop t
 
 -- checked runs of at most as many steps from one state, in which no allocation fails, stop for one reason in one state
 -- with one list of findings

@@ -30,7 +30,8 @@ abbrev pub known_by : State → State → Shown → Shown → Option Call → Kn
 known_by s t old new (Some (ExpandedMemory number)) k = with_handles k t.ems (Some (origin_at s t))
 known_by s t old new (Some (ExtendedMemory number)) k = with_extended_memory k t.xms t.memory.a20 (Some (origin_at s t))
 known_by s t old new call k =
-    if arranges s.cpu call then with_course s t call (if_both_whole old.broken new.broken k (with_freed k old.headers new.headers (origin_at s t))) else k
+    if arranges s.cpu call then with_course s t call (if_both_whole old.broken new.broken k
+    (with_freed k old.headers new.headers (origin_at s t))) else k
 
 -- l is known after the step from s to t, if k was known before it
 pub record IsKnownAfter (s t : State) (k l : Known) : Type 0 where
@@ -47,4 +48,5 @@ known_at s = known_first s.ems s.xms s.memory.a20 (present_process s)
 -- n steps lead from s to this state, none of them ended the program, and this is known after them
 pub data OriginsIn (s : State) : ℕ → State → Known → Type 0 where
   here : OriginsIn s 0 s (known_at s)
-  further : (n : ℕ) (t u : State) (k l : Known) → OriginsIn s n t k → MakesStep t (record { stop = None; state = u }) → IsKnownAfter t u k l → OriginsIn s (n + 1) u l
+  further : (n : ℕ) (t u : State) (k l : Known) → OriginsIn s n t k → MakesStep t (record { stop = None; state = u }) →
+      IsKnownAfter t u k l → OriginsIn s (n + 1) u l

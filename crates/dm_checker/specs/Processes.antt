@@ -23,7 +23,8 @@ KnowsAtStop s NoMemory t k l = l ≡ k
 pub data KnowsIn (s : State) (n : ℕ) (stop : Stop) (t : State) (known : Known) : Type 0 where
   over : (code : ℕ) → s.exited ≡ Some code → stop ≡ Exited code → t ≡ s → known ≡ known_at s → KnowsIn s n stop t known
   whole : s.exited ≡ None → stop ≡ AllSteps → OriginsIn s n t known → KnowsIn s n stop t known
-  cut : (made : ℕ) (before : State) (k : Known) → s.exited ≡ None → made < n → OriginsIn s made before k → Answers before (Some stop) t → KnowsAtStop before stop t k known → KnowsIn s n stop t known
+  cut : (made : ℕ) (before : State) (k : Known) → s.exited ≡ None → made < n → OriginsIn s made before k →
+      Answers before (Some stop) t → KnowsAtStop before stop t k known → KnowsIn s n stop t known
 
 -- these are the processes of a run of at most n steps from s that stops for this reason in t, in the order of their
 -- starts: the one that is present in s, and those that the run starts

@@ -23,6 +23,9 @@ pub record IsCut (m : Memory) (F : List Header) (start : ℕ) (P : List Header) 
 -- arena (`upper`) and the first list is not linked with it. A list that breaks is shown up to there
 pub data IsShown (upper : Bool) (m : Memory) (shown : Shown) : Type 0 where
   cut : (at : ℕ) → IsCut m [] first_header shown.headers at → shown.broken ≡ Some at → IsShown upper m shown
-  alone : IsArena m first_header shown.headers → is_parted upper shown.headers ≡ false → shown.broken ≡ None → IsShown upper m shown
-  parted : (L U : List Header) → IsArena m first_header L → is_parted upper L ≡ true → IsArenaBehind m L link_header U → shown.headers ≡ L ++ U → shown.broken ≡ None → IsShown upper m shown
-  parted_cut : (L P : List Header) (at : ℕ) → IsArena m first_header L → is_parted upper L ≡ true → IsCut m L link_header P at → shown.headers ≡ L ++ P → shown.broken ≡ Some at → IsShown upper m shown
+  alone : IsArena m first_header shown.headers → is_parted upper shown.headers ≡ false → shown.broken ≡ None →
+      IsShown upper m shown
+  parted : (L U : List Header) → IsArena m first_header L → is_parted upper L ≡ true → IsArenaBehind m L link_header U →
+      shown.headers ≡ L ++ U → shown.broken ≡ None → IsShown upper m shown
+  parted_cut : (L P : List Header) (at : ℕ) → IsArena m first_header L → is_parted upper L ≡ true →
+      IsCut m L link_header P at → shown.headers ≡ L ++ P → shown.broken ≡ Some at → IsShown upper m shown

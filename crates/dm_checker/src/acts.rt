@@ -28,7 +28,8 @@ pub(crate) struct Before {
 /// The eight bytes that stand `skipped` bytes after CS:IP, read one by one; offsets wrap.
 #[inline(never)]
 fn fetch_each(cpu: &Cpu, space: &Space, skipped: u16) -> [u8; 8]
-    ensures { result ≡ map (λ k. byte_after space.now.memory cpu.now.cs cpu.now.ip (skipped + k)) (0 ∷ 1 ∷ 2 ∷ 3 ∷ 4 ∷ 5 ∷ 6 ∷ 7 ∷ []) }
+    ensures { result ≡ map (λ k. byte_after space.now.memory cpu.now.cs cpu.now.ip (skipped + k)) (0 ∷ 1 ∷ 2 ∷ 3 ∷ 4 ∷ 5
+        ∷ 6 ∷ 7 ∷ []) }
 {
     let at = |k: u16| space.peek(cpu.cs, cpu.ip.wrapping_add(skipped).wrapping_add(k));
     [at(0), at(1), at(2), at(3), at(4), at(5), at(6), at(7)]
@@ -37,7 +38,8 @@ fn fetch_each(cpu: &Cpu, space: &Space, skipped: u16) -> [u8; 8]
 /// The eight bytes that stand `skipped` bytes after CS:IP, read at once where memory allows it; offsets wrap.
 #[inline(always)]
 fn fetch_eight(cpu: &Cpu, space: &Space, skipped: u16) -> [u8; 8]
-    ensures { result ≡ map (λ k. byte_after space.now.memory cpu.now.cs cpu.now.ip (skipped + k)) (0 ∷ 1 ∷ 2 ∷ 3 ∷ 4 ∷ 5 ∷ 6 ∷ 7 ∷ []) }
+    ensures { result ≡ map (λ k. byte_after space.now.memory cpu.now.cs cpu.now.ip (skipped + k)) (0 ∷ 1 ∷ 2 ∷ 3 ∷ 4 ∷ 5
+        ∷ 6 ∷ 7 ∷ []) }
 {
     match space.eight_bytes(cpu.cs, cpu.ip.wrapping_add(skipped)) {
         Some(eight) => eight.to_le_bytes(),

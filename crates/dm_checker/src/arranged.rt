@@ -41,7 +41,8 @@ fn put_each_other(
     segment: u16,
     headers: &[Watched],
 ) -> Result<(), AllocError>
-    ensures { OnOk result (out.new.items ≡ out.old.items ++ flat_map (other_block present segment) (map header_of headers.now)) }
+    ensures { OnOk result (out.new.items ≡ out.old.items ++ flat_map (other_block present segment)
+        (map header_of headers.now)) }
 {
     for watched in headers {
         put_other_block(out, present, segment, watched)?;
@@ -58,7 +59,8 @@ fn put_other_freed(
     number: u8,
     headers: &[Watched],
 ) -> Result<(), AllocError>
-    ensures { OnOk result (out.new.items ≡ out.old.items ++ other_freed present before.now after.now number (map header_of headers.now)) }
+    ensures { OnOk result (out.new.items ≡ out.old.items ++ other_freed present before.now after.now number
+        (map header_of headers.now)) }
 {
     if frees(function_of(number)) && !after.flags.carry {
         return put_each_other(out, present, before.es, headers);
@@ -99,7 +101,8 @@ fn put_stack_freed(
     number: u8,
     headers: &[Watched],
 ) -> Result<(), AllocError>
-    ensures { OnOk result (out.new.items ≡ out.old.items ++ stack_freed a20 before.now after.now number (map header_of headers.now)) }
+    ensures { OnOk result (out.new.items ≡ out.old.items ++ stack_freed a20 before.now after.now number
+        (map header_of headers.now)) }
 {
     if (frees(function_of(number)) || resizes(function_of(number))) && !after.flags.carry {
         let top = FarAddress {
@@ -133,7 +136,8 @@ fn put_not_resized(
     number: u8,
     headers: &[Watched],
 ) -> Result<(), AllocError>
-    ensures { OnOk result (out.new.items ≡ out.old.items ++ not_resized present before.now number (map header_of headers.now)) }
+    ensures { OnOk result (out.new.items ≡ out.old.items ++ not_resized present before.now number
+        (map header_of headers.now)) }
 {
     if stays_resident(function_of(number)) && !has_size(present, before.dx, headers) {
         return append_finding(out, Finding::NotResized(before.dx));
@@ -149,7 +153,8 @@ fn put_after_call(
     number: u8,
     new: &Watch,
 ) -> Result<(), AllocError>
-    ensures { OnOk result (out.new.items ≡ out.old.items ++ found_after_call before.now.a20 before.now.present before.now.cpu after.now number (shown_of new.now)) }
+    ensures { OnOk result (out.new.items ≡ out.old.items
+        ++ found_after_call before.now.a20 before.now.present before.now.cpu after.now number (shown_of new.now)) }
 {
     if new.broken.is_some() {
         return Ok(());
@@ -168,7 +173,9 @@ pub(crate) fn put_arranged(
     headers: &[Watched],
     new: &Watch,
 ) -> Result<(), AllocError>
-    ensures { OnOk result (out.new.items ≡ out.old.items ++ arranged_by before.now.a20 before.now.present before.now.cpu after.now before.now.call (map header_of headers.now) (shown_of new.now)) }
+    ensures { OnOk result (out.new.items ≡ out.old.items
+        ++ arranged_by before.now.a20 before.now.present before.now.cpu after.now before.now.call
+        (map header_of headers.now) (shown_of new.now)) }
 {
     let Some(Call::Dos(number)) = before.call else {
         return Ok(());

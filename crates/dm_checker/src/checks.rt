@@ -32,7 +32,14 @@ impl Model for CheckedRun {
 
     ghost Value = { UnderWay };
 
-    ghost view = { λ c. record { report = c.report; left = c.left; free = c.free; over = c.over; watch = c.kept; origins = c.origins } };
+    ghost view = { λ c. record {
+      report = c.report;
+      left = c.left;
+      free = c.free;
+      over = c.over;
+      watch = c.kept;
+      origins = c.origins;
+    } };
 }
 
 /// The exit code of the machine's first program, if it has ended. The machine stays.
@@ -97,12 +104,16 @@ impl CheckedRun {
     ) -> Result<Option<Stop>, AllocError>
         requires program { HasProgram machine.old }
         requires way { (s : State) × (n : ℕ) × IsUnderWay s n machine.old self.old }
-        ensures ok { IfOk result (λ stop. (s : State) (n : ℕ) → IsUnderWay s n machine.old self.old → RunGoesOn s n stop machine.new self.old self.new) }
+        ensures ok { IfOk result (λ stop. (s : State) (n : ℕ) → IsUnderWay s n machine.old self.old →
+            RunGoesOn s n stop machine.new self.old self.new) }
         ensures lines { IfOk result (λ stop. IsLonger self.old.report self.new.report) }
-        ensures processes { IfOk result (λ stop. (s : State) (n : ℕ) → IsUnderWay s n machine.old self.old → HasProcesses s n stop machine.new self.new) }
+        ensures processes { IfOk result (λ stop. (s : State) (n : ℕ) → IsUnderWay s n machine.old self.old →
+            HasProcesses s n stop machine.new self.new) }
         ensures whole { IfOk result (λ stop. pausing ≡ false → stop ≢ None) }
-        ensures first { IfOk result (λ stop. pausing ≡ true → (s : State) (n : ℕ) → IsUnderWay s n machine.old self.old → GoesToFirst s n self.old machine.new self.new stop) }
-        ensures err { OnErr result ((s : State) (n : ℕ) → IsUnderWay s n machine.old self.old → RunsPart s n machine.new) }
+        ensures first { IfOk result (λ stop. pausing ≡ true → (s : State) (n : ℕ) →
+            IsUnderWay s n machine.old self.old → GoesToFirst s n self.old machine.new self.new stop) }
+        ensures err { OnErr result ((s : State) (n : ℕ) → IsUnderWay s n machine.old self.old →
+            RunsPart s n machine.new) }
         ensures loaded { HasProgram machine.new }
     {
         if let Some(code) = self.over {
@@ -151,11 +162,15 @@ impl CheckedRun {
     ) -> Result<Option<Stop>, AllocError>
         requires program { HasProgram machine.old }
         requires way { (s : State) × (n : ℕ) × IsUnderWay s n machine.old self.old }
-        ensures ok { IfOk result (λ stop. (s : State) (n : ℕ) → IsUnderWay s n machine.old self.old → RunGoesOn s n stop machine.new self.old self.new) }
+        ensures ok { IfOk result (λ stop. (s : State) (n : ℕ) → IsUnderWay s n machine.old self.old →
+            RunGoesOn s n stop machine.new self.old self.new) }
         ensures lines { IfOk result (λ stop. IsLonger self.old.report self.new.report) }
-        ensures processes { IfOk result (λ stop. (s : State) (n : ℕ) → IsUnderWay s n machine.old self.old → HasProcesses s n stop machine.new self.new) }
-        ensures first { IfOk result (λ stop. (s : State) (n : ℕ) → IsUnderWay s n machine.old self.old → GoesToFirst s n self.old machine.new self.new stop) }
-        ensures err { OnErr result ((s : State) (n : ℕ) → IsUnderWay s n machine.old self.old → RunsPart s n machine.new) }
+        ensures processes { IfOk result (λ stop. (s : State) (n : ℕ) → IsUnderWay s n machine.old self.old →
+            HasProcesses s n stop machine.new self.new) }
+        ensures first { IfOk result (λ stop. (s : State) (n : ℕ) → IsUnderWay s n machine.old self.old →
+            GoesToFirst s n self.old machine.new self.new stop) }
+        ensures err { OnErr result ((s : State) (n : ℕ) → IsUnderWay s n machine.old self.old →
+            RunsPart s n machine.new) }
         ensures loaded { HasProgram machine.new }
     {
         self.advance(alloc, machine, true)

@@ -32,7 +32,8 @@ pub(crate) fn put_freed_twice(
     call: Option<Call>,
     headers: &[Watched],
 ) -> Result<(), AllocError>
-    ensures { OnOk result (out.new.items ≡ out.old.items ++ freed_twice before.now after.now call (map header_of headers.now)) }
+    ensures { OnOk result (out.new.items ≡ out.old.items ++ freed_twice before.now after.now call
+        (map header_of headers.now)) }
 {
     let Some(Call::Dos(number)) = call else {
         return Ok(());

@@ -104,7 +104,8 @@ fn put_overwritten(
     windows: &[Option<Block>; 4],
     watched: &Watched,
 ) -> Result<(), AllocError>
-    ensures { OnOk result ((S : Memory) → windows.now ≡ S.windows → IsWatched S watched.now → out.new.items ≡ out.old.items ++ overwritten S space.now.memory watched.now.header) }
+    ensures { OnOk result ((S : Memory) → windows.now ≡ S.windows → IsWatched S watched.now →
+        out.new.items ≡ out.old.items ++ overwritten S space.now.memory watched.now.header) }
 {
     let Some(kept) = kept_of(space, windows, watched.header.segment) else {
         return Ok(());
@@ -124,7 +125,8 @@ fn put_mapped_away(
     windows: &[Option<Block>; 4],
     watched: &Watched,
 ) -> Result<(), AllocError>
-    ensures { OnOk result ((S : Memory) → windows.now ≡ S.windows → IsWatched S watched.now → out.new.items ≡ out.old.items ++ mapped_away S space.now.memory watched.now.header) }
+    ensures { OnOk result ((S : Memory) → windows.now ≡ S.windows → IsWatched S watched.now →
+        out.new.items ≡ out.old.items ++ mapped_away S space.now.memory watched.now.header) }
 {
     if let Some(kept) = kept_of(space, windows, watched.header.segment) {
         let shown = contents_of(bits_at(space, watched.header.segment));
@@ -142,7 +144,8 @@ pub(crate) fn put_all_overwritten(
     windows: &[Option<Block>; 4],
     headers: &[Watched],
 ) -> Result<(), AllocError>
-    ensures { OnOk result ((S : Memory) → windows.now ≡ S.windows → All (IsWatched S) headers.now → out.new.items ≡ out.old.items ++ flat_map (overwritten S space.now.memory) (map header_of headers.now)) }
+    ensures { OnOk result ((S : Memory) → windows.now ≡ S.windows → All (IsWatched S) headers.now →
+        out.new.items ≡ out.old.items ++ flat_map (overwritten S space.now.memory) (map header_of headers.now)) }
 {
     for watched in headers {
         put_overwritten(out, space, windows, watched)?;
@@ -157,7 +160,8 @@ pub(crate) fn put_all_mapped_away(
     windows: &[Option<Block>; 4],
     headers: &[Watched],
 ) -> Result<(), AllocError>
-    ensures { OnOk result ((S : Memory) → windows.now ≡ S.windows → All (IsWatched S) headers.now → out.new.items ≡ out.old.items ++ flat_map (mapped_away S space.now.memory) (map header_of headers.now)) }
+    ensures { OnOk result ((S : Memory) → windows.now ≡ S.windows → All (IsWatched S) headers.now →
+        out.new.items ≡ out.old.items ++ flat_map (mapped_away S space.now.memory) (map header_of headers.now)) }
 {
     for watched in headers {
         put_mapped_away(out, space, windows, watched)?;

@@ -50,7 +50,8 @@ fn has_high(headers: &[Watched]) -> bool
 fn mark_window(marks: &mut Marks, windows: &[Option<Block>; 4], high: bool, window: usize)
     requires { window < 4 }
     ensures keeps { Keeps 1 marks.old marks.new }
-    ensures marked { (p : ℕ) → 0xE000 + 0x400 * window ≤ p → p < 0xE400 + 0x400 * window → (is_some (slice_index_or windows.now window None) && not high) ≡ false → 1 ≤ level_at marks.new p }
+    ensures marked { (p : ℕ) → 0xE000 + 0x400 * window ≤ p → p < 0xE400 + 0x400 * window → (is_some
+        (slice_index_or windows.now window None) && not high) ≡ false → 1 ≤ level_at marks.new p }
 {
     if windows[window].is_some() && !high {
         return;

@@ -58,7 +58,8 @@ fn record_course(
     before: &Before,
     machine: &Machine,
 ) -> Result<(), AllocError>
-    ensures { OnOk result ((s : State) → IsBefore s before.now → origins.new ≡ with_course s machine.now before.now.call origins.old) }
+    ensures { OnOk result ((s : State) → IsBefore s before.now →
+        origins.new ≡ with_course s machine.now before.now.call origins.old) }
 {
     let step = machine.steps();
     if has_started(&before.cpu, &machine.cpu(), before.call) {
@@ -82,7 +83,8 @@ pub(crate) fn record_step(
     new: &Watch,
     machine: &Machine,
 ) -> Result<(), AllocError>
-    ensures { OnOk result ((s : State) → IsBefore s before.now → origins.new ≡ known_by s machine.now (shown_of old.now) (shown_of new.now) before.now.call origins.old) }
+    ensures { OnOk result ((s : State) → IsBefore s before.now →
+        origins.new ≡ known_by s machine.now (shown_of old.now) (shown_of new.now) before.now.call origins.old) }
 {
     let origin = Origin {
         step: machine.steps(),

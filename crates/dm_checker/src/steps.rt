@@ -57,7 +57,8 @@ fn look_anew(
 ) -> Result<(), AllocError>
     requires before { (s : State) × IsBefore s before.now × IsWatch s.upper s.memory old.now }
     requires after { IsWatch machine.now.upper machine.now.memory new.now }
-    ensures { OnOk result ((s : State) → IsBefore s before.now → IsWatch s.upper s.memory old.now → Looks s machine.now old.now out.old.items out.new.items) }
+    ensures { OnOk result ((s : State) → IsBefore s before.now → IsWatch s.upper s.memory old.now →
+        Looks s machine.now old.now out.old.items out.new.items) }
 {
     let space = machine.space();
     let after = machine.cpu();
@@ -83,9 +84,11 @@ fn look(
     machine: &Machine,
 ) -> Result<(), AllocError>
     requires { (s : State) × IsBefore s before.now × IsWatch s.upper s.memory kept.old }
-    ensures looks { OnOk result ((s : State) → IsBefore s before.now → IsWatch s.upper s.memory kept.old → Looks s machine.now kept.old out.old.items out.new.items) }
+    ensures looks { OnOk result ((s : State) → IsBefore s before.now → IsWatch s.upper s.memory kept.old →
+        Looks s machine.now kept.old out.old.items out.new.items) }
     ensures watch { OnOk result (IsWatch machine.now.upper machine.now.memory kept.new) }
-    ensures knows { OnOk result ((s : State) → IsBefore s before.now → IsWatch s.upper s.memory kept.old → IsKnownAfter s machine.now origins.old origins.new) }
+    ensures knows { OnOk result ((s : State) → IsBefore s before.now → IsWatch s.upper s.memory kept.old →
+        IsKnownAfter s machine.now origins.old origins.new) }
 {
     if !arranges(&before.cpu, before.call) && kept.is_seen(machine) {
         record_step(alloc, origins, before, kept, kept, machine)?;
@@ -126,7 +129,8 @@ fn tell(
     act: Act,
     found: &[Finding],
 ) -> Result<(), AllocError>
-    ensures { OnOk result (ReportsMore free report.old report.new (map (found_by before.now step origins.now act) found.now)) }
+    ensures { OnOk result (ReportsMore free report.old report.new (map (found_by before.now step origins.now act)
+        found.now)) }
 {
     for finding in found {
         let found = Found {
@@ -152,7 +156,8 @@ fn tell_step(
     found: &[Finding],
 ) -> Result<(), AllocError>
     requires { (s : State) × IsBefore s before.now × Answers s None machine.now }
-    ensures { OnOk result ((s : State) → IsBefore s before.now → (more : List Found) × IsFound s machine.now origins.now found.now more × ReportsMore free report.old report.new more) }
+    ensures { OnOk result ((s : State) → IsBefore s before.now → (more : List Found) ×
+        IsFound s machine.now origins.now found.now more × ReportsMore free report.old report.new more) }
 {
     if found.is_empty() {
         return Ok(());
@@ -180,8 +185,11 @@ fn check_end(
 ) -> Result<(), AllocError>
     requires before { (s : State) × IsBefore s before.now × IsWatch s.upper s.memory kept.old }
     requires call { before.now.call ≡ Some call }
-    ensures knows { OnOk result ((s : State) → IsBefore s before.now → IsWatch s.upper s.memory kept.old → IsKnownAfter s machine.now origins.old origins.new) }
-    ensures finds { OnOk result ((s : State) → IsBefore s before.now → IsWatch s.upper s.memory kept.old → FindsTouched s (shown_of kept.old) found.old.items → (more : List Found) × FindsAtEnd s machine.now origins.old more × ReportsMore free report.old report.new more) }
+    ensures knows { OnOk result ((s : State) → IsBefore s before.now → IsWatch s.upper s.memory kept.old →
+        IsKnownAfter s machine.now origins.old origins.new) }
+    ensures finds { OnOk result ((s : State) → IsBefore s before.now → IsWatch s.upper s.memory kept.old →
+        FindsTouched s (shown_of kept.old) found.old.items → (more : List Found) ×
+        FindsAtEnd s machine.now origins.old more × ReportsMore free report.old report.new more) }
 {
     look(alloc, found, before, kept, origins, machine)?;
     put_leaks(found, machine, call_stays_resident(call))?;
@@ -238,7 +246,8 @@ pub(crate) fn look_at_step(
 ) -> Result<Option<Stop>, AllocError>
     requires program { HasProgram machine.old }
     requires watch { IsWatch machine.old.upper machine.old.memory kept.old }
-    ensures ok { IfOk result (λ stop. ChecksOne free machine.old stop machine.new kept.new origins.old origins.new report.old report.new) }
+    ensures ok { IfOk result (λ stop. ChecksOne free machine.old stop machine.new kept.new origins.old origins.new
+        report.old report.new) }
     ensures err { OnErr result (IsPart machine.old machine.new) }
     ensures program { HasProgram machine.new }
 {

@@ -38,7 +38,9 @@ fn put_of_each(
     touched: &Touched,
     headers: &[Watched],
 ) -> Result<(), AllocError>
-    ensures { OnOk result (out.new.items ≡ out.old.items ++ flat_map (of_header a20 (bytes_of touched.now.reads) (bytes_of touched.now.writes)) (map header_of headers.now)) }
+    ensures { OnOk result (out.new.items ≡ out.old.items
+        ++ flat_map (of_header a20 (bytes_of touched.now.reads) (bytes_of touched.now.writes))
+        (map header_of headers.now)) }
 {
     for watched in headers {
         put_of_header(out, a20, touched, &watched.header)?;
@@ -53,7 +55,8 @@ fn put_of_headers(
     touched: &Touched,
     kept: &Watch,
 ) -> Result<(), AllocError>
-    ensures { OnOk result (out.new.items ≡ out.old.items ++ of_headers a20 (bytes_of touched.now.reads) (bytes_of touched.now.writes) (broken_at kept.now.broken) (map header_of kept.now.headers.items)) }
+    ensures { OnOk result (out.new.items ≡ out.old.items ++ of_headers a20 (bytes_of touched.now.reads)
+        (bytes_of touched.now.writes) (broken_at kept.now.broken) (map header_of kept.now.headers.items)) }
 {
     if kept.broken.is_some() {
         return Ok(());

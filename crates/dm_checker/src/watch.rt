@@ -167,7 +167,8 @@ pub(crate) fn read_arena(alloc: Global, machine: &Machine) -> Result<Watch, Allo
 
 /// Whether memory still has the five bytes of each header as they were read.
 fn are_seen(space: &Space, headers: &[Watched]) -> bool
-    ensures { MatchBool result (All (IsWatched space.now.memory) headers.now) (All (IsWatched space.now.memory) headers.now → ⊥) }
+    ensures { MatchBool result (All (IsWatched space.now.memory) headers.now) (All (IsWatched space.now.memory)
+        headers.now → ⊥) }
 {
     for watched in headers {
         if bits_at(space, watched.header.segment) != watched.bits {
@@ -220,7 +221,8 @@ impl Watch {
     /// Whether the machine's windows, all bytes that were read and whether upper memory belongs to the arena are still
     /// the same. Then its memory shows the same of the arena.
     pub(crate) fn is_seen(&self, machine: &Machine) -> bool
-        ensures { MatchBool result (IsSeen machine.now.upper machine.now.memory self.now) (IsSeen machine.now.upper machine.now.memory self.now → ⊥) }
+        ensures { MatchBool result (IsSeen machine.now.upper machine.now.memory self.now) (IsSeen machine.now.upper
+            machine.now.memory self.now → ⊥) }
     {
         let space = machine.space();
         machine.upper() == self.upper

@@ -23,12 +23,14 @@ use Rattle.dm_cli.specs.Starting.{IsLoadFault, IsMachineFault, sizes_of, too_lar
 use Rattle.dm_cli.specs.inner.Starting.{IsFirstFault, IsFirstLoaded, tail_is_long, no_first, first_refused}
 
 -- a machine of these sizes was refused
-pub new_refused : (e : NewError) (store : List (List ℕ × List ℕ)) (input : List ℕ) (o : MachineOptions) → (e ≡ new.TooLarge → IsTooLarge (sizes_of o)) → IsMachineFault store input o (new_fault e)
+pub new_refused : (e : NewError) (store : List (List ℕ × List ℕ)) (input : List ℕ) (o : MachineOptions) →
+    (e ≡ new.TooLarge → IsTooLarge (sizes_of o)) → IsMachineFault store input o (new_fault e)
 new_refused new.TooLarge store input o h = too_large (h refl)
 new_refused new.Memory store input o h = no_memory
 
 -- a machine of these sizes was made
-pub not_too_large : {A : Type 0} (m : A) (sizes : Sizes) → (Ok m ≡ Err new.TooLarge) ↔ IsTooLarge sizes → ¬ IsTooLarge sizes
+pub not_too_large : {A : Type 0} (m : A) (sizes : Sizes) → (Ok m ≡ Err new.TooLarge) ↔ IsTooLarge sizes →
+    ¬ IsTooLarge sizes
 not_too_large m sizes h large = let e = h.1 large in cc
 
 -- there is no first one of some paths
@@ -37,7 +39,8 @@ none_first f [] h = refl
 none_first f (x ∷ xs) h = absurd (none-some x h)
 
 -- the first program's name is none that a file of a store has
-pub bad_name : (e : Fault) (path : List ℕ) (fresh : State) → IsNameFault path e → ¬ IsName (last_part path) → IsLoadFault fresh (last_part path) e
+pub bad_name : (e : Fault) (path : List ℕ) (fresh : State) → IsNameFault path e → ¬ IsName (last_part path) →
+    IsLoadFault fresh (last_part path) e
 bad_name fault.NotFound path fresh (inl h) none = absurd h.0
 bad_name fault.NotFound path fresh (inr h) none = absurd (let e = h.0 in cc)
 bad_name fault.BadFormat path fresh (inl h) none = absurd h.0
@@ -59,14 +62,16 @@ bad_name (fault.Twice n) path fresh h none = none
 bad_name fault.OutOfMemory path fresh h none = none
 
 -- the first program was refused
-pub load_refused : (e : LoadError) (fresh : State) (name : List ℕ) → (e ≡ load.NotFound → program_of fresh.programs name ≡ None) → (e ≡ load.BadFormat → IsBadProgram fresh name)
+pub load_refused : (e : LoadError) (fresh : State) (name : List ℕ) → (e ≡ load.NotFound →
+    program_of fresh.programs name ≡ None) → (e ≡ load.BadFormat → IsBadProgram fresh name)
     → (e ≡ load.Short → HasNoRoom fresh name) → IsLoadFault fresh name (load_fault e)
 load_refused load.NotFound fresh name missing bad short = missing refl
 load_refused load.BadFormat fresh name missing bad short = bad refl
 load_refused load.Short fresh name missing bad short = short refl
 
 -- the console's input in a session, if it has a file
-pub input_of_session : (files : List ℕ → Option (List ℕ)) (o : Option (List ℕ)) (e : Fault) → IsSomeAnd o (λ name. IsInputFault (bytes_if_any files (Some name)) name e)
+pub input_of_session : (files : List ℕ → Option (List ℕ)) (o : Option (List ℕ)) (e : Fault) →
+    IsSomeAnd o (λ name. IsInputFault (bytes_if_any files (Some name)) name e)
     → IsSomeAnd o (λ name. IsInputFault (bytes_if_any files o) name e)
 input_of_session files None e h = absurd h
 input_of_session files (Some name) e h = h
@@ -77,8 +82,10 @@ error_of_none None err e h = cc
 error_of_none (Some x) err e h = absurd (cc)
 
 -- a new machine with its first program, and the faults of that one
-pub begun_by : (store : List (List ℕ × List ℕ)) (input : List ℕ) (sizes : Sizes) (upper : Bool) (paths : List (List ℕ)) (tail : List ℕ) (fresh m : State) → ¬ IsTooLarge sizes
-    → IsNew sizes [] upper store input fresh → IsFirstLoaded fresh paths tail m → IsBegun store input sizes upper paths tail m
+pub begun_by : (store : List (List ℕ × List ℕ)) (input : List ℕ) (sizes : Sizes) (upper : Bool) (paths : List (List ℕ))
+    (tail : List ℕ) (fresh m : State) → ¬ IsTooLarge sizes
+    → IsNew sizes [] upper store input fresh → IsFirstLoaded fresh paths tail m →
+    IsBegun store input sizes upper paths tail m
 begun_by store input sizes upper paths tail fresh m small new h = record {
   small = small;
   fresh = fresh;
@@ -90,8 +97,10 @@ begun_by store input sizes upper paths tail fresh m small new h = record {
   loaded = h.loaded;
 }
 
-pub fault_of_first : (store : List (List ℕ × List ℕ)) (input : List ℕ) (o : MachineOptions) (fresh : State) (e : Fault) → ¬ IsTooLarge (sizes_of o)
+pub fault_of_first : (store : List (List ℕ × List ℕ)) (input : List ℕ) (o : MachineOptions) (fresh : State)
+    (e : Fault) → ¬ IsTooLarge (sizes_of o)
     → IsNew (sizes_of o) [] o.upper store input fresh → IsFirstFault fresh o e → IsMachineFault store input o e
 fault_of_first store input o fresh _ small new (tail_is_long long) = long_tail fresh small new long
 fault_of_first store input o fresh _ small new (no_first short none) = no_file fresh small new short none
-fault_of_first store input o fresh _ small new (first_refused first others e short is why) = not_loaded fresh first others e small new short is why
+fault_of_first store input o fresh _ small new (first_refused first others e short is why) =
+    not_loaded fresh first others e small new short is why

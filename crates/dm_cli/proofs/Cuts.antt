@@ -11,11 +11,14 @@ cut_past_end (Some xs) items n h short = h ∙ take_all n xs (shorter xs (rw (�
     shorter ys p = let q = length-take n ys in omega (arith, p, q)
 
 -- the first n of some bytes: all of them, where they are fewer
-pub cut_short : (o : Option (List ℕ)) (items : List ℕ) (n : ℕ) → IfSome o (λ xs. items ≡ take n xs) → length items < n → IfSome o (λ xs. items ≡ xs)
+pub cut_short : (o : Option (List ℕ)) (items : List ℕ) (n : ℕ) → IfSome o (λ xs. items ≡ take n xs) → length items < n →
+    IfSome o (λ xs. items ≡ xs)
 cut_short None items n h short = tt
 cut_short (Some xs) items n h short = cut_past_end (Some xs) items n h short
 
 -- they are no more than all
-pub cut_long : (o : Option (List ℕ)) (items : List ℕ) (n m : ℕ) → IfSome o (λ xs. items ≡ take n xs) → m < length items → IfSome o (λ xs. m < length xs)
+pub cut_long : (o : Option (List ℕ)) (items : List ℕ) (n m : ℕ) → IfSome o (λ xs. items ≡ take n xs) →
+    m < length items → IfSome o (λ xs. m < length xs)
 cut_long None items n m h long = tt
-cut_long (Some xs) items n m h long = let k = length-take n xs in let e : length items ≡ length (take n xs) = ap length h in omega (arith, e, k, long)
+cut_long (Some xs) items n m h long = let k = length-take n xs in let e : length items ≡ length (take n xs) =
+    ap length h in omega (arith, e, k, long)

@@ -23,7 +23,8 @@ none_of [] stops h = All-nil (λ x. x ≢ 10)
 none_of (x ∷ xs) stops h =
     let last : ℕ = get_or (x ∷ xs) (length (x ∷ xs) - 1) 0 in
     let some : nat_lt 0 (length (x ∷ xs)) ≡ true = grind (arith, nat_tests) in
-    All-of_StopsAt (x ∷ xs) 10 (length (x ∷ xs)) last refl (λ e. absurd (omega (arith, e))) (get_or_default (x ∷ xs) (length (x ∷ xs) - 1) 0 last (omega arith))
+    All-of_StopsAt (x ∷ xs) 10 (length (x ∷ xs)) last refl (λ e. absurd (omega (arith, e))) (get_or_default (x
+    ∷ xs) (length (x ∷ xs) - 1) 0 last (omega arith))
     (other (nat_lt 0 (length (x ∷ xs))) last h some) stops
   where
     other : (b : Bool) (a : ℕ) → (b && eqb a 10) ≡ false → b ≡ true → a ≢ 10
@@ -34,12 +35,16 @@ none_of (x ∷ xs) stops h =
 pub first_ended : (p rest : List ℕ) → StopsAt p 10 → ends_with_byte 10 p ≡ true
     → (take_through 10 (p ++ rest) ≡ p) × (drop_through 10 (p ++ rest) ≡ rest)
 first_ended [] rest stops ends = absurd (let x : false ≡ true = ends in cc)
-first_ended (x ∷ xs) rest stops ends = through_part 10 (x ∷ xs) rest stops (ends_of (x ∷ xs) ends) (λ none. absurd (omega (arith, none)))
+first_ended (x ∷ xs) rest stops ends = through_part 10 (x ∷ xs) rest stops (ends_of (x ∷ xs) ends)
+    (λ none. absurd (omega (arith, none)))
 
 -- a line without its end, after which nothing stands
 pub first_last : (p : List ℕ) → StopsAt p 10 → ends_with_byte 10 p ≡ false
     → (take_through 10 (p ++ []) ≡ p) × (drop_through 10 (p ++ []) ≡ [])
-first_last p stops ends = (take_through-append 10 p [] (none_of p stops ends) ∙ append-nil p, drop_through-append 10 p [] (none_of p stops ends))
+first_last p stops ends = (
+  take_through-append 10 p [] (none_of p stops ends) ∙ append-nil p,
+  drop_through-append 10 p [] (none_of p stops ends),
+)
 
 -- a first line is at least as long as what was read of it
 pub first_long : (p rest : List ℕ) → StopsAt p 10 → length p ≤ length (take_through 10 (p ++ rest))
@@ -53,19 +58,25 @@ first_long p rest stops = by (ends_with_byte 10 p) refl
 
 -- the first line of a text that was cut behind it
 pub first_cut : (m : ℕ) (xs : List ℕ) → length (take_through 10 (take m xs)) < m
-    → (take_through 10 (take m xs) ≡ take_through 10 xs) × (drop_through 10 (take m xs) ≡ take (m - length (take_through 10 xs)) (drop_through 10 xs))
+    → (take_through 10 (take m xs) ≡ take_through 10 xs) ×
+    (drop_through 10 (take m xs) ≡ take (m - length (take_through 10 xs)) (drop_through 10 xs))
 first_cut zero xs h = absurd (omega (arith, h))
 first_cut (suc m) [] h = (refl, sym (take_all _ [] (omega arith)))
 first_cut (suc m) (x ∷ xs) h = at (λ k. first_cut m xs k) (eqb x 10) h
   where
     at : (length (take_through 10 (take m xs)) < m → (take_through 10 (take m xs) ≡ take_through 10 xs)
-        × (drop_through 10 (take m xs) ≡ take (m - length (take_through 10 xs)) (drop_through 10 xs))) → (b : Bool) → length (cond b (x ∷ []) (x ∷ take_through 10 (take m xs))) < suc m
+        × (drop_through 10 (take m xs) ≡ take (m - length (take_through 10 xs)) (drop_through 10 xs))) → (b : Bool) →
+        length (cond b (x ∷ []) (x ∷ take_through 10 (take m xs))) < suc m
         → (cond b (x ∷ []) (x ∷ take_through 10 (take m xs)) ≡ cond b (x ∷ []) (x ∷ take_through 10 xs))
-        × (cond b (take m xs) (drop_through 10 (take m xs)) ≡ take (suc m - length (cond b (x ∷ []) (x ∷ take_through 10 xs))) (cond b xs (drop_through 10 xs)))
+        × (cond b (take m xs) (drop_through 10 (take m xs)) ≡ take (suc m - length (cond b (x ∷ []) (x
+        ∷ take_through 10 xs))) (cond b xs (drop_through 10 xs)))
     at step true h = (refl, ap (λ k. take k xs) (let e : m ≡ suc m - 1 = omega arith in e))
     at step false h =
-        let next = step (omega (arith, h)) in
-        (ap (λ l. x ∷ l) next.0, next.1 ∙ ap (λ k. take k (drop_through 10 xs)) (let e : m - length (take_through 10 xs) ≡ suc m - suc (length (take_through 10 xs)) = omega arith in e))
+        let next = step (omega (arith, h)) in (
+          ap (λ l. x ∷ l) next.0,
+          next.1 ∙ ap (λ k. take k (drop_through 10 xs)) (let e : m - length (take_through 10 xs)
+              ≡ suc m - suc (length (take_through 10 xs)) = omega arith in e),
+        )
 
 -- the first line of a text that was cut is no longer
 pub first_cut_short : (m : ℕ) (xs : List ℕ) → length (take_through 10 (take m xs)) ≤ length (take_through 10 xs)
@@ -73,7 +84,8 @@ first_cut_short zero xs = omega arith
 first_cut_short (suc m) [] = omega arith
 first_cut_short (suc m) (x ∷ xs) = at (first_cut_short m xs) (eqb x 10)
   where
-    at : length (take_through 10 (take m xs)) ≤ length (take_through 10 xs) → (b : Bool) → length (cond b (x ∷ []) (x ∷ take_through 10 (take m xs))) ≤ length (cond b (x ∷ []) (x ∷ take_through 10 xs))
+    at : length (take_through 10 (take m xs)) ≤ length (take_through 10 xs) → (b : Bool) →
+        length (cond b (x ∷ []) (x ∷ take_through 10 (take m xs))) ≤ length (cond b (x ∷ []) (x ∷ take_through 10 xs))
     at h true = omega arith
     at h false = omega (arith, h)
 
@@ -90,9 +102,11 @@ none_through (x ∷ xs) none = at (none_through xs) (eqb x 10) refl none
     at step false e all = step (All-tail (λ y. y ≢ 10) x (take_through 10 xs) all)
 
 -- without its end it is the last one
-pub last_of_all : (a b : Option (List ℕ)) (line : List ℕ) → IfSome a (λ xs. line ≡ take_through 10 xs) → DropsThrough a b 10 → StopsAt line 10
+pub last_of_all : (a b : Option (List ℕ)) (line : List ℕ) → IfSome a (λ xs. line ≡ take_through 10 xs) →
+    DropsThrough a b 10 → StopsAt line 10
     → ends_with_byte 10 line ≡ false → OnSome a (IsAtEnd b)
 last_of_all None b line is drops stops none = tt
 last_of_all (Some xs) b line is drops stops none =
-    let all : All (λ x. x ≢ 10) (take_through 10 xs) = none_of (take_through 10 xs) (rw (← is) stops) (rw (← is) none) in
+    let all : All (λ x. x ≢ 10) (take_through 10 xs) = none_of (take_through 10 xs) (rw (← is) stops)
+    (rw (← is) none) in
     rw drops (none_through xs all)

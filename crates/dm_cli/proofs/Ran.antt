@@ -8,8 +8,12 @@ use Rattle.dm_cli.specs.Program.{Runs, ran, partly_written}
 use Rattle.dm_cli.specs.Starting.{IsStartedBy}
 use Rattle.dm_cli.specs.inner.Program.{RunsMachine, machine_ran, output_cut}
 
-pub run_of_machine : (files : List ℕ → Option (List ℕ)) (typed : Option (List ℕ)) (o : MachineOptions) (m : State) → IsStartedBy files typed o m
-    → (before after : Option (List ℕ)) (failed_before failed_after : ℕ) (r : Result Stop Fault) → RunsMachine m o.steps before after failed_before failed_after r
+pub run_of_machine : (files : List ℕ → Option (List ℕ)) (typed : Option (List ℕ)) (o : MachineOptions) (m : State) →
+    IsStartedBy files typed o m
+    → (before after : Option (List ℕ)) (failed_before failed_after : ℕ) (r : Result Stop Fault) →
+    RunsMachine m o.steps before after failed_before failed_after r
     → Runs files typed o before after failed_before failed_after r
-run_of_machine files typed o m started b a f g _ (machine_ran t stop run whole none) = ran m t stop started run whole none
-run_of_machine files typed o m started b a f g _ (output_cut t stop fault run part failed is) = partly_written m t stop fault started run part failed is
+run_of_machine files typed o m started b a f g _ (machine_ran t stop run whole none) =
+    ran m t stop started run whole none
+run_of_machine files typed o m started b a f g _ (output_cut t stop fault run part failed is) =
+    partly_written m t stop fault started run part failed is

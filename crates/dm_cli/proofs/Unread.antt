@@ -27,8 +27,13 @@ read_ok b a (all_read same tells) = same
 read_ok b a (one_unread failed tells) = absurd tells
 
 -- what files hold, and saves, stay through two reads
-pub kept_then : (k l m : List ℕ → Option (List ℕ)) (s t u : Option (List (List ℕ × List ℕ))) (f g h : ℕ) → IsKept k l s t f g → IsKept l m t u g h → IsKept k m s u f h
-kept_then k l m s t u f g h a b = record { files = b.files ∙ a.files; saves = b.saves ∙ a.saves; count = b.count ∙ a.count }
+pub kept_then : (k l m : List ℕ → Option (List ℕ)) (s t u : Option (List (List ℕ × List ℕ))) (f g h : ℕ) →
+    IsKept k l s t f g → IsKept l m t u g h → IsKept k m s u f h
+kept_then k l m s t u f g h a b = record {
+  files = b.files ∙ a.files;
+  saves = b.saves ∙ a.saves;
+  count = b.count ∙ a.count;
+}
 
 pub kept_all : (k : List ℕ → Option (List ℕ)) (s : Option (List (List ℕ × List ℕ))) (f : ℕ) → IsKept k k s s f f
 kept_all k s f = record { files = refl; saves = refl; count = refl }
@@ -86,7 +91,8 @@ name_tells (fault.Unknown x) p h = tt
 name_tells (fault.Range x) p h = tt
 name_tells (fault.Twice x) p h = tt
 
-pub input_tells : (f : Fault) (known : Option (List ℕ)) → IsInputFault known (codes "standard input") f → TellsOfNoFile (Some f)
+pub input_tells : (f : Fault) (known : Option (List ℕ)) → IsInputFault known (codes "standard input") f →
+    TellsOfNoFile (Some f)
 input_tells fault.NotFound k h = tt
 input_tells fault.BadFormat k h = tt
 input_tells fault.Short k h = tt
@@ -183,10 +189,12 @@ load_tells load.BadFormat = tt
 load_tells load.Short = tt
 
 -- the fault that ends a session tells of no file
-pub converse_tells : (n : ℕ) (s : Debugged) (text told : List ℕ) (t : Debugged) (end : Option Fault) (whole : Bool) → Converses n s text told t end whole → TellsOfNoFile end
+pub converse_tells : (n : ℕ) (s : Debugged) (text told : List ℕ) (t : Debugged) (end : Option Fault) (whole : Bool) →
+    Converses n s text told t end whole → TellsOfNoFile end
 converse_tells _ _ _ _ _ _ _ (ended n s) = tt
 converse_tells _ _ _ _ _ _ _ (quits n s text fits quit) = tt
-converse_tells _ _ _ _ _ _ _ (answers n s t u text told more end whole h fits other tells rest) = converse_tells _ _ _ _ _ _ _ rest
+converse_tells _ _ _ _ _ _ _ (answers n s t u text told more end whole h fits other tells rest) =
+    converse_tells _ _ _ _ _ _ _ rest
 converse_tells _ _ _ _ _ _ _ (too_long n s text long) = tt
 converse_tells _ _ _ _ _ _ _ (unread n s text f is) = line_tells f is
 converse_tells _ _ _ _ _ _ _ (no_memory n s text) = tt
@@ -194,12 +202,14 @@ converse_tells _ _ _ _ _ _ _ (cut_off n s t text h fits other cut) = tt
 converse_tells _ _ _ _ _ _ _ (unwritten n s t text told k f h fits other tells le is) = answer_tells f is
 converse_tells _ _ _ _ _ _ _ (not_handed_on n s t text told f h fits other tells is) = answer_tells f is
 
-pub session_tells : (typed : Option (List ℕ)) (s t : Debugged) (before after : Option (List ℕ)) (opened failures : ℕ) (end : Option Fault) → ConversesWith typed s t before after opened failures end → TellsOfNoFile end
+pub session_tells : (typed : Option (List ℕ)) (s t : Debugged) (before after : Option (List ℕ)) (opened failures : ℕ)
+    (end : Option Fault) → ConversesWith typed s t before after opened failures end → TellsOfNoFile end
 session_tells typed s t b a o f _ (through_buffer end c) = converse_tells _ _ _ _ _ _ _ c.converses
 session_tells typed s t b a o f _ (without_buffer kept same) = tt
 
 -- a read after others that did not fail
-pub reads_after : (before between after : ℕ) (end : Option Fault) → between ≡ before → ReadsFiles between after end → ReadsFiles before after end
+pub reads_after : (before between after : ℕ) (end : Option Fault) → between ≡ before → ReadsFiles between after end →
+    ReadsFiles before after end
 reads_after b m a end e h = subst (λ n. ReadsFiles n a end) e h
 
 pub if_tells : {A : Type 0} (r : Result A Fault) → IfErr r (λ e. TellsOfNoFile (Some e)) → TellsOfNoFile (fault_if r)
@@ -207,14 +217,20 @@ if_tells (Ok x) h = tt
 if_tells (Err e) h = h
 
 -- files hold what they held
-pub adds_kept : (k l : List ℕ → Option (List ℕ)) (s : List (List ℕ × List ℕ)) (path : List ℕ) (t : List (List ℕ × List ℕ)) → l ≡ k → AddsFile (l path) s path t → AddsFile (k path) s path t
+pub adds_kept : (k l : List ℕ → Option (List ℕ)) (s : List (List ℕ × List ℕ)) (path : List ℕ) (t : List (List ℕ ×
+    List ℕ)) → l ≡ k → AddsFile (l path) s path t → AddsFile (k path) s path t
 adds_kept k l s path t e h = subst (λ (m : List ℕ → Option (List ℕ)). AddsFile (m path) s path t) e h
 
-pub fault_kept : (k l : List ℕ → Option (List ℕ)) (s : List (List ℕ × List ℕ)) (path : List ℕ) (f : Fault) → l ≡ k → IsFaultOf (l path) s path f → IsFaultOf (k path) s path f
+pub fault_kept : (k l : List ℕ → Option (List ℕ)) (s : List (List ℕ × List ℕ)) (path : List ℕ) (f : Fault) → l ≡ k →
+    IsFaultOf (l path) s path f → IsFaultOf (k path) s path f
 fault_kept k l s path f e h = subst (λ (m : List ℕ → Option (List ℕ)). IsFaultOf (m path) s path f) e h
 
-pub read_kept : (k l : List ℕ → Option (List ℕ)) (o : Option (List ℕ)) (bytes : List ℕ) → l ≡ k → IsRead (bytes_if_any l o) bytes → IsRead (bytes_if_any k o) bytes
+pub read_kept : (k l : List ℕ → Option (List ℕ)) (o : Option (List ℕ)) (bytes : List ℕ) → l ≡ k →
+    IsRead (bytes_if_any l o) bytes → IsRead (bytes_if_any k o) bytes
 read_kept k l o bytes e h = subst (λ (m : List ℕ → Option (List ℕ)). IsRead (bytes_if_any m o) bytes) e h
 
-pub input_kept : (k l : List ℕ → Option (List ℕ)) (o : Option (List ℕ)) (f : Fault) → l ≡ k → IsSomeAnd o (λ name. IsInputFault (bytes_if_any l (Some name)) name f) → IsSomeAnd o (λ name. IsInputFault (bytes_if_any k (Some name)) name f)
-input_kept k l o f e h = subst (λ (m : List ℕ → Option (List ℕ)). IsSomeAnd o (λ name. IsInputFault (bytes_if_any m (Some name)) name f)) e h
+pub input_kept : (k l : List ℕ → Option (List ℕ)) (o : Option (List ℕ)) (f : Fault) → l ≡ k →
+    IsSomeAnd o (λ name. IsInputFault (bytes_if_any l (Some name)) name f) →
+    IsSomeAnd o (λ name. IsInputFault (bytes_if_any k (Some name)) name f)
+input_kept k l o f e h = subst (λ (m : List ℕ → Option (List ℕ)). IsSomeAnd o
+    (λ name. IsInputFault (bytes_if_any m (Some name)) name f)) e h

@@ -31,20 +31,29 @@ pub record IsDisassembled (known : Option (List ℕ)) (text : List ℕ) : Type 0
 -- a fault of `dm asm` before it writes: the file can't be read, its text has an error, or an allocation failed
 pub data IsAsmFault (known : Option (List ℕ)) (path : List ℕ) : Fault → Type 0 where
   text_unread : (fault : Fault) → IsInputFault known path fault → IsAsmFault known path fault
-  text_refused : (text : List ℕ) (why : AssemblyRefusal) → IsRead known text → Refuses text why → IsAsmFault known path (refusal_fault why)
+  text_refused : (text : List ℕ) (why : AssemblyRefusal) → IsRead known text → Refuses text why →
+      IsAsmFault known path (refusal_fault why)
   text_no_memory : IsAsmFault known path OutOfMemory
 
--- `dm asm`: the bytes of the text are written to a file; or that failed, and the count of failed saves is one higher; or
+-- `dm asm`: the bytes of the text are written to a file; or that failed, and the count of failed saves is one higher;
+-- or
 -- the file is the one of the text, by the same path, which is not written over; or a fault came before. `before` and
 -- `after` are the files written, which change in the first case alone
-pub data AssemblesFile (files : List ℕ → Option (List ℕ)) (o : AsmOptions) (before after : Option (List (List ℕ × List ℕ))) (failed_before failed_after : ℕ) : Option Fault → Type 0 where
-  saved : (bytes : List ℕ) → IsAssembled (files o.input.now) bytes → bytes_eq o.output.now o.input.now ≡ false → Saves before after o.output.now bytes → failed_after ≡ failed_before
+pub data AssemblesFile (files : List ℕ → Option (List ℕ)) (o : AsmOptions) (before after : Option (List (List ℕ ×
+    List ℕ))) (failed_before failed_after : ℕ) : Option Fault → Type 0 where
+  saved : (bytes : List ℕ) → IsAssembled (files o.input.now) bytes → bytes_eq o.output.now o.input.now ≡ false →
+      Saves before after o.output.now bytes → failed_after ≡ failed_before
       → AssemblesFile files o before after failed_before failed_after None
-  unsaved : (bytes : List ℕ) (fault : Fault) → IsAssembled (files o.input.now) bytes → bytes_eq o.output.now o.input.now ≡ false → IsUnwritten o.output.now fault ⊎ (fault ≡ OutOfMemory)
-      → HasFailed failed_before failed_after → after ≡ before → AssemblesFile files o before after failed_before failed_after (Some fault)
-  not_over_its_text : (bytes : List ℕ) (fault : Fault) → IsAssembled (files o.input.now) bytes → bytes_eq o.output.now o.input.now ≡ true → IsUnwritten o.output.now fault
-      → after ≡ before → failed_after ≡ failed_before → AssemblesFile files o before after failed_before failed_after (Some fault)
-  not_assembled : (fault : Fault) → IsAsmFault (files o.input.now) o.input.now fault → after ≡ before → failed_after ≡ failed_before
+  unsaved : (bytes : List ℕ) (fault : Fault) → IsAssembled (files o.input.now) bytes →
+      bytes_eq o.output.now o.input.now ≡ false → IsUnwritten o.output.now fault ⊎ (fault ≡ OutOfMemory)
+      → HasFailed failed_before failed_after → after ≡ before →
+      AssemblesFile files o before after failed_before failed_after (Some fault)
+  not_over_its_text : (bytes : List ℕ) (fault : Fault) → IsAssembled (files o.input.now) bytes →
+      bytes_eq o.output.now o.input.now ≡ true → IsUnwritten o.output.now fault
+      → after ≡ before → failed_after ≡ failed_before → AssemblesFile files o before after failed_before failed_after
+      (Some fault)
+  not_assembled : (fault : Fault) → IsAsmFault (files o.input.now) o.input.now fault → after ≡ before →
+      failed_after ≡ failed_before
       → AssemblesFile files o before after failed_before failed_after (Some fault)
 
 -- a fault of `dm disasm` before it writes: the file can't be read, it has more than 65,278 bytes, or an allocation
@@ -56,10 +65,13 @@ pub data IsDisasmFault (known : Option (List ℕ)) (path : List ℕ) : Fault →
 
 -- `dm disasm`: the assembly text is appended to standard output; or a first part of it, if a write failed; or nothing,
 -- at a fault before. `before` and `after` are what standard output has taken
-pub data Disassembles (files : List ℕ → Option (List ℕ)) (path : List ℕ) (before after : Option (List ℕ)) (failed_before failed_after : ℕ) : Option Fault → Type 0 where
+pub data Disassembles (files : List ℕ → Option (List ℕ)) (path : List ℕ) (before after : Option (List ℕ))
+    (failed_before failed_after : ℕ) : Option Fault → Type 0 where
   listed : (text : List ℕ) → IsDisassembled (files path) text → Appends before after text → failed_after ≡ failed_before
       → Disassembles files path before after failed_before failed_after None
-  partly_listed : (text : List ℕ) (fault : Fault) → IsDisassembled (files path) text → AppendsPart before after text → HasFailed failed_before failed_after → IsWriteFault fault
+  partly_listed : (text : List ℕ) (fault : Fault) → IsDisassembled (files path) text → AppendsPart before after text →
+      HasFailed failed_before failed_after → IsWriteFault fault
       → Disassembles files path before after failed_before failed_after (Some fault)
-  not_listed : (fault : Fault) → IsDisasmFault (files path) path fault → Keeps before after → failed_after ≡ failed_before
+  not_listed : (fault : Fault) → IsDisasmFault (files path) path fault → Keeps before after →
+      failed_after ≡ failed_before
       → Disassembles files path before after failed_before failed_after (Some fault)

@@ -39,9 +39,11 @@ unwritten_line = codes "dm: cannot write standard output" ++ 10 ∷ []
 -- an allocation failed during a run of at most n steps from s, or after it: the lines of the findings that are listed
 -- of some first steps of it, or of all of it, were printed in the form of the report, and no more of it
 pub data IsLost (s : State) (n : ℕ) (free : Bool) (form : Format) (error_before error_after : Stream) : Type 0 where
-  some_steps : (made : ℕ) (t : State) (found : List Found) → made ≤ n → FindsIn s made t found → Prints (lines_in form (report_of (reported free found)).listed) error_before error_after
+  some_steps : (made : ℕ) (t : State) (found : List Found) → made ≤ n → FindsIn s made t found →
+      Prints (lines_in form (report_of (reported free found)).listed) error_before error_after
       → IsLost s n free form error_before error_after
-  all_steps : (stop : Stop) (t : State) (report : Reported) → IsReport s n free stop t report → Prints (lines_in form report.listed) error_before error_after
+  all_steps : (stop : Stop) (t : State) (report : Reported) → IsReport s n free stop t report →
+      Prints (lines_in form report.listed) error_before error_after
       → IsLost s n free form error_before error_after
 
 -- what is printed of a run that stopped: its report, the lines about its processes, and the line about its end
@@ -54,16 +56,29 @@ all_in form report ps stop t = report_in form report ++ processes_in form ps ++ 
 -- write of the output failed, after a first part, and the line of that fault was printed behind the report (`middle` is
 -- standard error between the two). Otherwise it is a fault: nothing was written to standard output, no write of it
 -- failed, and a part of the report may have been printed
-pub data Checks (files : List ℕ → Option (List ℕ)) (typed : Option (List ℕ)) (o : CheckOptions) (before after : Option (List ℕ)) (failed_before failed_after : ℕ) (error_before error_after : Stream) : Result ℕ Fault → Type 0 where
-  checked : (m t : State) (stop : Stop) (report : Reported) (ps : List Process) (failed : Bool) (status : ℕ) → IsStartedBy files typed o.machine m → IsRun m o.machine.steps stop t → IsReport m o.machine.steps (not o.no_free) stop t report → AreProcesses m o.machine.steps stop t ps
-      → Appends before after t.console.output → failed_after ≡ failed_before → HasPrinted failed (all_in (report_form o.json) report ps stop t) error_before error_after → status ≡ told_status failed (checked_status report stop)
+pub data Checks (files : List ℕ → Option (List ℕ)) (typed : Option (List ℕ)) (o : CheckOptions)
+    (before after : Option (List ℕ)) (failed_before failed_after : ℕ) (error_before error_after : Stream) : Result ℕ
+    Fault → Type 0 where
+  checked : (m t : State) (stop : Stop) (report : Reported) (ps : List Process) (failed : Bool) (status : ℕ) →
+      IsStartedBy files typed o.machine m → IsRun m o.machine.steps stop t →
+      IsReport m o.machine.steps (not o.no_free) stop t report → AreProcesses m o.machine.steps stop t ps
+      → Appends before after t.console.output → failed_after ≡ failed_before →
+      HasPrinted failed (all_in (report_form o.json) report ps stop t) error_before error_after →
+      status ≡ told_status failed (checked_status report stop)
       → Checks files typed o before after failed_before failed_after error_before error_after (Ok status)
-  partly_written : (m t : State) (stop : Stop) (report : Reported) (ps : List Process) (middle : Stream) (failed : Bool) (status : ℕ) → IsStartedBy files typed o.machine m → IsRun m o.machine.steps stop t → IsReport m o.machine.steps (not o.no_free) stop t report → AreProcesses m o.machine.steps stop t ps
-      → AppendsPart before after t.console.output → HasFailed failed_before failed_after → HasPrinted failed (all_in (report_form o.json) report ps stop t) error_before middle
-      → Prints unwritten_line middle error_after → status ≡ told_status failed (unwritten_status report) → Checks files typed o before after failed_before failed_after error_before error_after (Ok status)
-  no_memory : (m : State) → IsStartedBy files typed o.machine m → IsLost m o.machine.steps (not o.no_free) (report_form o.json) error_before error_after → Keeps before after → failed_after ≡ failed_before
+  partly_written : (m t : State) (stop : Stop) (report : Reported) (ps : List Process) (middle : Stream) (failed : Bool)
+      (status : ℕ) → IsStartedBy files typed o.machine m → IsRun m o.machine.steps stop t →
+      IsReport m o.machine.steps (not o.no_free) stop t report → AreProcesses m o.machine.steps stop t ps
+      → AppendsPart before after t.console.output → HasFailed failed_before failed_after →
+      HasPrinted failed (all_in (report_form o.json) report ps stop t) error_before middle
+      → Prints unwritten_line middle error_after → status ≡ told_status failed (unwritten_status report) →
+      Checks files typed o before after failed_before failed_after error_before error_after (Ok status)
+  no_memory : (m : State) → IsStartedBy files typed o.machine m →
+      IsLost m o.machine.steps (not o.no_free) (report_form o.json) error_before error_after → Keeps before after →
+      failed_after ≡ failed_before
       → Checks files typed o before after failed_before failed_after error_before error_after (Err OutOfMemory)
-  not_started : (fault : Fault) → IsStartFault files typed (Some (codes "standard input")) o.machine fault → Keeps before after → failed_after ≡ failed_before → error_after ≡ error_before
+  not_started : (fault : Fault) → IsStartFault files typed (Some (codes "standard input")) o.machine fault →
+      Keeps before after → failed_after ≡ failed_before → error_after ≡ error_before
       → Checks files typed o before after failed_before failed_after error_before error_after (Err fault)
 
 -- the exit status of `dm check`: that of the checked run, or 126 at a fault

@@ -23,7 +23,9 @@ IsQuit line = (line ≡ 81 ∷ []) ⊎ (line ≡ 113 ∷ [])
 -- what is printed for a line, and the session after it: the output of the command; or the error of a line that is
 -- rejected, which leaves the session as it is
 pub data Tells (s : Debugged) (line : List ℕ) : Debugged → List ℕ → Type 0 where
-  answered : (command : Command) (t : Debugged) (text : List ℕ) → command_of line ≡ Some command → is_syntax s (Some command) ≡ false → is_full s (Some command) ≡ false → Does s command text t → Tells s line t text
+  answered : (command : Command) (t : Debugged) (text : List ℕ) → command_of line ≡ Some command →
+      is_syntax s (Some command) ≡ false → is_full s (Some command) ≡ false → Does s command text t →
+      Tells s line t text
   no_command : is_syntax s (command_of line) ≡ true → Tells s line s (codes "? syntax" ++ 10 ∷ [])
   no_room : is_full s (command_of line) ≡ true → Tells s line s (codes "? full" ++ 10 ∷ [])
 
@@ -35,26 +37,36 @@ pub data Tells (s : Debugged) (line : List ℕ) : Debugged → List ℕ → Type
 -- written whole and flushed.
 pub data Converses : ℕ → Debugged → List ℕ → List ℕ → Debugged → Option Fault → Bool → Type 0 where
   ended : (n : ℕ) (s : Debugged) → Converses n s [] [] s None true
-  quits : (n : ℕ) (s : Debugged) (text : List ℕ) → length (take_through 10 text) ≤ n → IsQuit (first_piece 10 text) → Converses n s text [] s None true
-  answers : (n : ℕ) (s t u : Debugged) (text told more : List ℕ) (end : Option Fault) (whole : Bool) → text ≢ [] → length (take_through 10 text) ≤ n
+  quits : (n : ℕ) (s : Debugged) (text : List ℕ) → length (take_through 10 text) ≤ n → IsQuit (first_piece 10 text) →
+      Converses n s text [] s None true
+  answers : (n : ℕ) (s t u : Debugged) (text told more : List ℕ) (end : Option Fault) (whole : Bool) → text ≢ [] →
+      length (take_through 10 text) ≤ n
       → ¬ IsQuit (first_piece 10 text) → Tells s (first_piece 10 text) t told
-      → Converses (n - length (take_through 10 text)) t (drop_through 10 text) more u end whole → Converses n s text (told ++ more) u end whole
-  too_long : (n : ℕ) (s : Debugged) (text : List ℕ) → n < length (take_through 10 text) → Converses n s text [] s (Some InputTooLong) true
-  unread : (n : ℕ) (s : Debugged) (text : List ℕ) (fault : Fault) → IsReadFault fault → Converses n s text [] s (Some fault) true
+      → Converses (n - length (take_through 10 text)) t (drop_through 10 text) more u end whole →
+      Converses n s text (told ++ more) u end whole
+  too_long : (n : ℕ) (s : Debugged) (text : List ℕ) → n < length (take_through 10 text) →
+      Converses n s text [] s (Some InputTooLong) true
+  unread : (n : ℕ) (s : Debugged) (text : List ℕ) (fault : Fault) → IsReadFault fault →
+      Converses n s text [] s (Some fault) true
   no_memory : (n : ℕ) (s : Debugged) (text : List ℕ) → Converses n s text [] s (Some OutOfMemory) true
-  cut_off : (n : ℕ) (s t : Debugged) (text : List ℕ) → text ≢ [] → length (take_through 10 text) ≤ n → ¬ IsQuit (first_piece 10 text)
+  cut_off : (n : ℕ) (s t : Debugged) (text : List ℕ) → text ≢ [] → length (take_through 10 text) ≤ n →
+      ¬ IsQuit (first_piece 10 text)
       → IsCutOff s (first_piece 10 text) t → Converses n s text [] t (Some OutOfMemory) true
-  unwritten : (n : ℕ) (s t : Debugged) (text told : List ℕ) (k : ℕ) (fault : Fault) → text ≢ [] → length (take_through 10 text) ≤ n
+  unwritten : (n : ℕ) (s t : Debugged) (text told : List ℕ) (k : ℕ) (fault : Fault) → text ≢ [] →
+      length (take_through 10 text) ≤ n
       → ¬ IsQuit (first_piece 10 text) → Tells s (first_piece 10 text) t told → k ≤ length told → IsWriteFault fault
       → Converses n s text (take k told) t (Some fault) false
-  not_handed_on : (n : ℕ) (s t : Debugged) (text told : List ℕ) (fault : Fault) → text ≢ [] → length (take_through 10 text) ≤ n
-      → ¬ IsQuit (first_piece 10 text) → Tells s (first_piece 10 text) t told → IsWriteFault fault → Converses n s text told t (Some fault) false
+  not_handed_on : (n : ℕ) (s t : Debugged) (text told : List ℕ) (fault : Fault) → text ≢ [] →
+      length (take_through 10 text) ≤ n
+      → ¬ IsQuit (first_piece 10 text) → Tells s (first_piece 10 text) t told → IsWriteFault fault →
+      Converses n s text told t (Some fault) false
 
 -- the session s executes the lines of a reader, which may have n bytes in all, and becomes t; `end` is the fault that
 -- ended it early, if any. `known` is what the reader has, where that is known; `before` and `after` are what the writer
 -- has taken; `opened` and `failures` are the counts of its failures before and after. The count rises, unless it is at
 -- its highest, exactly if an answer was not written whole or not flushed
-pub record IsConversation (n : ℕ) (known : Option (List ℕ)) (s t : Debugged) (before after : Option (List ℕ)) (opened failures : ℕ) (end : Option Fault) : Type 0 where
+pub record IsConversation (n : ℕ) (known : Option (List ℕ)) (s t : Debugged) (before after : Option (List ℕ))
+    (opened failures : ℕ) (end : Option Fault) : Type 0 where
   pub text : List ℕ
   pub told : List ℕ
   pub whole : Bool
@@ -68,9 +80,13 @@ pub record IsConversation (n : ℕ) (known : Option (List ℕ)) (s t : Debugged)
 
 -- `dm debug`: the answers to the lines of standard input, which may have 16 MiB in all, up to a fault if there is one;
 -- or a fault before the first line, and nothing is written
-pub data Debugs (files : List ℕ → Option (List ℕ)) (typed : Option (List ℕ)) (o : DebugOptions) (before after : Option (List ℕ)) (opened failures : ℕ) : Option Fault → Type 0 where
+pub data Debugs (files : List ℕ → Option (List ℕ)) (typed : Option (List ℕ)) (o : DebugOptions)
+    (before after : Option (List ℕ)) (opened failures : ℕ) : Option Fault → Type 0 where
   conversed : (m : State) (t : Debugged) (end : Option Fault) → IsStartedBy files (typed_in files o) o.machine m
-      → IsConversation 16777216 typed (new_session m) t before after opened failures end → Debugs files typed o before after opened failures end
-  not_begun : (fault : Fault) → IsStartFault files (typed_in files o) (option_map (λ path. path.now) o.input) o.machine fault → Keeps before after → failures ≡ opened
+      → IsConversation 16777216 typed (new_session m) t before after opened failures end →
+      Debugs files typed o before after opened failures end
+  not_begun : (fault : Fault) → IsStartFault files (typed_in files o) (option_map (λ path. path.now) o.input) o.machine
+      fault → Keeps before after → failures ≡ opened
       → Debugs files typed o before after opened failures (Some fault)
-  no_buffer : Keeps before after → failures ≡ opened → Debugs files typed o before after opened failures (Some OutOfMemory)
+  no_buffer : Keeps before after → failures ≡ opened → Debugs files typed o before after opened failures
+      (Some OutOfMemory)

@@ -31,12 +31,17 @@ use Rattle.dm_cli.specs.Statuses.{exit_status_of, status_after}
 
 -- `dm run`: the result is the stop, and the whole output of the run is appended to standard output; or it is a fault:
 -- a write failed, after a first part of the output, or the run did not begin, and nothing was written
-pub data Runs (files : List ℕ → Option (List ℕ)) (typed : Option (List ℕ)) (o : MachineOptions) (before after : Option (List ℕ)) (failed_before failed_after : ℕ) : Result Stop Fault → Type 0 where
-  ran : (m t : State) (stop : Stop) → IsStartedBy files typed o m → IsRun m o.steps stop t → Appends before after t.console.output → failed_after ≡ failed_before
+pub data Runs (files : List ℕ → Option (List ℕ)) (typed : Option (List ℕ)) (o : MachineOptions)
+    (before after : Option (List ℕ)) (failed_before failed_after : ℕ) : Result Stop Fault → Type 0 where
+  ran : (m t : State) (stop : Stop) → IsStartedBy files typed o m → IsRun m o.steps stop t →
+      Appends before after t.console.output → failed_after ≡ failed_before
       → Runs files typed o before after failed_before failed_after (Ok stop)
-  partly_written : (m t : State) (stop : Stop) (fault : Fault) → IsStartedBy files typed o m → IsRun m o.steps stop t → AppendsPart before after t.console.output
-      → HasFailed failed_before failed_after → IsWriteFault fault → Runs files typed o before after failed_before failed_after (Err fault)
-  not_started : (fault : Fault) → IsStartFault files typed (Some (codes "standard input")) o fault → Keeps before after → failed_after ≡ failed_before
+  partly_written : (m t : State) (stop : Stop) (fault : Fault) → IsStartedBy files typed o m → IsRun m o.steps stop t →
+      AppendsPart before after t.console.output
+      → HasFailed failed_before failed_after → IsWriteFault fault →
+      Runs files typed o before after failed_before failed_after (Err fault)
+  not_started : (fault : Fault) → IsStartFault files typed (Some (codes "standard input")) o fault →
+      Keeps before after → failed_after ≡ failed_before
       → Runs files typed o before after failed_before failed_after (Err fault)
 
 -- ---- the program
@@ -89,19 +94,32 @@ SavesNothing g l = (l.saved ≡ g.saved) × (l.failed_saves ≡ g.failed_saves)
 -- allocation may fail while the words are read
 pub data Does (g : Given) (words : List Text) (l : Left) : Type 0 where
   usage : fault_of dm_app words ≢ [] → IsSilent g l → ReadsAll g l → SavesNothing g l → l.status ≡ 2 → Does g words l
-  no_memory : Prints (fault_line OutOfMemory) g.messages l.messages → IsSilent g l → ReadsAll g l → SavesNothing g l → l.status ≡ 126 → Does g words l
-  runs : (o : MachineOptions) (outcome : Result Stop Fault) → IsParsed words (command.Run o) → Runs g.files g.typed o g.output l.output g.failures l.failures outcome
-      → Prints (outcome_text outcome) g.messages l.messages → SavesNothing g l → ReadsFiles g.unread l.unread (fault_if outcome) → l.status ≡ exit_status_of outcome → Does g words l
-  checks : (o : CheckOptions) (outcome : Result ℕ Fault) (middle : Stream) → IsParsed words (command.Check o) → Checks g.files g.typed o g.output l.output g.failures l.failures g.messages middle outcome
-      → Reports middle l.messages (fault_if outcome) → SavesNothing g l → ReadsFiles g.unread l.unread (fault_if outcome) → l.status ≡ check_status outcome → Does g words l
-  debugs : (o : DebugOptions) (end : Option Fault) → IsParsed words (command.Debug o) → Debugs g.files g.typed o g.output l.output g.failures l.failures end
-      → Reports g.messages l.messages end → SavesNothing g l → ReadsFiles g.unread l.unread end → l.status ≡ status_after end → Does g words l
-  debugs_by_gdb : (o : DebugOptions) (end : Option Fault) → IsParsed words (command.Gdb o) → DebugsByGdb g.files g.typed o g.output l.output g.failures l.failures end
-      → Reports g.messages l.messages end → SavesNothing g l → ReadsFiles g.unread l.unread end → l.status ≡ status_after end → Does g words l
-  assembles : (o : AsmOptions) (end : Option Fault) → IsParsed words (command.Asm o) → AssemblesFile g.files o g.saved l.saved g.failed_saves l.failed_saves end
-      → Reports g.messages l.messages end → IsSilent g l → ReadsFiles g.unread l.unread end → l.status ≡ status_after end → Does g words l
-  disassembles : (path : Bor (List ℕ)) (end : Option Fault) → IsParsed words (command.Disasm path) → Disassembles g.files path.now g.output l.output g.failures l.failures end
-      → Reports g.messages l.messages end → SavesNothing g l → ReadsFiles g.unread l.unread end → l.status ≡ status_after end → Does g words l
+  no_memory : Prints (fault_line OutOfMemory) g.messages l.messages → IsSilent g l → ReadsAll g l → SavesNothing g l →
+      l.status ≡ 126 → Does g words l
+  runs : (o : MachineOptions) (outcome : Result Stop Fault) → IsParsed words (command.Run o) →
+      Runs g.files g.typed o g.output l.output g.failures l.failures outcome
+      → Prints (outcome_text outcome) g.messages l.messages → SavesNothing g l →
+      ReadsFiles g.unread l.unread (fault_if outcome) → l.status ≡ exit_status_of outcome → Does g words l
+  checks : (o : CheckOptions) (outcome : Result ℕ Fault) (middle : Stream) → IsParsed words (command.Check o) →
+      Checks g.files g.typed o g.output l.output g.failures l.failures g.messages middle outcome
+      → Reports middle l.messages (fault_if outcome) → SavesNothing g l →
+      ReadsFiles g.unread l.unread (fault_if outcome) → l.status ≡ check_status outcome → Does g words l
+  debugs : (o : DebugOptions) (end : Option Fault) → IsParsed words (command.Debug o) →
+      Debugs g.files g.typed o g.output l.output g.failures l.failures end
+      → Reports g.messages l.messages end → SavesNothing g l → ReadsFiles g.unread l.unread end →
+      l.status ≡ status_after end → Does g words l
+  debugs_by_gdb : (o : DebugOptions) (end : Option Fault) → IsParsed words (command.Gdb o) →
+      DebugsByGdb g.files g.typed o g.output l.output g.failures l.failures end
+      → Reports g.messages l.messages end → SavesNothing g l → ReadsFiles g.unread l.unread end →
+      l.status ≡ status_after end → Does g words l
+  assembles : (o : AsmOptions) (end : Option Fault) → IsParsed words (command.Asm o) →
+      AssemblesFile g.files o g.saved l.saved g.failed_saves l.failed_saves end
+      → Reports g.messages l.messages end → IsSilent g l → ReadsFiles g.unread l.unread end →
+      l.status ≡ status_after end → Does g words l
+  disassembles : (path : Bor (List ℕ)) (end : Option Fault) → IsParsed words (command.Disasm path) →
+      Disassembles g.files path.now g.output l.output g.failures l.failures end
+      → Reports g.messages l.messages end → SavesNothing g l → ReadsFiles g.unread l.unread end →
+      l.status ≡ status_after end → Does g words l
 
 -- the exit status is one that `dm` can have with these words, over files and streams of which nothing is known
 pub record EndsWith (words : List Text) (status : ℕ) : Type 0 where

@@ -33,7 +33,8 @@ pub data ReadsFiles (before after : ℕ) (end : Option Fault) : Type 0 where
   one_unread : HasFailed before after → TellsOfAFile end → ReadsFiles before after end
 
 -- what a read of a file leaves as it was: what files hold, which files were written, and how many saves failed
-pub record IsKept (known known' : List ℕ → Option (List ℕ)) (saved saved' : Option (List (List ℕ × List ℕ))) (failed failed' : ℕ) : Type 0 where
+pub record IsKept (known known' : List ℕ → Option (List ℕ)) (saved saved' : Option (List (List ℕ × List ℕ)))
+    (failed failed' : ℕ) : Type 0 where
   pub files : known' ≡ known
   pub saves : saved' ≡ saved
   pub count : failed' ≡ failed

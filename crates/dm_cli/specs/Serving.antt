@@ -19,18 +19,23 @@ pub data ServesStream (most : ℕ) : ℕ → Connected → List ℕ → List ℕ
   ended : (n : ℕ) (c : Connected) → c.over ≡ false → ServesStream most n c [] [] None true
   over : (n : ℕ) (c : Connected) (bytes : List ℕ) → c.over ≡ true → ServesStream most n c bytes [] None true
   exhausted : (c : Connected) (bytes : List ℕ) → ServesStream most 0 c bytes [] None true
-  answers : (n : ℕ) (c d : Connected) (byte : ℕ) (bytes sent more : List ℕ) (end : Option Fault) (whole : Bool) → c.over ≡ false → Takes most c byte sent d
+  answers : (n : ℕ) (c d : Connected) (byte : ℕ) (bytes sent more : List ℕ) (end : Option Fault) (whole : Bool) →
+      c.over ≡ false → Takes most c byte sent d
       → ServesStream most n d bytes more end whole → ServesStream most (suc n) c (byte ∷ bytes) (sent ++ more) end whole
-  unread : (n : ℕ) (c : Connected) (bytes : List ℕ) (fault : Fault) → c.over ≡ false → IsReadFault fault → ServesStream most n c bytes [] (Some fault) true
-  no_memory : (n : ℕ) (c : Connected) (bytes : List ℕ) → c.over ≡ false → ServesStream most n c bytes [] (Some OutOfMemory) true
-  unwritten : (n : ℕ) (c d : Connected) (byte : ℕ) (bytes sent : List ℕ) (k : ℕ) (fault : Fault) → c.over ≡ false → Takes most c byte sent d → sent ≢ [] → k ≤ length sent
+  unread : (n : ℕ) (c : Connected) (bytes : List ℕ) (fault : Fault) → c.over ≡ false → IsReadFault fault →
+      ServesStream most n c bytes [] (Some fault) true
+  no_memory : (n : ℕ) (c : Connected) (bytes : List ℕ) → c.over ≡ false →
+      ServesStream most n c bytes [] (Some OutOfMemory) true
+  unwritten : (n : ℕ) (c d : Connected) (byte : ℕ) (bytes sent : List ℕ) (k : ℕ) (fault : Fault) → c.over ≡ false →
+      Takes most c byte sent d → sent ≢ [] → k ≤ length sent
       → IsWriteFault fault → ServesStream most (suc n) c (byte ∷ bytes) (take k sent) (Some fault) false
 
 -- the conversation takes the bytes of a reader, at most n of them; `end` is the fault that ended it early, if any.
 -- `known` is what the reader has, where that is known; `before` and `after` are what the writer has taken; `opened` and
 -- `failures` are the counts of its failures before and after. The count rises, unless it is at its highest, exactly if
 -- something that was sent was not written whole or not flushed
-pub record IsServed (most n : ℕ) (known : Option (List ℕ)) (c : Connected) (before after : Option (List ℕ)) (opened failures : ℕ) (end : Option Fault) : Type 0 where
+pub record IsServed (most n : ℕ) (known : Option (List ℕ)) (c : Connected) (before after : Option (List ℕ))
+    (opened failures : ℕ) (end : Option Fault) : Type 0 where
   pub bytes : List ℕ
   pub told : List ℕ
   pub whole : Bool
@@ -42,9 +47,13 @@ pub record IsServed (most n : ℕ) (known : Option (List ℕ)) (c : Connected) (
 
 -- `dm gdb`: what is sent for the bytes of standard input, of which it reads at most 2^64 - 1, up to a fault if there is
 -- one; or a fault before the first byte, and nothing is written
-pub data DebugsByGdb (files : List ℕ → Option (List ℕ)) (typed : Option (List ℕ)) (o : DebugOptions) (before after : Option (List ℕ)) (opened failures : ℕ) : Option Fault → Type 0 where
+pub data DebugsByGdb (files : List ℕ → Option (List ℕ)) (typed : Option (List ℕ)) (o : DebugOptions)
+    (before after : Option (List ℕ)) (opened failures : ℕ) : Option Fault → Type 0 where
   served : (m : State) (end : Option Fault) → IsStartedBy files (typed_in files o) o.machine m
-      → IsServed o.machine.steps 18446744073709551615 typed (new_connection m) before after opened failures end → DebugsByGdb files typed o before after opened failures end
-  not_served : (fault : Fault) → IsStartFault files (typed_in files o) (option_map (λ path. path.now) o.input) o.machine fault → Keeps before after → failures ≡ opened
+      → IsServed o.machine.steps 18446744073709551615 typed (new_connection m) before after opened failures end →
+      DebugsByGdb files typed o before after opened failures end
+  not_served : (fault : Fault) → IsStartFault files (typed_in files o) (option_map (λ path. path.now) o.input) o.machine
+      fault → Keeps before after → failures ≡ opened
       → DebugsByGdb files typed o before after opened failures (Some fault)
-  unbuffered : Keeps before after → failures ≡ opened → DebugsByGdb files typed o before after opened failures (Some OutOfMemory)
+  unbuffered : Keeps before after → failures ≡ opened → DebugsByGdb files typed o before after opened failures
+      (Some OutOfMemory)

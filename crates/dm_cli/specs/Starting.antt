@@ -44,11 +44,15 @@ IsLoadFault fresh name _ = ¬ IsName name
 -- there is no first file, or that can't be loaded; or, at any point, an allocation failed
 pub data IsMachineFault (store : List (List ℕ × List ℕ)) (input : List ℕ) (o : MachineOptions) : Fault → Type 0 where
   too_large : IsTooLarge (sizes_of o) → IsMachineFault store input o TooLarge
-  long_tail : (fresh : State) → ¬ IsTooLarge (sizes_of o) → IsNew (sizes_of o) [] o.upper store input fresh → 126 < length o.tail.now → IsMachineFault store input o TailTooLong
-  no_file : (fresh : State) → ¬ IsTooLarge (sizes_of o) → IsNew (sizes_of o) [] o.upper store input fresh → length o.tail.now ≤ 126 → paths_of o ≡ []
+  long_tail : (fresh : State) → ¬ IsTooLarge (sizes_of o) → IsNew (sizes_of o) [] o.upper store input fresh →
+      126 < length o.tail.now → IsMachineFault store input o TailTooLong
+  no_file : (fresh : State) → ¬ IsTooLarge (sizes_of o) → IsNew (sizes_of o) [] o.upper store input fresh →
+      length o.tail.now ≤ 126 → paths_of o ≡ []
       → IsMachineFault store input o NotFound
-  not_loaded : (fresh : State) (first : List ℕ) (others : List (List ℕ)) (fault : Fault) → ¬ IsTooLarge (sizes_of o) → IsNew (sizes_of o) [] o.upper store input fresh
-      → length o.tail.now ≤ 126 → paths_of o ≡ first ∷ others → IsLoadFault fresh (last_part first) fault → IsMachineFault store input o fault
+  not_loaded : (fresh : State) (first : List ℕ) (others : List (List ℕ)) (fault : Fault) → ¬ IsTooLarge (sizes_of o) →
+      IsNew (sizes_of o) [] o.upper store input fresh
+      → length o.tail.now ≤ 126 → paths_of o ≡ first ∷ others → IsLoadFault fresh (last_part first) fault →
+      IsMachineFault store input o fault
   no_memory : IsMachineFault store input o OutOfMemory
 
 -- the first fault of the files at these paths, in their order
@@ -63,9 +67,12 @@ pub record IsFileFault (files : List ℕ → Option (List ℕ)) (paths : List (L
 
 -- the first fault that keeps a command from its machine: of the files in their order; of the console input, which is
 -- read under this name (None: it is not read); of the machine
-pub data IsStartFault (files : List ℕ → Option (List ℕ)) (typed : Option (List ℕ)) (name : Option (List ℕ)) (o : MachineOptions) : Fault → Type 0 where
+pub data IsStartFault (files : List ℕ → Option (List ℕ)) (typed : Option (List ℕ)) (name : Option (List ℕ))
+    (o : MachineOptions) : Fault → Type 0 where
   of_file : (fault : Fault) → IsFileFault files (paths_of o) fault → IsStartFault files typed name o fault
-  of_input : (store : List (List ℕ × List ℕ)) (fault : Fault) → Stores files (paths_of o) store → IsSomeAnd name (λ input. IsInputFault typed input fault)
+  of_input : (store : List (List ℕ × List ℕ)) (fault : Fault) → Stores files (paths_of o) store →
+      IsSomeAnd name (λ input. IsInputFault typed input fault)
       → IsStartFault files typed name o fault
-  of_machine : (store : List (List ℕ × List ℕ)) (input : List ℕ) (fault : Fault) → Stores files (paths_of o) store → IsRead typed input
+  of_machine : (store : List (List ℕ × List ℕ)) (input : List ℕ) (fault : Fault) → Stores files (paths_of o) store →
+      IsRead typed input
       → IsMachineFault store input o fault → IsStartFault files typed name o fault

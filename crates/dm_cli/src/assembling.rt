@@ -25,7 +25,8 @@ fn assembled<'a, F: Storage>(
     ensures bytes { IfOk result (λ bytes. IsAssembled (F.contents storage.old path.now) bytes.items) }
     ensures fault { IfErr result (IsAsmFault (F.contents storage.old path.now) path.now) }
     ensures reads { ReadsFiles (F.unread storage.old) (F.unread storage.new) (fault_if result) }
-    ensures kept { IsKept (F.contents storage.old) (F.contents storage.new) (F.saved storage.old) (F.saved storage.new) (F.failures storage.old) (F.failures storage.new) }
+    ensures kept { IsKept (F.contents storage.old) (F.contents storage.new) (F.saved storage.old) (F.saved
+        storage.new) (F.failures storage.old) (F.failures storage.new) }
 {
     let text = read_file(alloc, storage, path)?;
     let bytes = assemble(alloc, text.as_slice())?;
@@ -42,7 +43,8 @@ fn disassembled<'a, F: Storage>(
     ensures lines { IfOk result (λ text. IsDisassembled (F.contents storage.old path.now) text.items) }
     ensures fault { IfErr result (IsDisasmFault (F.contents storage.old path.now) path.now) }
     ensures reads { ReadsFiles (F.unread storage.old) (F.unread storage.new) (fault_if result) }
-    ensures kept { IsKept (F.contents storage.old) (F.contents storage.new) (F.saved storage.old) (F.saved storage.new) (F.failures storage.old) (F.failures storage.new) }
+    ensures kept { IsKept (F.contents storage.old) (F.contents storage.new) (F.saved storage.old) (F.saved
+        storage.new) (F.failures storage.old) (F.failures storage.new) }
 {
     let bytes = read_file(alloc, storage, path)?;
     if bytes.len() > MOST_PROGRAM_BYTES {
@@ -61,7 +63,8 @@ pub(crate) fn asm<'a, F: Storage>(
     storage: &mut F,
     options: &AsmOptions<'a>,
 ) -> Result<(), Fault<'a>>
-    ensures does { AssemblesFile (F.contents storage.old) options.now (F.saved storage.old) (F.saved storage.new) (F.failures storage.old) (F.failures storage.new) (end_of result) }
+    ensures does { AssemblesFile (F.contents storage.old) options.now (F.saved storage.old) (F.saved
+        storage.new) (F.failures storage.old) (F.failures storage.new) (end_of result) }
     ensures reads { ReadsFiles (F.unread storage.old) (F.unread storage.new) (end_of result) }
 {
     let bytes = assembled(alloc, storage, options.input)?;
@@ -85,7 +88,8 @@ pub(crate) fn disasm<'a, F: Storage, W: Out>(
     ensures does { Disassembles (F.contents storage.old) path.now (W.taken out.old) (W.taken out.new)
         (W.failures out.old) (W.failures out.new) (end_of result) }
     ensures reads { ReadsFiles (F.unread storage.old) (F.unread storage.new) (end_of result) }
-    ensures kept { IsKept (F.contents storage.old) (F.contents storage.new) (F.saved storage.old) (F.saved storage.new) (F.failures storage.old) (F.failures storage.new) }
+    ensures kept { IsKept (F.contents storage.old) (F.contents storage.new) (F.saved storage.old) (F.saved
+        storage.new) (F.failures storage.old) (F.failures storage.new) }
 {
     let text = disassembled(alloc, storage, path)?;
     match write_all(out, text.as_slice()) {

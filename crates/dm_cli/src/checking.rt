@@ -40,7 +40,8 @@ fn put_end(
     stop: Stop,
     machine: &Machine,
 ) -> Result<(), AllocError>
-    ensures { OnOk result (text.new.items ≡ text.old.items ++ summary_in form report.now ++ processes_in form processes.now ++ end_in form stop machine.now.memory machine.now.cpu) }
+    ensures { OnOk result (text.new.items ≡ text.old.items ++ summary_in form report.now
+        ++ processes_in form processes.now ++ end_in form stop machine.now.memory machine.now.cpu) }
 {
     put_summary_in(text, alloc, form, report)?;
     put_processes_in(text, form, processes)?;
@@ -87,8 +88,10 @@ fn print_new<E: Out>(
     failed: bool,
 ) -> Result<bool, AllocError>
     requires { count ≤ length report.now.listed }
-    ensures ok { IfOk result (λ now. (start : Stream) (before : List ℕ) → HasPrinted failed before start (record { bytes = E.taken error.old; failures = E.failures error.old })
-        → HasPrinted now (before ++ lines_in form (drop count report.now.listed)) start (record { bytes = E.taken error.new; failures = E.failures error.new })) }
+    ensures ok { IfOk result (λ now. (start : Stream) (before : List ℕ) →
+        HasPrinted failed before start (record { bytes = E.taken error.old; failures = E.failures error.old })
+        → HasPrinted now (before ++ lines_in form (drop count report.now.listed)) start
+        (record { bytes = E.taken error.new; failures = E.failures error.new })) }
     ensures err { OnErr result (error.new ≡ error.old) }
 {
     let mut text = Vec::new(alloc);
@@ -109,10 +112,17 @@ fn follow<E: Out>(
     requires program { HasProgram machine.old }
     requires way { (s : State) × (n : ℕ) × IsUnderWay s n machine.old run.old }
     requires empty { run.old.report ≡ report_of [] }
-    ensures ok { IfOk result (λ r. (s : State) (n : ℕ) → IsUnderWay s n machine.old run.old → HasFollowed s n form run.old r.0 machine.new run.new
-        r.1 (record { bytes = E.taken error.old; failures = E.failures error.old }) (record { bytes = E.taken error.new; failures = E.failures error.new })) }
+    ensures ok { IfOk result (λ r. (s : State) (n : ℕ) → IsUnderWay s n machine.old run.old →
+        HasFollowed s n form run.old r.0 machine.new run.new
+        r.1 (record { bytes = E.taken error.old; failures = E.failures error.old }) (record {
+          bytes = E.taken error.new;
+          failures = E.failures error.new;
+        })) }
     ensures err { OnErr result ((s : State) (n : ℕ) → IsUnderWay s n machine.old run.old → IsLost s n run.old.free form
-        (record { bytes = E.taken error.old; failures = E.failures error.old }) (record { bytes = E.taken error.new; failures = E.failures error.new })) }
+        (record { bytes = E.taken error.old; failures = E.failures error.old }) (record {
+          bytes = E.taken error.new;
+          failures = E.failures error.new;
+        })) }
 {
     let mut count = 0;
     let mut failed = false;
@@ -142,8 +152,12 @@ fn check_machine<W: Out, E: Out>(
     error: &mut E,
 ) -> Result<u8, Fault<'static>>
     requires { HasProgram machine.old }
-    ensures does { ChecksRun machine.old steps free form (W.taken out.old) (W.taken out.new) (W.failures out.old) (W.failures out.new)
-        (record { bytes = E.taken error.old; failures = E.failures error.old }) (record { bytes = E.taken error.new; failures = E.failures error.new }) result }
+    ensures does { ChecksRun machine.old steps free form (W.taken out.old) (W.taken out.new) (W.failures
+        out.old) (W.failures out.new)
+        (record { bytes = E.taken error.old; failures = E.failures error.old }) (record {
+          bytes = E.taken error.new;
+          failures = E.failures error.new;
+        }) result }
     ensures reads { TellsOfNoFile (fault_if result) }
 {
     let Ok(mut run) = CheckedRun::new(alloc, machine, steps, free) else {
@@ -181,10 +195,15 @@ pub(crate) fn check<'a, F: Storage, I: Read + Drop, W: Out, E: Out>(
     out: &mut W,
     error: &mut E,
 ) -> Result<u8, Fault<'a>>
-    ensures does { Checks (F.contents storage.old) (I.remaining input) options.now (W.taken out.old) (W.taken out.new) (W.failures out.old) (W.failures out.new)
-        (record { bytes = E.taken error.old; failures = E.failures error.old }) (record { bytes = E.taken error.new; failures = E.failures error.new }) result }
+    ensures does { Checks (F.contents storage.old) (I.remaining input) options.now (W.taken out.old) (W.taken
+        out.new) (W.failures out.old) (W.failures out.new)
+        (record { bytes = E.taken error.old; failures = E.failures error.old }) (record {
+          bytes = E.taken error.new;
+          failures = E.failures error.new;
+        }) result }
     ensures reads { ReadsFiles (F.unread storage.old) (F.unread storage.new) (fault_if result) }
-    ensures kept { IsKept (F.contents storage.old) (F.contents storage.new) (F.saved storage.old) (F.saved storage.new) (F.failures storage.old) (F.failures storage.new) }
+    ensures kept { IsKept (F.contents storage.old) (F.contents storage.new) (F.saved storage.old) (F.saved
+        storage.new) (F.failures storage.old) (F.failures storage.new) }
 {
     let steps = options.machine.steps;
     let mut machine = loaded(alloc, storage, &options.machine, input)?;

@@ -43,7 +43,8 @@ fn run_machine<W: Out>(
     out: &mut W,
 ) -> Result<Stop, Fault<'static>>
     requires { HasProgram machine.old }
-    ensures does { RunsMachine machine.old steps (W.taken out.old) (W.taken out.new) (W.failures out.old) (W.failures out.new) result }
+    ensures does { RunsMachine machine.old steps (W.taken out.old) (W.taken out.new) (W.failures out.old) (W.failures
+        out.new) result }
     ensures reads { TellsOfNoFile (fault_if result) }
 {
     match run_program(machine, steps, out) {
@@ -61,9 +62,11 @@ fn run<'a, F: Storage, I: Read + Drop, W: Out>(
     input: I,
     out: &mut W,
 ) -> Result<Stop, Fault<'a>>
-    ensures does { Runs (F.contents storage.old) (I.remaining input) options.now (W.taken out.old) (W.taken out.new) (W.failures out.old) (W.failures out.new) result }
+    ensures does { Runs (F.contents storage.old) (I.remaining input) options.now (W.taken out.old) (W.taken
+        out.new) (W.failures out.old) (W.failures out.new) result }
     ensures reads { ReadsFiles (F.unread storage.old) (F.unread storage.new) (fault_if result) }
-    ensures kept { IsKept (F.contents storage.old) (F.contents storage.new) (F.saved storage.old) (F.saved storage.new) (F.failures storage.old) (F.failures storage.new) }
+    ensures kept { IsKept (F.contents storage.old) (F.contents storage.new) (F.saved storage.old) (F.saved
+        storage.new) (F.failures storage.old) (F.failures storage.new) }
 {
     let mut machine = loaded(alloc, storage, options, input)?;
     run_machine(&mut machine, options.steps, out)
@@ -93,7 +96,10 @@ fn report_fault<E: Out>(fault: &Fault<'_>, error: &mut E) -> u8
 /// the program's exit code, 125 for another stop, 126 for a fault. A failed write does not change it.
 fn report<E: Out>(outcome: Result<Stop, Fault<'_>>, error: &mut E) -> u8
     ensures status { result ≡ exit_status_of outcome.entry }
-    ensures line { Prints (outcome_text outcome.entry) (record { bytes = E.taken error.old; failures = E.failures error.old })
+    ensures line { Prints (outcome_text outcome.entry) (record {
+      bytes = E.taken error.old;
+      failures = E.failures error.old;
+    })
         (record { bytes = E.taken error.new; failures = E.failures error.new }) }
 {
     match outcome {
@@ -214,7 +220,10 @@ pub fn dm_main<S: AsStr, F: Storage, I: Read + Drop, W: Out, E: Out>(
 /// allocation failed, prints `dm: out of memory` and returns 126.
 pub fn refuse_words<E: Out>(alloc: Global, error: &mut E) -> u8
     ensures status { (result ≡ 2) ⊎ (result ≡ 126) }
-    ensures line { result ≡ 126 → Prints (fault_line Fault.OutOfMemory) (record { bytes = E.taken error.old; failures = E.failures error.old })
+    ensures line { result ≡ 126 → Prints (fault_line Fault.OutOfMemory) (record {
+      bytes = E.taken error.old;
+      failures = E.failures error.old;
+    })
         (record { bytes = E.taken error.new; failures = E.failures error.new }) }
 {
     match not_unicode(alloc) {

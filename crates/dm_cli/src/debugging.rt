@@ -68,9 +68,11 @@ fn next_line<R: BufRead>(
     line: &mut Vec<u8>,
     left: usize,
 ) -> Result<usize, Fault<'static>>
-    ensures line { IfOk result (λ n. (n ≤ left) × (n ≡ length line.new.items) × Reads (R.remaining commands.old) (R.remaining commands.new) line.new.items) }
+    ensures line { IfOk result (λ n. (n ≤ left) × (n ≡ length line.new.items) ×
+        Reads (R.remaining commands.old) (R.remaining commands.new) line.new.items) }
     ensures fault { IfErr result (λ e. IsReadFault e ⊎ (e ≡ Fault.OutOfMemory)
-        ⊎ ((e ≡ Fault.InputTooLong) × (left < length line.new.items) × Reads (R.remaining commands.old) (R.remaining commands.new) line.new.items)) }
+        ⊎ ((e ≡ Fault.InputTooLong) × (left < length line.new.items) ×
+        Reads (R.remaining commands.old) (R.remaining commands.new) line.new.items)) }
 {
     line.clear();
     match commands.read_until(b'\n', line) {
@@ -85,7 +87,8 @@ fn next_line<R: BufRead>(
 fn refuse<W: Out>(out: &mut W, told: &[u8]) -> Result<(), Fault<'static>>
     ensures ok { OnOk result (Appends (W.taken out.old) (W.taken out.new) told.now) }
     ensures no_failure { OnOk result (W.failures out.new ≡ W.failures out.old) }
-    ensures err { IfErr result (λ e. IsWriteFault e × AppendsPart (W.taken out.old) (W.taken out.new) told.now × HasFailed (W.failures out.old) (W.failures out.new)) }
+    ensures err { IfErr result (λ e. IsWriteFault e × AppendsPart (W.taken out.old) (W.taken out.new) told.now ×
+        HasFailed (W.failures out.old) (W.failures out.new)) }
 {
     match write_all(out, told) {
         Ok(()) => Ok(()),
@@ -104,7 +107,8 @@ fn answer<W: Out>(
 ) -> Result<(), Fault<'static>>
     ensures ok { OnOk result (IsAnsweredBy session.old line.now session.new (W.taken out.old) (W.taken out.new)) }
     ensures no_failure { OnOk result (W.failures out.new ≡ W.failures out.old) }
-    ensures err { IfErr result (IsUnanswered session.old line.now session.new (W.taken out.old) (W.taken out.new) (W.failures out.old) (W.failures out.new)) }
+    ensures err { IfErr result (IsUnanswered session.old line.now session.new (W.taken out.old) (W.taken out.new)
+        (W.failures out.old) (W.failures out.new)) }
 {
     match session.command(alloc, line, out) {
         Ok(()) => Ok(()),
@@ -125,7 +129,8 @@ fn answer_at_once<W: Out>(
 ) -> Result<(), Fault<'static>>
     ensures ok { OnOk result (IsAnsweredBy session.old line.now session.new (W.taken out.old) (W.taken out.new)) }
     ensures no_failure { OnOk result (W.failures out.new ≡ W.failures out.old) }
-    ensures err { IfErr result (IsUnanswered session.old line.now session.new (W.taken out.old) (W.taken out.new) (W.failures out.old) (W.failures out.new)) }
+    ensures err { IfErr result (IsUnanswered session.old line.now session.new (W.taken out.old) (W.taken out.new)
+        (W.failures out.old) (W.failures out.new)) }
 {
     answer(alloc, session, line, out)?;
     match out.flush() {
@@ -143,8 +148,10 @@ fn converse<R: BufRead, W: Out>(
     commands: &mut R,
     out: &mut W,
 ) -> Result<(), Fault<'static>>
-    ensures ok { OnOk result (IsConversation 16777216 (R.remaining commands.old) session.old session.new (W.taken out.old) (W.taken out.new) (W.failures out.old) (W.failures out.new) None) }
-    ensures err { IfErr result (λ e. IsConversation 16777216 (R.remaining commands.old) session.old session.new (W.taken out.old) (W.taken out.new) (W.failures out.old) (W.failures out.new) (Some e)) }
+    ensures ok { OnOk result (IsConversation 16777216 (R.remaining commands.old) session.old session.new
+        (W.taken out.old) (W.taken out.new) (W.failures out.old) (W.failures out.new) None) }
+    ensures err { IfErr result (λ e. IsConversation 16777216 (R.remaining commands.old) session.old session.new
+        (W.taken out.old) (W.taken out.new) (W.failures out.old) (W.failures out.new) (Some e)) }
 {
     let mut line = Vec::new(alloc);
     let mut left = MOST_BYTES;
@@ -170,7 +177,8 @@ fn converse_with<I: Read + Drop, W: Out>(
     commands: I,
     out: &mut W,
 ) -> Result<(), Fault<'static>>
-    ensures { ConversesWith (I.remaining commands) session.old session.new (W.taken out.old) (W.taken out.new) (W.failures out.old) (W.failures out.new) (end_of result) }
+    ensures { ConversesWith (I.remaining commands) session.old session.new (W.taken out.old) (W.taken
+        out.new) (W.failures out.old) (W.failures out.new) (end_of result) }
 {
     let Ok(mut commands) = BufReader::new(alloc, commands.take(MOST_BYTES as u64 + 1)) else {
         return Err(Fault::OutOfMemory);
@@ -187,9 +195,11 @@ pub(crate) fn debug<'a, F: Storage, I: Read + Drop, W: Out>(
     commands: I,
     out: &mut W,
 ) -> Result<(), Fault<'a>>
-    ensures does { Debugs (F.contents storage.old) (I.remaining commands) options.now (W.taken out.old) (W.taken out.new) (W.failures out.old) (W.failures out.new) (end_of result) }
+    ensures does { Debugs (F.contents storage.old) (I.remaining commands) options.now (W.taken out.old) (W.taken
+        out.new) (W.failures out.old) (W.failures out.new) (end_of result) }
     ensures reads { ReadsFiles (F.unread storage.old) (F.unread storage.new) (end_of result) }
-    ensures kept { IsKept (F.contents storage.old) (F.contents storage.new) (F.saved storage.old) (F.saved storage.new) (F.failures storage.old) (F.failures storage.new) }
+    ensures kept { IsKept (F.contents storage.old) (F.contents storage.new) (F.saved storage.old) (F.saved
+        storage.new) (F.failures storage.old) (F.failures storage.new) }
 {
     let machine = loaded_for_debug(alloc, storage, options)?;
     let mut session = Session::new(machine);

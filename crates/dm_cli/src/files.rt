@@ -44,7 +44,8 @@ pub trait Storage {
     fn read(&mut self, alloc: Global, path: &str, most: usize) -> io::Result<Vec<u8>>
         ensures bytes { IfOk result (λ v. IfSome (contents self.old path.now) (λ xs. v.items ≡ take most xs)) }
         ensures unread { unread self.new ≡ count_after_call (unread self.old) result }
-        ensures kept { IsKept (contents self.old) (contents self.new) (saved self.old) (saved self.new) (failures self.old) (failures self.new) };
+        ensures kept { IsKept (contents self.old) (contents self.new) (saved self.old) (saved self.new) (failures
+            self.old) (failures self.new) };
 }
 
 /// The files of the operating system, together with the counts of the saves and the reads that failed.
@@ -172,7 +173,8 @@ pub(crate) fn read_file<'a, F: Storage>(
     ensures bytes { IfOk result (λ v. IsRead (F.contents storage.old path.now) v.items) }
     ensures fault { IfErr result (IsInputFault (F.contents storage.old path.now) path.now) }
     ensures reads { ReadsFiles (F.unread storage.old) (F.unread storage.new) (fault_if result) }
-    ensures kept { IsKept (F.contents storage.old) (F.contents storage.new) (F.saved storage.old) (F.saved storage.new) (F.failures storage.old) (F.failures storage.new) }
+    ensures kept { IsKept (F.contents storage.old) (F.contents storage.new) (F.saved storage.old) (F.saved
+        storage.new) (F.failures storage.old) (F.failures storage.new) }
 {
     match storage.read(alloc, path, MOST_BYTES + 1) {
         Ok(bytes) => {

@@ -27,7 +27,8 @@ fn add_file<'a, F: Storage>(
     ensures ok { OnOk result (AddsFile (F.contents storage.old path.now) programs.old path.now programs.new) }
     ensures fault { IfErr result (IsFaultOf (F.contents storage.old path.now) programs.old path.now) }
     ensures reads { ReadsFiles (F.unread storage.old) (F.unread storage.new) (fault_if result) }
-    ensures kept { IsKept (F.contents storage.old) (F.contents storage.new) (F.saved storage.old) (F.saved storage.new) (F.failures storage.old) (F.failures storage.new) }
+    ensures kept { IsKept (F.contents storage.old) (F.contents storage.new) (F.saved storage.old) (F.saved
+        storage.new) (F.failures storage.old) (F.failures storage.new) }
 {
     if !names_file(path) {
         return Err(Fault::CannotRead(path));
@@ -49,7 +50,8 @@ fn read_programs<'a, F: Storage>(
     ensures store { IfOk result (λ store. Stores (F.contents storage.old) (map (λ path. path.now) paths.now) store) }
     ensures fault { IfErr result (IsFileFault (F.contents storage.old) (map (λ path. path.now) paths.now)) }
     ensures reads { ReadsFiles (F.unread storage.old) (F.unread storage.new) (fault_if result) }
-    ensures kept { IsKept (F.contents storage.old) (F.contents storage.new) (F.saved storage.old) (F.saved storage.new) (F.failures storage.old) (F.failures storage.new) }
+    ensures kept { IsKept (F.contents storage.old) (F.contents storage.new) (F.saved storage.old) (F.saved
+        storage.new) (F.failures storage.old) (F.failures storage.new) }
 {
     let mut programs = Programs::new(alloc);
     for path in paths {
@@ -84,7 +86,8 @@ fn begun<'a>(
     programs: Programs,
     input: Vec<u8>,
 ) -> Result<Machine, Fault<'a>>
-    ensures begun { IfOk result (IsBegun programs input.items (sizes_of options.now) options.now.upper (paths_of options.now) options.now.tail.now) }
+    ensures begun { IfOk result (IsBegun programs input.items (sizes_of options.now) options.now.upper
+        (paths_of options.now) options.now.tail.now) }
     ensures fault { IfErr result (IsMachineFault programs input.items options.now) }
     ensures loaded { IfOk result (λ machine. HasProgram machine) }
     ensures reads { IfErr result (λ e. TellsOfNoFile (Some e)) }
@@ -111,10 +114,12 @@ pub(crate) fn loaded<'a, F: Storage, I: Read + Drop>(
     input: I,
 ) -> Result<Machine, Fault<'a>>
     ensures started { IfOk result (IsStartedBy (F.contents storage.old) (I.remaining input) options.now) }
-    ensures fault { IfErr result (IsStartFault (F.contents storage.old) (I.remaining input) (Some (codes "standard input")) options.now) }
+    ensures fault { IfErr result (IsStartFault (F.contents storage.old) (I.remaining input)
+        (Some (codes "standard input")) options.now) }
     ensures loaded { IfOk result (λ machine. HasProgram machine) }
     ensures reads { ReadsFiles (F.unread storage.old) (F.unread storage.new) (fault_if result) }
-    ensures kept { IsKept (F.contents storage.old) (F.contents storage.new) (F.saved storage.old) (F.saved storage.new) (F.failures storage.old) (F.failures storage.new) }
+    ensures kept { IsKept (F.contents storage.old) (F.contents storage.new) (F.saved storage.old) (F.saved
+        storage.new) (F.failures storage.old) (F.failures storage.new) }
 {
     let programs = read_programs(alloc, storage, options.files.as_slice())?;
     let input = read_whole(alloc, input, "standard input")?;
@@ -127,11 +132,13 @@ fn read_if_any<'a, F: Storage>(
     storage: &mut F,
     path: Option<&'a str>,
 ) -> Result<Vec<u8>, Fault<'a>>
-    ensures bytes { IfOk result (λ v. IsRead (bytes_if_any (F.contents storage.old) (option_map (λ path. path.now) path.entry)) v.items) }
+    ensures bytes { IfOk result (λ v. IsRead (bytes_if_any (F.contents storage.old)
+        (option_map (λ path. path.now) path.entry)) v.items) }
     ensures fault { IfErr result (λ e. IsSomeAnd (option_map (λ path. path.now) path.entry)
         (λ name. IsInputFault (bytes_if_any (F.contents storage.old) (Some name)) name e)) }
     ensures reads { ReadsFiles (F.unread storage.old) (F.unread storage.new) (fault_if result) }
-    ensures kept { IsKept (F.contents storage.old) (F.contents storage.new) (F.saved storage.old) (F.saved storage.new) (F.failures storage.old) (F.failures storage.new) }
+    ensures kept { IsKept (F.contents storage.old) (F.contents storage.new) (F.saved storage.old) (F.saved
+        storage.new) (F.failures storage.old) (F.failures storage.new) }
 {
     match path {
         Some(path) => read_file(alloc, storage, path),
@@ -146,12 +153,14 @@ pub(crate) fn loaded_for_debug<'a, F: Storage>(
     storage: &mut F,
     options: &DebugOptions<'a>,
 ) -> Result<Machine, Fault<'a>>
-    ensures started { IfOk result (IsStartedBy (F.contents storage.old) (typed_in (F.contents storage.old) options.now) options.now.machine) }
+    ensures started { IfOk result (IsStartedBy (F.contents storage.old) (typed_in (F.contents storage.old) options.now)
+        options.now.machine) }
     ensures fault { IfErr result (IsStartFault (F.contents storage.old) (typed_in (F.contents storage.old) options.now)
         (option_map (λ path. path.now) options.now.input) options.now.machine) }
     ensures loaded { IfOk result (λ machine. HasProgram machine) }
     ensures reads { ReadsFiles (F.unread storage.old) (F.unread storage.new) (fault_if result) }
-    ensures kept { IsKept (F.contents storage.old) (F.contents storage.new) (F.saved storage.old) (F.saved storage.new) (F.failures storage.old) (F.failures storage.new) }
+    ensures kept { IsKept (F.contents storage.old) (F.contents storage.new) (F.saved storage.old) (F.saved
+        storage.new) (F.failures storage.old) (F.failures storage.new) }
 {
     let programs = read_programs(alloc, storage, options.machine.files.as_slice())?;
     let input = read_if_any(alloc, storage, options.input)?;

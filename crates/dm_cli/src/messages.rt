@@ -58,7 +58,10 @@ pub(crate) fn stop_line(stop: Stop) -> &'static [u8]
 
 /// Prints three texts on `error`, one after the other. If a write fails, the rest of them is lost.
 fn print_each<E: Out>(error: &mut E, first: &[u8], second: &[u8], third: &[u8])
-    ensures { Prints (first.now ++ second.now ++ third.now) (record { bytes = E.taken error.old; failures = E.failures error.old })
+    ensures { Prints (first.now ++ second.now ++ third.now) (record {
+      bytes = E.taken error.old;
+      failures = E.failures error.old;
+    })
         (record { bytes = E.taken error.new; failures = E.failures error.new }) }
 {
     if let Err(_) = write_all(error, first) {
@@ -73,7 +76,10 @@ fn print_each<E: Out>(error: &mut E, first: &[u8], second: &[u8], third: &[u8])
 /// Prints on `error` `dm: line `, the number of a line of an assembly text, and `fault`, the rest of the message with
 /// its line feed. If a write fails, the rest is lost.
 fn print_line_fault<E: Out>(error: &mut E, line: usize, fault: &[u8])
-    ensures { Prints (codes "dm: line " ++ decimal line ++ fault.now) (record { bytes = E.taken error.old; failures = E.failures error.old })
+    ensures { Prints (codes "dm: line " ++ decimal line ++ fault.now) (record {
+      bytes = E.taken error.old;
+      failures = E.failures error.old;
+    })
         (record { bytes = E.taken error.new; failures = E.failures error.new }) }
 {
     let mut digits = Buffer::new();
@@ -131,8 +137,14 @@ fn write_now<E: Out>(out: &mut E, text: &[u8]) -> Result<(), Failed>
 /// Prints one more text on `error` at once, unless a write or a flush has failed before (`failed`); then the text is
 /// lost. Returns whether one has failed now.
 pub(crate) fn print_now<E: Out>(error: &mut E, failed: bool, text: &[u8]) -> bool
-    ensures { (start : Stream) (before : List ℕ) → HasPrinted failed before start (record { bytes = E.taken error.old; failures = E.failures error.old })
-        → HasPrinted result (before ++ text.now) start (record { bytes = E.taken error.new; failures = E.failures error.new }) }
+    ensures { (start : Stream) (before : List ℕ) → HasPrinted failed before start (record {
+      bytes = E.taken error.old;
+      failures = E.failures error.old;
+    })
+        → HasPrinted result (before ++ text.now) start (record {
+          bytes = E.taken error.new;
+          failures = E.failures error.new;
+        }) }
 {
     if failed {
         return true;

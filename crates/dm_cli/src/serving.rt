@@ -86,7 +86,8 @@ fn take_byte<W: Out>(
 ) -> Result<(), Fault<'static>>
     ensures ok { OnOk result (IsTakenBy most connection.old byte connection.new (W.taken out.old) (W.taken out.new)) }
     ensures no_failure { OnOk result (W.failures out.new ≡ W.failures out.old) }
-    ensures err { IfErr result (IsUntaken most connection.old byte (W.taken out.old) (W.taken out.new) (W.failures out.old) (W.failures out.new)) }
+    ensures err { IfErr result (IsUntaken most connection.old byte (W.taken out.old) (W.taken out.new)
+        (W.failures out.old) (W.failures out.new)) }
 {
     let mut sent = Vec::new(alloc);
     let Ok(()) = connection.receive(byte, most, &mut sent) else {
@@ -104,7 +105,8 @@ fn serve<R: Read, W: Out>(
     most: u64,
     out: &mut W,
 ) -> Result<(), Fault<'static>>
-    ensures { IsServed most 18446744073709551615 (R.remaining requests.old) connection.old (W.taken out.old) (W.taken out.new) (W.failures out.old) (W.failures out.new) (end_of result) }
+    ensures { IsServed most 18446744073709551615 (R.remaining requests.old) connection.old (W.taken out.old) (W.taken
+        out.new) (W.failures out.old) (W.failures out.new) (end_of result) }
 {
     for _ in 0..u64::MAX {
         if connection.is_over() {
@@ -127,7 +129,8 @@ fn serve_with<I: Read + Drop, W: Out>(
     most: u64,
     out: &mut W,
 ) -> Result<(), Fault<'static>>
-    ensures { ServesWith most (I.remaining requests) connection.old (W.taken out.old) (W.taken out.new) (W.failures out.old) (W.failures out.new) (end_of result) }
+    ensures { ServesWith most (I.remaining requests) connection.old (W.taken out.old) (W.taken out.new) (W.failures
+        out.old) (W.failures out.new) (end_of result) }
 {
     let Ok(mut requests) = BufReader::new(alloc, requests) else {
         return Err(Fault::OutOfMemory);
@@ -144,9 +147,11 @@ pub(crate) fn gdb<'a, F: Storage, I: Read + Drop, W: Out>(
     requests: I,
     out: &mut W,
 ) -> Result<(), Fault<'a>>
-    ensures does { DebugsByGdb (F.contents storage.old) (I.remaining requests) options.now (W.taken out.old) (W.taken out.new) (W.failures out.old) (W.failures out.new) (end_of result) }
+    ensures does { DebugsByGdb (F.contents storage.old) (I.remaining requests) options.now (W.taken out.old) (W.taken
+        out.new) (W.failures out.old) (W.failures out.new) (end_of result) }
     ensures reads { ReadsFiles (F.unread storage.old) (F.unread storage.new) (end_of result) }
-    ensures kept { IsKept (F.contents storage.old) (F.contents storage.new) (F.saved storage.old) (F.saved storage.new) (F.failures storage.old) (F.failures storage.new) }
+    ensures kept { IsKept (F.contents storage.old) (F.contents storage.new) (F.saved storage.old) (F.saved
+        storage.new) (F.failures storage.old) (F.failures storage.new) }
 {
     let machine = loaded_for_debug(alloc, storage, options)?;
     let copies = copies_of(options.machine.ems_pages, options.machine.xms_kib);

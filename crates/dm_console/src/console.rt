@@ -20,7 +20,12 @@ pub struct Console {
 impl Model for Console {
     ghost Value = { Streams };
 
-    ghost view = { λ c. record { input = drop c.taken c.input.items; more = c.more; output = c.output.items; room = c.room } };
+    ghost view = { λ c. record {
+      input = drop c.taken c.input.items;
+      more = c.more;
+      output = c.output.items;
+      room = c.room;
+    } };
 
     ghost invariant = { λ c. (c.taken ≤ vec_len c.input) × (vec_len c.output + c.room ≤ vec_capacity c.output) };
 }
@@ -116,7 +121,10 @@ impl Console {
     /// that takes no allocation; returns whether it has. Else nothing changes.
     #[inline(always)]
     pub fn put_within_capacity(&mut self, byte: u8) -> bool
-        ensures put { OnTrue result (self.new ≡ record self.old { output = self.old.output ++ byte ∷ []; room = max self.old.room 1 - 1 }) }
+        ensures put { OnTrue result (self.new ≡ record self.old {
+          output = self.old.output ++ byte ∷ [];
+          room = max self.old.room 1 - 1;
+        }) }
         ensures stays { OnFalse result (self.new ≡ self.old) }
         ensures has_room { 0 < self.old.room → result ≡ true }
     {

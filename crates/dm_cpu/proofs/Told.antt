@@ -25,12 +25,14 @@ sum_told c p a z s t i d o odd some e f = omega arith
 
 pub word_told : (r w y a c odd some : ℕ) → r < 4294967296 → w < 4294967296 → y < 4294967296 →
     odd + from_bool (even_parity (bit_xor (r % 256) (r / 65536 % 256))) ≡ 1 → some + from_bool (r % 65536 == 0) ≡ 1 →
-    128 * (2 * (8 * (bit_xor r w / 2147483648) + c / 256 % 8) + r / 2147483648) + (16 * (a / 16 % 2) + y / 2147483648) + 61510 - 4 * (odd + 16 * some)
+    128 * (2 * (8 * (bit_xor r w / 2147483648) + c / 256 % 8) + r / 2147483648) + (16 * (a / 16 % 2) + y / 2147483648)
+    + 61510 - 4 * (odd + 16 * some)
     ≡ flags_word (flags_by r w y a (bit_is_one c 256) (bit_is_one c 512) (bit_is_one c 1024))
 unfolding flags_word
 word_told r w y a c odd some h k l e f =
     let flags = flags_by r w y a (bit_is_one c 256) (bit_is_one c 512) (bit_is_one c 1024) in
-    let overflow : bit_xor r w / 2147483648 ≡ from_bool flags.overflow = top_told _ _ (xor_lt 32 r w h k) (overflow_read r w h k) in
+    let overflow : bit_xor r w / 2147483648 ≡ from_bool flags.overflow =
+    top_told _ _ (xor_lt 32 r w h k) (overflow_read r w h k) in
     let sign : r / 2147483648 ≡ from_bool flags.sign = top_told r _ h refl in
     let carry : y / 2147483648 ≡ from_bool flags.carry = top_told y _ l refl in
     let adjust : a / 16 % 2 ≡ from_bool flags.adjust = bit_told (a / 16) _ refl in

@@ -137,14 +137,16 @@ pub trait Source<V: Value> {
 
     /// The value.
     fn read(&self, cpu: &Registers, space: &Space) -> V
-        ensures { V.number result ≡ value_in V.width (guest cpu.now space.now.memory) (under self.now) (operand self.now) };
+        ensures { V.number result ≡ value_in V.width (guest cpu.now space.now.memory) (under self.now) (operand
+            self.now) };
 }
 
 /// What can be written too.
 pub trait Destination<V: Value>: Source<V> {
     /// Stores a value. All else stays.
     fn write(&self, cpu: &mut Registers, space: &mut Space, value: V)
-        ensures { guest cpu.new space.new.memory ≡ with_operand (guest cpu.old space.old.memory) (Self.under self.now) (Self.operand self.now) (V.number value) };
+        ensures { guest cpu.new space.new.memory ≡ with_operand (guest cpu.old space.old.memory) (Self.under
+            self.now) (Self.operand self.now) (V.number value) };
 }
 
 impl Source<u8> for Half {

@@ -16,8 +16,10 @@ use Rattle.dm_debug.specs.Runs.{stop_line, Traces, none, more, whole, cut}
 use Rattle.dm_debug.specs.Laws.{GoHasOneAnswer, TraceHasOneAnswer}
 
 -- equal states show one text of their registers
-shown_once : (t u : State) (a b : List ℕ) → t ≡ u → IsRegistersText t.cpu t.memory a → IsRegistersText u.cpu u.memory b → a ≡ b
-shown_once t u a b e x y = registers_once u.cpu u.memory a b (subst (λ (z : State). IsRegistersText z.cpu z.memory a) e x) y
+shown_once : (t u : State) (a b : List ℕ) → t ≡ u → IsRegistersText t.cpu t.memory a →
+    IsRegistersText u.cpu u.memory b → a ≡ b
+shown_once t u a b e x y = registers_once u.cpu u.memory a b (subst (λ (z : State). IsRegistersText z.cpu z.memory a) e
+    x) y
 
 both : (a b c d : List ℕ) → a ≡ b → c ≡ d → a ++ c ≡ b ++ d
 both a b c d e f = ap (λ (x : List ℕ). x ++ c) e ∙ ap (λ (x : List ℕ). b ++ x) f
@@ -49,7 +51,15 @@ last : (s u : State) (m n : ℕ) (out : List ℕ) → Traces s m out u → m ≡
 last s u m n out none e = absurd (omega arith)
 last s u m n out (more k t v text registers h a shown) e =
     let same : k ≡ n = omega arith in
-    record { before = t; told = text; registers = registers; traces = subst (λ j. Traces s j text t) same h; steps = a; shown = shown; is = refl }
+    record {
+      before = t;
+      told = text;
+      registers = registers;
+      traces = subst (λ j. Traces s j text t) same h;
+      steps = a;
+      shown = shown;
+      is = refl;
+    }
 
 none_told : (s u : State) (m : ℕ) (out : List ℕ) → Traces s m out u → m ≡ 0 → (out ≡ []) × (u ≡ s)
 none_told s u m out none e = (refl, refl)
@@ -65,8 +75,14 @@ traces_once s t u (suc n) a b x y =
     let j = last s u (suc n) n b y (omega arith) in
     let one = traces_once s i.before j.before n i.told j.told i.traces j.traces in
     let same : t ≡ u
-    = ap (λ (z : Answer). z.state) (steps-one j.before _ _ (subst (λ (v : State). MakesStep v (record { stop = None; state = t })) one.1 i.steps) j.steps) in
-    (i.is ∙ both i.told j.told i.registers j.registers one.0 (shown_once t u i.registers j.registers same i.shown j.shown) ∙ sym j.is, same)
+    = ap (λ (z : Answer). z.state) (steps-one j.before _ _ (subst (λ (v : State). MakesStep v (record {
+      stop = None;
+      state = t;
+    })) one.1 i.steps) j.steps) in (
+      i.is ∙ both i.told j.told i.registers j.registers one.0 (shown_once t u i.registers j.registers same i.shown
+          j.shown) ∙ sym j.is,
+      same,
+    )
 
 -- ---- traces that a stop cuts short
 
@@ -85,13 +101,22 @@ record Cut (s : State) (n : ℕ) (text : List ℕ) (t : State) : Type 0 where
 not_further : (s t v : State) (n m : ℕ) (told text : List ℕ) → Traces s n told t → (c : Cut s m text v) → c.made < n → ⊥
 not_further s t v n m told text x c less =
     not_beyond s t v n c.why c.other (trace_goes s t n told x)
-    (record { made = c.made; before = c.before; fewer = less; goes = trace_goes s c.before c.made c.told c.traces; answers = c.answers })
+    (record {
+      made = c.made;
+      before = c.before;
+      fewer = less;
+      goes = trace_goes s c.before c.made c.told c.traces;
+      answers = c.answers;
+    })
 
-same_made : (s t u : State) (n : ℕ) (a b : List ℕ) → (c : Cut s n a t) → (d : Cut s n b u) → c.made ≡ d.made → (a ≡ b) × (t ≡ u)
+same_made : (s t u : State) (n : ℕ) (a b : List ℕ) → (c : Cut s n a t) → (d : Cut s n b u) → c.made ≡ d.made → (a ≡ b) ×
+    (t ≡ u)
 same_made s t u n a b c d e =
-    let one = traces_once s c.before d.before d.made c.told d.told (subst (λ k. Traces s k c.told c.before) e c.traces) d.traces in
+    let one = traces_once s c.before d.before d.made c.told d.told (subst (λ k. Traces s k c.told c.before) e c.traces)
+    d.traces in
     let x : MakesStep d.before (record { stop = Some c.why; state = t })
-    = subst (λ (v : State). MakesStep v (record { stop = Some c.why; state = t })) one.1 (answers-stop c.before c.why t c.other c.answers) in
+    = subst (λ (v : State). MakesStep v (record { stop = Some c.why; state = t })) one.1
+    (answers-stop c.before c.why t c.other c.answers) in
     let same = steps-one d.before _ _ x (answers-stop d.before d.why u d.other d.answers) in
     let why : c.why ≡ d.why = stop-same c.why d.why _ (ap (λ (z : Answer). z.stop) same) refl in
     let lines : stop_line (Some c.why) ≡ stop_line (Some d.why) = ap (λ (w : Stop). stop_line (Some w)) why in
@@ -110,12 +135,52 @@ cut_once s t u n a b c d = elim (cases_lt c.made d.made) [
 pub trace_once : TraceHasOneAnswer
 trace_once s t u n a b (whole x) (whole y) p q = traces_once s t u n a b x y
 trace_once s t u n a b (whole x) (cut made before told why fewer traces answers is) p q =
-    let c : Cut s n b u = record { made = made; before = before; told = told; why = why; other = λ (e : why ≡ NoMemory). q (ap Some e); fewer = fewer; traces = traces; answers = answers; is = is } in
+    let c : Cut s n b u = record {
+      made = made;
+      before = before;
+      told = told;
+      why = why;
+      other = λ (e : why ≡ NoMemory). q (ap Some e);
+      fewer = fewer;
+      traces = traces;
+      answers = answers;
+      is = is;
+    } in
     absurd (not_further s t u n n a b x c fewer)
 trace_once s t u n a b (cut made before told why fewer traces answers is) (whole y) p q =
-    let c : Cut s n a t = record { made = made; before = before; told = told; why = why; other = λ (e : why ≡ NoMemory). p (ap Some e); fewer = fewer; traces = traces; answers = answers; is = is } in
+    let c : Cut s n a t = record {
+      made = made;
+      before = before;
+      told = told;
+      why = why;
+      other = λ (e : why ≡ NoMemory). p (ap Some e);
+      fewer = fewer;
+      traces = traces;
+      answers = answers;
+      is = is;
+    } in
     absurd (not_further s u t n n b a y c fewer)
 trace_once s t u n a b (cut made before told why fewer traces answers is) (cut m r o w f h k i) p q =
     cut_once s t u n a b
-    (record { made = made; before = before; told = told; why = why; other = λ (e : why ≡ NoMemory). p (ap Some e); fewer = fewer; traces = traces; answers = answers; is = is })
-    (record { made = m; before = r; told = o; why = w; other = λ (e : w ≡ NoMemory). q (ap Some e); fewer = f; traces = h; answers = k; is = i })
+    (record {
+      made = made;
+      before = before;
+      told = told;
+      why = why;
+      other = λ (e : why ≡ NoMemory). p (ap Some e);
+      fewer = fewer;
+      traces = traces;
+      answers = answers;
+      is = is;
+    })
+    (record {
+      made = m;
+      before = r;
+      told = o;
+      why = w;
+      other = λ (e : w ≡ NoMemory). q (ap Some e);
+      fewer = f;
+      traces = h;
+      answers = k;
+      is = i;
+    })

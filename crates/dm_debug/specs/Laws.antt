@@ -11,7 +11,8 @@ use Rattle.dm_debug.specs.Runs.{GoesTo, IsTrace, whole, cut}
 -- allocation failed
 abbrev pub GoHasOneAnswer : Type 0
 GoHasOneAnswer =
-    (s t u : State) (n : ℕ) (points : List Breakpoint) (a b : List ℕ) (x : GoesTo s n points a t) (y : GoesTo s n points b u) →
+    (s t u : State) (n : ℕ) (points : List Breakpoint) (a b : List ℕ) (x : GoesTo s n points a t)
+    (y : GoesTo s n points b u) →
     x.why ≢ Some NoMemory → y.why ≢ Some NoMemory → (a ≡ b) × (t ≡ u)
 
 -- the stop that cut a trace short; None if all steps were made

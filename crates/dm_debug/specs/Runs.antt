@@ -43,17 +43,21 @@ pub record GoesTo (s : State) (n : ℕ) (points : List Breakpoint) (text : List 
 -- n steps lead from s to this state, none of them ended the program, and this text is the registers after each
 pub data Traces (s : State) : ℕ → List ℕ → State → Type 0 where
   none : Traces s 0 [] s
-  more : (n : ℕ) (t u : State) (text registers : List ℕ) → Traces s n text t → Answers t None u → IsRegistersText u.cpu u.memory registers → Traces s (n + 1) (text ++ registers) u
+  more : (n : ℕ) (t u : State) (text registers : List ℕ) → Traces s n text t → Answers t None u →
+      IsRegistersText u.cpu u.memory registers → Traces s (n + 1) (text ++ registers) u
 
 -- T: n steps lead from s to t, and the registers after each are printed; or fewer steps were made, a stop followed that
 -- left t, and its line is printed after the registers
 pub data IsTrace (s : State) (n : ℕ) (text : List ℕ) (t : State) : Type 0 where
   whole : Traces s n text t → IsTrace s n text t
-  cut : (made : ℕ) (before : State) (told : List ℕ) (why : Stop) → made < n → Traces s made told before → Answers before (Some why) t → text ≡ told ++ stop_line (Some why) → IsTrace s n text t
+  cut : (made : ℕ) (before : State) (told : List ℕ) (why : Stop) → made < n → Traces s made told before →
+      Answers before (Some why) t → text ≡ told ++ stop_line (Some why) → IsTrace s n text t
 
 -- a trace of n steps from s that a failed allocation ends leaves t: after at most n steps, or after the stop that
 -- followed fewer
 pub data TracesPart (s : State) (n : ℕ) (t : State) : Type 0 where
   some : (made : ℕ) (told : List ℕ) → made ≤ n → Traces s made told t → TracesPart s n t
-  next : (made : ℕ) (before : State) (told : List ℕ) → made < n → Traces s made told before → Answers before None t → TracesPart s n t
-  stopped : (made : ℕ) (before : State) (told : List ℕ) (why : Stop) → made < n → Traces s made told before → Answers before (Some why) t → TracesPart s n t
+  next : (made : ℕ) (before : State) (told : List ℕ) → made < n → Traces s made told before → Answers before None t →
+      TracesPart s n t
+  stopped : (made : ℕ) (before : State) (told : List ℕ) (why : Stop) → made < n → Traces s made told before →
+      Answers before (Some why) t → TracesPart s n t

@@ -42,13 +42,15 @@ with_points s points = record s { points = points }
 
 -- the session with bytes written to its machine's memory from an address up, as E does; offsets wrap
 abbrev pub with_entered : Debugged → LogicalAddress → List ℕ → Debugged
-with_entered s a bytes = with_machine s (record s.machine { memory = with_bytes s.machine.memory a.segment a.offset bytes })
+with_entered s a bytes =
+    with_machine s (record s.machine { memory = with_bytes s.machine.memory a.segment a.offset bytes })
 
 -- what a command prints that changes nothing (R, U, D, M, P, X, BL and O): a listing, or what was written to the
 -- console
 pub data Displays (s : Debugged) : Command → List ℕ → Type 0 where
   registers : (text : List ℕ) → IsRegistersText s.machine.cpu s.machine.memory text → Displays s c.Registers text
-  code : (a : LogicalAddress) (n : ℕ) (text : List ℕ) → IsCode s.machine.memory a.segment a.offset n text → Displays s (c.Unassemble a n) text
+  code : (a : LogicalAddress) (n : ℕ) (text : List ℕ) → IsCode s.machine.memory a.segment a.offset n text →
+      Displays s (c.Unassemble a n) text
   bytes : (a : LogicalAddress) (n : ℕ) → Displays s (c.Dump a n) (bytes_text s.machine.memory a.segment a.offset n)
   arena : (text : List ℕ) → IsArenaText s.machine.upper s.machine.memory text → Displays s c.Arena text
   pages : Displays s c.Pages (pages_text s.machine.ems s.machine.memory)
@@ -60,7 +62,8 @@ pub data Displays (s : Debugged) : Command → List ℕ → Type 0 where
 -- breakpoints; other commands change nothing
 pub data Does (s : Debugged) : Command → List ℕ → Debugged → Type 0 where
   shows : (command : Command) (text : List ℕ) → Displays s command text → Does s command text s
-  goes : (n : ℕ) (text : List ℕ) (t : State) → GoesTo s.machine n s.points text t → Does s (c.Go n) text (with_machine s t)
+  goes : (n : ℕ) (text : List ℕ) (t : State) → GoesTo s.machine n s.points text t →
+      Does s (c.Go n) text (with_machine s t)
   traces : (n : ℕ) (text : List ℕ) (t : State) → IsTrace s.machine n text t → Does s (c.Trace n) text (with_machine s t)
   sets : (a : LogicalAddress) → Does s (c.Break a) done (with_points s (with_point s.points a))
   clears : (a : LogicalAddress) → Does s (c.Clear a) done (with_points s (without_point s.points a))
@@ -70,7 +73,8 @@ pub data Does (s : Debugged) : Command → List ℕ → Debugged → Type 0 wher
 -- made some of its steps, or all
 pub data DoesPart (s : Debugged) : Command → Debugged → Type 0 where
   nothing : (command : Command) → DoesPart s command s
-  ran : (n : ℕ) (why : Option Stop) (t : State) → RunsUntil s.machine n s.points why t → DoesPart s (c.Go n) (with_machine s t)
+  ran : (n : ℕ) (why : Option Stop) (t : State) → RunsUntil s.machine n s.points why t →
+      DoesPart s (c.Go n) (with_machine s t)
   traced : (n : ℕ) (t : State) → TracesPart s.machine n t → DoesPart s (c.Trace n) (with_machine s t)
 
 -- ---- lines

@@ -16,7 +16,8 @@ use std::alloc::AllocError;
 
 /// R: appends the registers, and the line of the instruction at CS:IP. (G and T print this too.)
 pub(crate) fn put_machine(out: &mut Vec<u8>, machine: &Machine) -> Result<(), AllocError>
-    ensures { OnOk result ((text : List ℕ) × (out.new.items ≡ out.old.items ++ text) × IsRegistersText machine.now.cpu machine.now.memory text) }
+    ensures { OnOk result ((text : List ℕ) × (out.new.items ≡ out.old.items ++ text) ×
+        IsRegistersText machine.now.cpu machine.now.memory text) }
 {
     put_registers(out, &machine.cpu(), machine.space())
 }
@@ -28,7 +29,8 @@ pub(crate) fn unassemble(
     at: LogicalAddress,
     count: u16,
 ) -> Result<(), AllocError>
-    ensures { OnOk result ((text : List ℕ) × (out.new.items ≡ out.old.items ++ text) × IsCode machine.now.memory at.segment at.offset count text) }
+    ensures { OnOk result ((text : List ℕ) × (out.new.items ≡ out.old.items ++ text) ×
+        IsCode machine.now.memory at.segment at.offset count text) }
 {
     put_code(out, machine.space(), at.segment, at.offset, count)
 }
@@ -47,7 +49,8 @@ pub(crate) fn dump(
 
 /// M: appends the headers of the arena, and those of upper memory if it belongs to the arena and is not linked.
 pub(crate) fn arena(out: &mut Vec<u8>, machine: &Machine) -> Result<(), AllocError>
-    ensures { OnOk result ((text : List ℕ) × (out.new.items ≡ out.old.items ++ text) × IsArenaText machine.now.upper machine.now.memory text) }
+    ensures { OnOk result ((text : List ℕ) × (out.new.items ≡ out.old.items ++ text) ×
+        IsArenaText machine.now.upper machine.now.memory text) }
 {
     put_arena(out, machine.space(), machine.upper())
 }

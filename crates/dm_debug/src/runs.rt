@@ -51,7 +51,8 @@ pub(crate) fn go(
     out: &mut Vec<u8>,
 ) -> Result<(), AllocError>
     requires { HasProgram machine.old }
-    ensures ok { OnOk result ((text : List ℕ) × (out.new.items ≡ out.old.items ++ text) × GoesTo machine.old n points.now text machine.new) }
+    ensures ok { OnOk result ((text : List ℕ) × (out.new.items ≡ out.old.items ++ text) ×
+        GoesTo machine.old n points.now text machine.new) }
     ensures err { OnErr result ((stop : Option Stop) × RunsUntil machine.old n points.now stop machine.new) }
     ensures loaded { HasProgram machine.new }
 {
@@ -65,7 +66,8 @@ pub(crate) fn go(
 /// made, and a first part of the text may be in `out`.
 pub(crate) fn trace(machine: &mut Machine, n: u16, out: &mut Vec<u8>) -> Result<(), AllocError>
     requires { HasProgram machine.old }
-    ensures ok { OnOk result ((text : List ℕ) × (out.new.items ≡ out.old.items ++ text) × IsTrace machine.old n text machine.new) }
+    ensures ok { OnOk result ((text : List ℕ) × (out.new.items ≡ out.old.items ++ text) ×
+        IsTrace machine.old n text machine.new) }
     ensures err { OnErr result (TracesPart machine.old n machine.new) }
     ensures loaded { HasProgram machine.new }
 {

@@ -113,7 +113,8 @@ impl Session {
     /// Writes the bytes to memory from segment:offset up; offsets wrap. Bytes for the ROM, or where there is no memory,
     /// are lost. Nothing but memory changes.
     pub fn write(&mut self, segment: u16, offset: u16, bytes: &[u8])
-        ensures { self.new ≡ with_machine self.old (record self.old.machine { memory = with_bytes self.old.machine.memory segment offset bytes.now }) }
+        ensures { self.new ≡ with_machine self.old (record self.old.machine
+            { memory = with_bytes self.old.machine.memory segment offset bytes.now }) }
     {
         enter(&mut self.machine, segment, offset, bytes);
     }
@@ -254,9 +255,12 @@ impl Session {
         ensures no_failure { OnOk result (O.failures out.new ≡ O.failures out.old) }
         ensures syntax { IsErrOf result CommandRefusal.Syntax ↔ (is_syntax self.old (command_of line.now) ≡ true) }
         ensures full { IsErrOf result CommandRefusal.Full ↔ (is_full self.old (command_of line.now) ≡ true) }
-        ensures unchanged { IsErrOf result CommandRefusal.Syntax ⊎ IsErrOf result CommandRefusal.Full → (self.new ≡ self.old) × (out.new ≡ out.old) }
-        ensures memory { IsErrOf result CommandRefusal.Memory → IsCutOff self.old line.now self.new × (out.new ≡ out.old) }
-        ensures write { IsErrOf result CommandRefusal.Write → IsPartlyWritten self.old line.now self.new (O.taken out.old) (O.taken out.new) × HasFailed (O.failures out.old) (O.failures out.new) }
+        ensures unchanged { IsErrOf result CommandRefusal.Syntax ⊎ IsErrOf result CommandRefusal.Full → (self.new
+            ≡ self.old) × (out.new ≡ out.old) }
+        ensures memory { IsErrOf result CommandRefusal.Memory → IsCutOff self.old line.now self.new × (out.new
+            ≡ out.old) }
+        ensures write { IsErrOf result CommandRefusal.Write → IsPartlyWritten self.old line.now self.new (O.taken
+            out.old) (O.taken out.new) × HasFailed (O.failures out.old) (O.failures out.new) }
     {
         let Some(command) = read_command(line) else {
             return Err(CommandRefusal::Syntax);

@@ -40,18 +40,29 @@ pub record Takes (bytes text rest : List ℕ) : Type 0 where
   pub rest_fits : IsBytes rest
 
 takes_then : (a x b y c : List ℕ) → Takes a x b → Takes b y c → Takes a (x ++ y) c
-takes_then a x b y c p q = record { parts = p.parts ∙ ap (λ (t : List ℕ). x ++ t) q.parts ∙ sym (append_assoc x y c); rest_fits = q.rest_fits }
+takes_then a x b y c p q = record {
+  parts = p.parts ∙ ap (λ (t : List ℕ). x ++ t) q.parts ∙ sym (append_assoc x y c);
+  rest_fits = q.rest_fits;
+}
 
 takes_none : (a : List ℕ) → IsBytes a → Takes a [] a
 takes_none a h = record { parts = refl; rest_fits = h }
 
-byte_found : (bytes : List ℕ) (n : ℕ) (rest : List ℕ) → IsBytes bytes → byte_at bytes ≡ Some (n, rest) → Takes bytes (n ∷ []) rest × (n < 2 ^ 8)
+byte_found : (bytes : List ℕ) (n : ℕ) (rest : List ℕ) → IsBytes bytes → byte_at bytes ≡ Some (n, rest) →
+    Takes bytes (n ∷ []) rest × (n < 2 ^ 8)
 byte_found [] n rest h e = absurd cc
 byte_found (b ∷ bytes) n rest h e =
     let x = some_is (b, bytes) (n, rest) e in
-    subst (λ (y : ℕ × List ℕ). Takes (b ∷ bytes) (y.0 ∷ []) y.1 × (y.0 < 2 ^ 8)) x (record { parts = refl; rest_fits = rest_bytes b bytes h }, h 0)
+    subst (λ (y : ℕ × List ℕ). Takes (b ∷ bytes) (y.0 ∷ []) y.1 × (y.0 < 2 ^ 8)) x (
+      record {
+        parts = refl;
+        rest_fits = rest_bytes b bytes h;
+      },
+      h 0,
+    )
 
-word_found : (bytes : List ℕ) (n : ℕ) (rest : List ℕ) → IsBytes bytes → word_at bytes ≡ Some (n, rest) → Takes bytes (word_bytes n) rest × (n < 2 ^ 16)
+word_found : (bytes : List ℕ) (n : ℕ) (rest : List ℕ) → IsBytes bytes → word_at bytes ≡ Some (n, rest) →
+    Takes bytes (word_bytes n) rest × (n < 2 ^ 16)
 unfolding word_at
 word_found [] n rest h e = absurd cc
 word_found (a ∷ []) n rest h e = absurd cc
@@ -59,18 +70,22 @@ word_found (a ∷ b ∷ bytes) n rest h e =
     let x = some_is (a + 256 * b, bytes) (n, rest) e in
     let low : (a + 256 * b) % 256 ≡ a = omega (arith, h 0) in
     let high : (a + 256 * b) / 256 ≡ b = omega (arith, h 0) in
-    subst (λ (y : ℕ × List ℕ). Takes (a ∷ b ∷ bytes) (word_bytes y.0) y.1 × (y.0 < 2 ^ 16)) x
-    (record { parts = rw (low, high) refl; rest_fits = rest_bytes b bytes (rest_bytes a (b ∷ bytes) h) }, omega (arith, h 0, h 1))
+    subst (λ (y : ℕ × List ℕ). Takes (a ∷ b ∷ bytes) (word_bytes y.0) y.1 × (y.0 < 2 ^ 16)) x (
+      record { parts = rw (low, high) refl; rest_fits = rest_bytes b bytes (rest_bytes a (b ∷ bytes) h) },
+      omega (arith, h 0, h 1),
+    )
 
 -- ---- memory operands
 
 abbrev MemoryFound : ℕ → ℕ → List ℕ → Option Address × List ℕ → Type 0
 MemoryFound mode rm bytes x = (d : List ℕ) × Takes bytes d x.1 × SpellsMemory x.0 mode rm d
 
-chosen : {A : Type 0} (n k : ℕ) (o p : Option A) (y : A) → cond (eqb n k) o p ≡ Some y → ((n ≡ k) × (o ≡ Some y)) ⊎ ((n ≢ k) × (p ≡ Some y))
+chosen : {A : Type 0} (n k : ℕ) (o p : Option A) (y : A) → cond (eqb n k) o p ≡ Some y → ((n ≡ k) × (o ≡ Some y)) ⊎
+    ((n ≢ k) × (p ≡ Some y))
 chosen n k o p y e = elim (eqb_tells n k) [ inl t ↦ inl (t.1, rw t.0 at e) | inr f ↦ inr (f.1, rw f.0 at e) ]
 
-memory_found : (mode rm : ℕ) (bytes : List ℕ) (x : Option Address × List ℕ) → mode < 4 → IsBytes bytes → memory_at mode rm bytes ≡ Some x → MemoryFound mode rm bytes x
+memory_found : (mode rm : ℕ) (bytes : List ℕ) (x : Option Address × List ℕ) → mode < 4 → IsBytes bytes →
+    memory_at mode rm bytes ≡ Some x → MemoryFound mode rm bytes x
 unfolding memory_at
 memory_found mode rm bytes x lt h e =
     elim (chosen mode 0 _ _ x e) [
@@ -78,22 +93,42 @@ memory_found mode rm bytes x lt h e =
         | inl c6 ↦
             let b = bind_some (word_at bytes) _ x c6.1 in
             let t = word_found bytes b.0.0 b.0.1 h b.1 in
-            subst (MemoryFound mode rm bytes) (some_is _ x b.2) (word_bytes b.0.0, t.0, inl (c0.0, c6.0, b.0.0, t.1, refl, refl))
-        | inr c6 ↦ subst (MemoryFound mode rm bytes) (some_is _ x c6.1) ([], takes_none bytes h, inr (inl (c0.0, c6.0, refl, refl)))
+            subst (MemoryFound mode rm bytes) (some_is _ x b.2) (
+              word_bytes b.0.0,
+              t.0,
+              inl (c0.0, c6.0, b.0.0, t.1, refl, refl),
+            )
+        | inr c6 ↦ subst (MemoryFound mode rm bytes) (some_is _ x c6.1) (
+          [],
+          takes_none bytes h,
+          inr (inl (c0.0, c6.0, refl, refl)),
+        )
       ]
       | inr c0 ↦ elim (chosen mode 1 _ _ x c0.1) [
         | inl c1 ↦
             let b = bind_some (byte_at bytes) _ x c1.1 in
             let t = byte_found bytes b.0.0 b.0.1 h b.1 in
-            subst (MemoryFound mode rm bytes) (some_is _ x b.2) (b.0.0 ∷ [], t.0, inr (inr (inl (c1.0, b.0.0, t.1, refl, refl))))
+            subst (MemoryFound mode rm bytes) (some_is _ x b.2) (
+              b.0.0 ∷ [],
+              t.0,
+              inr (inr (inl (c1.0, b.0.0, t.1, refl, refl))),
+            )
         | inr c1 ↦ elim (chosen mode 2 _ _ x c1.1) [
           | inl c2 ↦
               let b = bind_some (word_at bytes) _ x c2.1 in
               let t = word_found bytes b.0.0 b.0.1 h b.1 in
-              subst (MemoryFound mode rm bytes) (some_is _ x b.2) (word_bytes b.0.0, t.0, inr (inr (inr (inl (c2.0, b.0.0, t.1, refl, refl)))))
+              subst (MemoryFound mode rm bytes) (some_is _ x b.2) (
+                word_bytes b.0.0,
+                t.0,
+                inr (inr (inr (inl (c2.0, b.0.0, t.1, refl, refl)))),
+              )
           | inr c2 ↦
               let three : mode ≡ 3 = omega arith in
-              subst (MemoryFound mode rm bytes) (some_is _ x c2.1) ([], takes_none bytes h, inr (inr (inr (inr (three, refl, refl)))))
+              subst (MemoryFound mode rm bytes) (some_is _ x c2.1) (
+                [],
+                takes_none bytes h,
+                inr (inr (inr (inr (three, refl, refl)))),
+              )
         ]
       ]
     ]
@@ -113,7 +148,14 @@ fields_found bytes x h e =
     subst (FieldsFound bytes) (some_is _ x a.2) (
       b.0.0 ∷ m.0,
       takes_then bytes (b.0.0 ∷ []) b.0.1 m.0 a.0.1 t.0 m.1,
-      record { mode = b.0.0 / 64; displacement = m.0; register_fits = omega arith; rm_fits = omega arith; spells_memory = m.2; parts = ap (λ (k : ℕ). k ∷ m.0) split },
+      record {
+        mode = b.0.0 / 64;
+        displacement = m.0;
+        register_fits = omega arith;
+        rm_fits = omega arith;
+        spells_memory = m.2;
+        parts = ap (λ (k : ℕ). k ∷ m.0) split;
+      },
     )
 
 -- ---- operands
@@ -125,7 +167,8 @@ module _ (m : Fields) (bytes : List ℕ) (x : Operand × List ℕ) (h : IsBytes 
   empty : (k : OperandKind) (o : Operand) → Fills k m o [] → Some (o, bytes) ≡ Some x → OperandFound k m bytes x
   empty k o f e = subst (OperandFound k m bytes) (some_is (o, bytes) x e) ([], takes_none bytes h, f)
 
-operand_found : (k : OperandKind) (m : Fields) (bytes : List ℕ) (x : Operand × List ℕ) → IsBytes bytes → operand_at k m bytes ≡ Some x → OperandFound k m bytes x
+operand_found : (k : OperandKind) (m : Fields) (bytes : List ℕ) (x : Operand × List ℕ) → IsBytes bytes →
+    operand_at k m bytes ≡ Some x → OperandFound k m bytes x
 unfolding operand_at
 operand_found is.Nothing m bytes x h e = empty m bytes x h is.Nothing _ (refl, refl) e
 operand_found (is.RegisterOrMemory w) m bytes x h e = empty m bytes x h (is.RegisterOrMemory w) _ (refl, refl) e
@@ -162,7 +205,18 @@ operand_found is.Far m bytes x h e =
     let t = word_found bytes b.0.0 b.0.1 h b.1 in
     let c = bind_some (word_at b.0.1) _ x b.2 in
     let u = word_found b.0.1 c.0.0 c.0.1 t.0.rest_fits c.1 in
-    subst (OperandFound is.Far m bytes) (some_is _ x c.2) (word_bytes b.0.0 ++ word_bytes c.0.0, takes_then bytes (word_bytes b.0.0) b.0.1 (word_bytes c.0.0) c.0.1 t.0 u.0, (b.0.0, c.0.0, t.1, u.1, refl, refl))
+    subst (OperandFound is.Far m bytes) (some_is _ x c.2) (
+      word_bytes b.0.0 ++ word_bytes c.0.0,
+      takes_then bytes (word_bytes b.0.0) b.0.1 (word_bytes c.0.0) c.0.1 t.0 u.0,
+      (
+        b.0.0,
+        c.0.0,
+        t.1,
+        u.1,
+        refl,
+        refl,
+      ),
+    )
 operand_found (is.Escape r) m bytes x h e = empty m bytes x h (is.Escape r) _ (refl, refl) e
 operand_found (is.Byte r) m bytes x h e = empty m bytes x h (is.Byte r) _ (refl, refl) e
 operand_found (is.Word r) m bytes x h e = empty m bytes x h (is.Word r) _ (refl, refl) e
@@ -177,14 +231,22 @@ plain_found : (b : Bool) (p : Template) (bytes : List ℕ) (x : (Template × Fie
 plain_found true p bytes x h e =
     let a = bind_some (fields_at bytes) (with_template p) x e in
     let f = fields_found bytes a.0 h a.1 in
-    subst (λ (y : (Template × Fields) × List ℕ). (d : List ℕ) × Takes bytes d y.1 × (y.0.0 ≡ p) × SpellsFields y.0.1 d) (some_is _ x a.2) (f.0, f.1, refl, f.2)
+    subst (λ (y : (Template × Fields) × List ℕ). (d : List ℕ) × Takes bytes d y.1 × (y.0.0 ≡ p) ×
+    SpellsFields y.0.1 d) (some_is _ x a.2) (f.0, f.1, refl, f.2)
 plain_found false p bytes x h e =
-    subst (λ (y : (Template × Fields) × List ℕ). (d : List ℕ) × Takes bytes d y.1 × (y.0.0 ≡ p) × ((y.0.1 ≡ no_fields) × (d ≡ []))) (some_is ((p, no_fields), bytes) x e) ([], takes_none bytes h, refl, (refl, refl))
+    subst (λ (y : (Template × Fields) × List ℕ). (d : List ℕ) × Takes bytes d y.1 × (y.0.0 ≡ p) ×
+    ((y.0.1 ≡ no_fields) × (d ≡ []))) (some_is ((p, no_fields), bytes) x e) (
+      [],
+      takes_none bytes h,
+      refl,
+      (refl, refl),
+    )
 
 abbrev TemplateFound : OpcodeEntry → List ℕ → (Template × Fields) × List ℕ → Type 0
 TemplateFound e bytes x = (d : List ℕ) × Takes bytes d x.1 × HasTemplate e x.0.1 d x.0.0
 
-template_found : (e : OpcodeEntry) (bytes : List ℕ) (x : (Template × Fields) × List ℕ) → IsBytes bytes → template_at e bytes ≡ Some x → TemplateFound e bytes x
+template_found : (e : OpcodeEntry) (bytes : List ℕ) (x : (Template × Fields) × List ℕ) → IsBytes bytes →
+    template_at e bytes ≡ Some x → TemplateFound e bytes x
 unfolding template_at
 template_found Unlisted bytes x h e = absurd cc
 template_found (Plain p) bytes x h e =
@@ -199,7 +261,11 @@ template_found (Second c p) bytes x h e =
     let b = bind_some (byte_at bytes) _ x e in
     let t = byte_found bytes b.0.0 b.0.1 h b.1 in
     elim (chosen b.0.0 c _ _ x b.2) [
-      | inl s ↦ subst (TemplateFound (Second c p) bytes) (some_is _ x s.1) (b.0.0 ∷ [], t.0, (refl, refl, ap (λ (k : ℕ). k ∷ []) s.0))
+      | inl s ↦ subst (TemplateFound (Second c p) bytes) (some_is _ x s.1) (
+        b.0.0 ∷ [],
+        t.0,
+        (refl, refl, ap (λ (k : ℕ). k ∷ []) s.0),
+      )
       | inr s ↦ absurd (none_is_not x s.1)
     ]
 
@@ -209,7 +275,8 @@ ActionFound bytes x = (d : List ℕ) × Takes bytes d x.1 × SpellsAction x.0 d
 -- the parts of a template spell its action
 action_spelled : (b : ℕ) (m : Fields) (r : Template) (behind first_part second_part : List ℕ) (first second : Operand)
     → HasTemplate (entry_of b) m behind r → Fills r.first m first first_part → Fills r.second m second second_part
-    → SpellsAction (record { mnemonic = r.mnemonic; first = first; second = second }) (b ∷ behind ++ (first_part ++ second_part))
+    → SpellsAction (record { mnemonic = r.mnemonic; first = first; second = second }) (b ∷ behind
+    ++ (first_part ++ second_part))
 action_spelled b m r behind first_part second_part first second h p q = record {
   first_byte = b;
   fields = m;
@@ -250,12 +317,20 @@ record Stripped (n : ℕ) (p : Prefixes) (bytes : List ℕ) (out : Prefixes × L
   parts : bytes ≡ map prefix_byte xs ++ out.1
   rest_fits : IsBytes out.1
 
-one_left : (n : ℕ) (p : Prefixes) (bytes : List ℕ) (out : Prefixes × List ℕ) → Stripped n p bytes out → Stripped (suc n) p bytes out
-one_left n p bytes out s = record { xs = s.xs; few = omega (arith, s.few); keeps = s.keeps; parts = s.parts; rest_fits = s.rest_fits }
+one_left : (n : ℕ) (p : Prefixes) (bytes : List ℕ) (out : Prefixes × List ℕ) → Stripped n p bytes out →
+    Stripped (suc n) p bytes out
+one_left n p bytes out s = record {
+  xs = s.xs;
+  few = omega (arith, s.few);
+  keeps = s.keeps;
+  parts = s.parts;
+  rest_fits = s.rest_fits;
+}
 
 module _ (n : ℕ) (again : (p : Prefixes) (bytes : List ℕ) → IsBytes bytes → Stripped n p bytes (strips n p bytes)) where
   strip_found : (o : Option Prefix) (p : Prefixes) (b : ℕ) (bytes : List ℕ) → IsBytes (b ∷ bytes) → prefix_of b ≡ o
-      → Stripped (suc n) p (b ∷ bytes) (strips n (without p (b ∷ bytes) o b bytes).0 (without p (b ∷ bytes) o b bytes).1)
+      → Stripped (suc n) p (b ∷ bytes) (strips n (without p (b ∷ bytes) o b bytes).0 (without p (b
+      ∷ bytes) o b bytes).1)
   strip_found None p b bytes h e = one_left n p (b ∷ bytes) _ (again p (b ∷ bytes) h)
   strip_found (Some x) p b bytes h e =
       let s = again (with_prefix p x) bytes (rest_bytes b bytes h) in
@@ -276,13 +351,15 @@ strips_found (suc n) p (b ∷ bytes) h = strip_found n (λ q d f. strips_found n
 abbrev pub PrefixedFound : List ℕ → (Prefixes × Action) × List ℕ → Type 0
 PrefixedFound bytes x = (d : List ℕ) × Takes bytes d x.1 × SpellsPrefixed x.0.0 x.0.1 d
 
-pub prefixed_found : (bytes : List ℕ) (x : (Prefixes × Action) × List ℕ) → IsBytes bytes → prefixed_at bytes ≡ Some x → PrefixedFound bytes x
+pub prefixed_found : (bytes : List ℕ) (x : (Prefixes × Action) × List ℕ) → IsBytes bytes → prefixed_at bytes ≡ Some x →
+    PrefixedFound bytes x
 unfolding prefixed_at
 prefixed_found bytes x h e =
     let s = strips_found 4 no_prefix bytes h in
     let a = bind_some (action_at (strips 4 no_prefix bytes).1) _ x e in
     let t = action_found (strips 4 no_prefix bytes).1 a.0 s.rest_fits a.1 in
-    let whole : bytes ≡ (map prefix_byte s.xs ++ t.0) ++ a.0.1 = s.parts ∙ ap (λ (r : List ℕ). map prefix_byte s.xs ++ r) t.1.parts ∙ sym (append_assoc (map prefix_byte s.xs) t.0 a.0.1) in
+    let whole : bytes ≡ (map prefix_byte s.xs ++ t.0) ++ a.0.1 = s.parts ∙ ap (λ (r : List ℕ). map prefix_byte s.xs
+    ++ r) t.1.parts ∙ sym (append_assoc (map prefix_byte s.xs) t.0 a.0.1) in
     subst (PrefixedFound bytes) (some_is _ x a.2) (
       map prefix_byte s.xs ++ t.0,
       record { parts = whole; rest_fits = t.1.rest_fits },

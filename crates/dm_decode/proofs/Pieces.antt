@@ -8,7 +8,8 @@ use Rattle.dm_decode.specs.Texts.{mnemonic_pieces}
 
 pub bytes-append : (ps qs : List Piece) → text_bytes (ps ++ qs) ≡ text_bytes ps ++ text_bytes qs
 bytes-append [] qs = refl
-bytes-append (p ∷ ps) qs = ap (λ (z : List ℕ). piece_bytes p ++ z) (bytes-append ps qs) ∙ sym (append_assoc (piece_bytes p) (text_bytes ps) (text_bytes qs))
+bytes-append (p ∷ ps) qs = ap (λ (z : List ℕ). piece_bytes p ++ z) (bytes-append ps qs)
+    ∙ sym (append_assoc (piece_bytes p) (text_bytes ps) (text_bytes qs))
 
 pub mnemonic_bytes : (m : Mnemonic) → text_bytes (mnemonic_pieces m) ≡ name_of m
 unfolding name_of

@@ -48,7 +48,11 @@ displacement_pieces n = if n == 0 then [] else plus ∷ word n ∷ []
 -- what stands between the brackets of a memory operand: registers and displacement; of a direct address its
 -- displacement alone, also where it is 0
 abbrev pub address_pieces : Address → List Piece
-address_pieces a = elim a.base [ Direct ↦ word a.displacement ∷ [] | _ ↦ base_pieces a.base ++ displacement_pieces a.displacement ]
+address_pieces a = elim a.base [
+  | Direct ↦ word a.displacement ∷ []
+  | _ ↦ base_pieces a.base
+      ++ displacement_pieces a.displacement
+]
 
 -- the mnemonic is that of a shift or rotate
 abbrev pub is_shift : Mnemonic → Bool
@@ -143,7 +147,8 @@ is_nop a = elim a.mnemonic [ op.Xchg ↦ (if is_accumulator a.first then is_accu
 
 -- the mnemonic and the operands of an action; `next` is the offset of the next instruction
 unfoldable pub action_pieces : Action → ℕ → List Piece
-action_pieces a next = if is_nop a then name (codes "NOP") ∷ [] else mnemonic_pieces a.mnemonic ++ operands_pieces a next
+action_pieces a next = if is_nop a then name (codes "NOP") ∷ [] else mnemonic_pieces a.mnemonic
+    ++ operands_pieces a next
 
 -- ---- the prefixes that are kept: the segment's, LOCK, REP or REPNE, each with a space after it
 

@@ -17,7 +17,16 @@ use Rattle.dm_drivers.specs.Drivers.{driven}
 -- the result x of a driver's call from s has no stop and differs from s in registers, memory, the tables of expanded
 -- and extended memory, and the count of steps alone
 abbrev pub LeavesTheRest : State → Answer → Type 0
-LeavesTheRest s x = x ≡ record { stop = None; state = record s { cpu = x.state.cpu; memory = x.state.memory; ems = x.state.ems; xms = x.state.xms; steps = x.state.steps } }
+LeavesTheRest s x = x ≡ record {
+  stop = None;
+  state = record s {
+    cpu = x.state.cpu;
+    memory = x.state.memory;
+    ems = x.state.ems;
+    xms = x.state.xms;
+    steps = x.state.steps;
+  };
+}
 
 -- no driver stops the machine or changes more than registers, memory, the tables of expanded and extended memory and
 -- the count of steps (`LeavesTheRest`), and each keeps those tables consistent with memory
@@ -28,10 +37,14 @@ pub record DriversKeep : Type 0 where
 -- if the tables are consistent with memory: a handle that INT 67h function 43h allocates with n pages, or that function
 -- 51h reallocates to n pages without an error code, then has exactly n pages
 pub record PagesCome : Type 0 where
-  pub allocating : (s : State) (y : Expanded) (n handle : ℕ) → AreConsistent s → allocate (expanded s.ems s.memory) n ≡ Ok (handle, y) → HasPages (expanded s.ems s.memory) y handle n
-  pub reallocating : (s : State) (y : Expanded) (handle n : ℕ) (r : Reallocated) → AreConsistent s → reallocate (expanded s.ems s.memory) handle n ≡ Ok (r, y) → r.refused ≡ None → HasPages (expanded s.ems s.memory) y handle n
+  pub allocating : (s : State) (y : Expanded) (n handle : ℕ) → AreConsistent s → allocate (expanded s.ems s.memory) n
+      ≡ Ok (handle, y) → HasPages (expanded s.ems s.memory) y handle n
+  pub reallocating : (s : State) (y : Expanded) (handle n : ℕ) (r : Reallocated) → AreConsistent s →
+      reallocate (expanded s.ems s.memory) handle n ≡ Ok (r, y) → r.refused ≡ None →
+      HasPages (expanded s.ems s.memory) y handle n
 
 -- if the tables are consistent with memory: function 09h of the extended memory driver gives a handle with a new block
 -- of so many KiB, except where each handle is in use (A1h), or no gap of the pool holds the block (A0h)
 abbrev pub BlockComes : Type 0
-BlockComes = (s : State) (kib : ℕ) → AreConsistent s → Gives (extended s.xms s.memory) kib (extended_memory.allocate (extended s.xms s.memory) kib)
+BlockComes = (s : State) (kib : ℕ) → AreConsistent s → Gives (extended s.xms s.memory) kib
+    (extended_memory.allocate (extended s.xms s.memory) kib)

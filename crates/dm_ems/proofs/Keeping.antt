@@ -34,15 +34,18 @@ use Rattle.dm_ems.proofs.HandleBlocks.{none_left}
 pub record Keeps {A : Type 0} (x : Expanded) (r : Result (A × Expanded) Status) : Type 0 where
   pub kept : IsConsistent (state_after x r)
 
-pub if_keeps : {A : Type 0} (x : Expanded) (b : Bool) (r s : Result (A × Expanded) Status) → Keeps x r → Keeps x s → Keeps x (cond b r s)
+pub if_keeps : {A : Type 0} (x : Expanded) (b : Bool) (r s : Result (A × Expanded) Status) → Keeps x r → Keeps x s →
+    Keeps x (cond b r s)
 if_keeps x true r s p q = p
 if_keeps x false r s p q = q
 
-pub else_keeps : {A : Type 0} (x : Expanded) (b : Bool) (r s : Result (A × Expanded) Status) → Keeps x r → (b ≡ false → Keeps x s) → Keeps x (cond b r s)
+pub else_keeps : {A : Type 0} (x : Expanded) (b : Bool) (r s : Result (A × Expanded) Status) → Keeps x r →
+    (b ≡ false → Keeps x s) → Keeps x (cond b r s)
 else_keeps x true r s p q = p
 else_keeps x false r s p q = q refl
 
-pub need_keeps : {A B : Type 0} (x : Expanded) (o : Option A) (e : Status) (f : A → Result (B × Expanded) Status) → IsConsistent x → ((v : A) → o ≡ Some v → Keeps x (f v)) → Keeps x (need o e f)
+pub need_keeps : {A B : Type 0} (x : Expanded) (o : Option A) (e : Status) (f : A → Result (B × Expanded) Status) →
+    IsConsistent x → ((v : A) → o ≡ Some v → Keeps x (f v)) → Keeps x (need o e f)
 need_keeps x None e f l h = record { kept = l }
 need_keeps x (Some v) e f l h = h v refl
 
@@ -55,11 +58,14 @@ refused x e l = record { kept = l }
 pub opened : (x : Expanded) (h : ℕ) → IsConsistent x → IsConsistent (with_slot x h (Some blank))
 opened x h l = consistent_slot x h (Some blank) l tt (λ k lt e. refl)
 
-pub opened_used : (x : Expanded) (h : ℕ) → position is_none x.ems.handles ≡ Some h → IsUsed (with_slot x h (Some blank)).ems.handles h
-opened_used x h e = let at = position-Some is_none x.ems.handles h None e in ap is_some (get_or-set_same x.ems.handles h (Some blank) None at.0)
+pub opened_used : (x : Expanded) (h : ℕ) → position is_none x.ems.handles ≡ Some h →
+    IsUsed (with_slot x h (Some blank)).ems.handles h
+opened_used x h e = let at = position-Some is_none x.ems.handles h None e in
+    ap is_some (get_or-set_same x.ems.handles h (Some blank) None at.0)
 
 -- the machine has as many pages more as can be allocated
-pub has_room : (x : Expanded) (n : ℕ) → IsConsistent x → nat_lt (unallocated x) n ≡ false → length x.ems.pages + n ≤ x.ems.total
+pub has_room : (x : Expanded) (n : ℕ) → IsConsistent x → nat_lt (unallocated x) n ≡ false →
+    length x.ems.pages + n ≤ x.ems.total
 has_room x n l e =
     let fit = count_fitting 16 (gaps x.memory.blocks.places x.memory.blocks.units) in
     let le : n ≤ min fit (x.ems.total - length x.ems.pages) = not_less (unallocated x) n e in omega (arith, le, l.few)
@@ -73,32 +79,56 @@ allocate_keeps x n l =
     if_keeps x (n == 0) (Err NoPages) _ (refused x NoPages l)
     (need_keeps x (position is_none x.ems.handles) NoHandleLeft _ l (λ h e.
     if_keeps x (nat_lt x.ems.total n) (Err OverTotal) _ (refused x OverTotal l)
-    (else_keeps x (nat_lt (unallocated x) n) (Err OverFree) (Ok (h, appended (with_slot x h (Some blank)) h n)) (refused x OverFree l)
-    (λ f. record { kept = consistent_appended (with_slot x h (Some blank)) h n (opened_used x h e) (has_room x n l f) (opened x h l) }))))
+    (else_keeps x (nat_lt (unallocated x) n) (Err OverFree) (Ok (h, appended (with_slot x h (Some blank)) h n))
+    (refused x OverFree l)
+    (λ f. record {
+      kept = consistent_appended (with_slot x h (Some blank)) h n (opened_used x h e) (has_room x n l
+          f) (opened x h l);
+    }))))
 
 freed_slot : (ps : List Page) (b : Bool) → SavesPages ps (cond b (Some blank) None)
 freed_slot ps true = tt
 freed_slot ps false = tt
 
-freed : (x : Expanded) (h : ℕ) → IsConsistent x → Keeps {A = Unit {0}} x (Ok (tt, with_slot (cut x h 0) h (cond (h == 0) (Some blank) None)))
-freed x h l = record { kept = consistent_slot (cut x h 0) h (cond (h == 0) (Some blank) None) (consistent_cut x h 0 l) (freed_slot (cut x h 0).ems.pages (h == 0)) (λ k lt e. absurd (none_left x h k l lt e)) }
+freed : (x : Expanded) (h : ℕ) → IsConsistent x → Keeps {A = Unit {0}} x (Ok (
+  tt,
+  with_slot (cut x h 0) h (cond (h == 0) (Some blank) None),
+))
+freed x h l = record {
+  kept = consistent_slot (cut x h 0) h (cond (h == 0) (Some blank) None) (consistent_cut x h 0
+      l) (freed_slot (cut x h 0).ems.pages (h == 0)) (λ k lt e. absurd (none_left x h k l lt e));
+}
 
 deallocate_keeps : (x : Expanded) (h : ℕ) → IsConsistent x → Keeps x (deallocate x h)
 unfolding deallocate
 deallocate_keeps x h l =
-    need_keeps x (slot x h) UnknownHandle _ l (λ s e. if_keeps x (is_some s.saved) (Err ContextSaved) _ (refused x ContextSaved l) (freed x h l))
+    need_keeps x (slot x h) UnknownHandle _ l (λ s e. if_keeps x (is_some s.saved) (Err ContextSaved) _
+    (refused x ContextSaved l) (freed x h l))
 
 -- ---- windows
 
-pub window_set : (ps : List Page) (ws : List (Option ℕ)) (k : ℕ) (w : Option ℕ) → ShowsPages ps ws → IfSome w (IsOwned ps) → ShowsPages ps (set ws k w)
+pub window_set : (ps : List Page) (ws : List (Option ℕ)) (k : ℕ) (w : Option ℕ) → ShowsPages ps ws →
+    IfSome w (IsOwned ps) → ShowsPages ps (set ws k w)
 window_set ps [] k w h p j = tt
 window_set ps (x ∷ ws) zero w h p zero = p
 window_set ps (x ∷ ws) zero w h p (suc j) = h (suc j)
 window_set ps (x ∷ ws) (suc k) w h p zero = h 0
 window_set ps (x ∷ ws) (suc k) w h p (suc j) = window_set ps ws k w (λ i. h (suc i)) p j
 
-pub with_shown : (x : Expanded) (windows : List (Option ℕ)) → IsConsistent x → ShowsPages x.ems.pages windows → IsConsistent (with_memory x (with_windows x.memory windows))
-with_shown x windows l h = record { places = l.places; contents = l.contents; based = l.based; total = l.total; few = l.few; used = l.used; owned = l.owned; apart = l.apart; shown = h; saved = l.saved }
+pub with_shown : (x : Expanded) (windows : List (Option ℕ)) → IsConsistent x → ShowsPages x.ems.pages windows →
+    IsConsistent (with_memory x (with_windows x.memory windows))
+with_shown x windows l h = record {
+  places = l.places;
+  contents = l.contents;
+  based = l.based;
+  total = l.total;
+  few = l.few;
+  used = l.used;
+  owned = l.owned;
+  apart = l.apart;
+  shown = h;
+  saved = l.saved;
+}
 
 map_keeps : (x : Expanded) (window page h : ℕ) → IsConsistent x → Keeps x (map_page x window page h)
 unfolding map_page
@@ -106,11 +136,15 @@ map_keeps x window page h l =
     need_keeps x (slot x h) UnknownHandle _ l (λ s e.
     if_keeps x (nat_le 4 window) (Err NoSuchWindow) _ (refused x NoSuchWindow l)
     (if_keeps x (page == 0xFFFF) (Ok (tt, showing x window None)) _
-    (record { kept = with_shown x (set x.memory.windows window None) l (window_set x.ems.pages x.memory.windows window None l.shown tt) })
+    (record {
+      kept = with_shown x (set x.memory.windows window None) l (window_set x.ems.pages x.memory.windows window
+          None l.shown tt);
+    })
     (need_keeps x (slice_get (blocks_of x.ems h) page) NoSuchPage _ l (λ b is.
     record {
       kept = with_shown x (set x.memory.windows window (Some b)) l
-          (window_set x.ems.pages x.memory.windows window (Some b) l.shown (each_block (IsOwned x.ems.pages) x.ems.pages h page b (λ k j. (k, j, refl)) is));
+          (window_set x.ems.pages x.memory.windows window (Some b) l.shown
+          (each_block (IsOwned x.ems.pages) x.ems.pages h page b (λ k j. (k, j, refl)) is));
     }))))
 
 -- the saved windows of a handle show pages
@@ -122,14 +156,25 @@ unfolding save_map
 save_keeps x h l =
     need_keeps x (slot x h) UnknownHandle _ l (λ s e.
     if_keeps x (is_some s.saved) (Err SavedAlready) _ (refused x SavedAlready l)
-    (record { kept = consistent_slot x h (Some (record s { saved = Some x.memory.windows })) l l.shown (λ k lt f. refl) }))
+    (record {
+      kept = consistent_slot x h (Some (record s { saved = Some x.memory.windows })) l l.shown (λ k lt f.
+          refl);
+    }))
 
-restored : (x : Expanded) (h : ℕ) (s : Handle) (o : Option (List (Option ℕ))) → s.saved ≡ o → slot x h ≡ Some s → IsConsistent x
-    → Keeps {A = Unit {0}} x (need o NoneSaved (λ windows. Ok (tt, with_slot (with_memory x (with_windows x.memory windows)) h (Some (record s { saved = None })))))
+restored : (x : Expanded) (h : ℕ) (s : Handle) (o : Option (List (Option ℕ))) → s.saved ≡ o → slot x h ≡ Some s →
+    IsConsistent x
+    → Keeps {A = Unit {0}} x (need o NoneSaved (λ windows. Ok (
+      tt,
+      with_slot (with_memory x (with_windows x.memory windows)) h (Some (record s { saved = None })),
+    )))
 restored x h s None e f l = refused x NoneSaved l
 restored x h s (Some windows) e f l =
-    let shows : ShowsPages x.ems.pages windows = subst (λ (o : Option (List (Option ℕ))). IfSome o (ShowsPages x.ems.pages)) e (saved_at x h s l f) in
-    record { kept = consistent_slot (with_memory x (with_windows x.memory windows)) h (Some (record s { saved = None })) (with_shown x windows l shows) tt (λ k lt g. refl) }
+    let shows : ShowsPages x.ems.pages windows =
+    subst (λ (o : Option (List (Option ℕ))). IfSome o (ShowsPages x.ems.pages)) e (saved_at x h s l f) in
+    record {
+      kept = consistent_slot (with_memory x (with_windows x.memory windows)) h (Some
+          (record s { saved = None })) (with_shown x windows l shows) tt (λ k lt g. refl);
+    }
 
 restore_keeps : (x : Expanded) (h : ℕ) → IsConsistent x → Keeps x (restore_map x h)
 unfolding restore_map
@@ -141,8 +186,12 @@ name_keeps : (x : Expanded) (h segment offset : ℕ) → IsConsistent x → Keep
 unfolding set_name
 name_keeps x h segment offset l =
     need_keeps x (slot x h) UnknownHandle _ l (λ s e.
-    if_keeps x (is_name_of_other x.ems h (eight_after x.memory segment offset)) (Err NameTaken) _ (refused x NameTaken l)
-    (record { kept = consistent_slot x h (Some (record s { name = eight_after x.memory segment offset })) l (saved_at x h s l e) (λ k lt f. refl) }))
+    if_keeps x (is_name_of_other x.ems h (eight_after x.memory segment offset)) (Err NameTaken) _
+    (refused x NameTaken l)
+    (record {
+      kept = consistent_slot x h (Some (record s { name = eight_after x.memory segment offset })) l (saved_at x
+          h s l e) (λ k lt f. refl);
+    }))
 
 -- ---- all calls
 
@@ -161,7 +210,10 @@ calls_keep = record {
 -- ---- writes
 
 page_kept : (m n : Memory) (b : ℕ) → IsShaped m n → IsPage m b → IsPage n b
-page_kept m n b s p = ((p.0.0, (p.0.1.0, ap (λ (xs : List (Option Extent)). get_or xs b None) s.places ∙ p.0.1.1)), s.page_sizes b ∙ p.1)
+page_kept m n b s p = (
+  (p.0.0, (p.0.1.0, ap (λ (xs : List (Option Extent)). get_or xs b None) s.places ∙ p.0.1.1)),
+  s.page_sizes b ∙ p.1,
+)
 
 pub writes_keep : WritesKeepConsistency
 writes_keep x m s l = record {
@@ -191,7 +243,8 @@ none_saved zero k = tt
 none_saved (suc n) zero = tt
 none_saved (suc n) (suc k) = none_saved n k
 
-first_saved : (n k : ℕ) → let none : Option Handle = None in SavesPages [] (get_or (Some blank ∷ replicate n none) k none)
+first_saved : (n k : ℕ) → let none : Option Handle = None in SavesPages [] (get_or (Some blank
+    ∷ replicate n none) k none)
 first_saved n zero = tt
 first_saved n (suc k) = none_saved n k
 

@@ -9,12 +9,15 @@ or_more : (a b c : Bool) → (a || (b || c)) ≡ ((a || b) || c)
 or_more true b c = refl
 or_more false b c = refl
 
-pub any_other : (name : List ℕ) (xs : List (Option Handle)) (i : ℕ) → i < length xs → list_any (has_name name) (set xs i None) ≡ (list_any (has_name name) (take i xs) || list_any (has_name name) (drop (i + 1) xs))
+pub any_other : (name : List ℕ) (xs : List (Option Handle)) (i : ℕ) → i < length xs →
+    list_any (has_name name) (set xs i None) ≡ (list_any (has_name name) (take i xs) ||
+    list_any (has_name name) (drop (i + 1) xs))
 any_other name [] i h = absurd (omega arith)
 any_other name (x ∷ xs) zero h = refl
 any_other name (x ∷ xs) (suc i) h =
     let e : suc i + 1 ≡ suc (i + 1) = omega arith in
-    rw (any_other name xs i (omega arith), e) (or_more (has_name name x) (list_any (has_name name) (take i xs)) (list_any (has_name name) (drop (i + 1) xs)))
+    rw (any_other name xs i (omega arith), e) (or_more (has_name name x) (list_any (has_name name) (take i xs))
+    (list_any (has_name name) (drop (i + 1) xs)))
 
 pub found_below : (a b s : Bool) → s ≡ a → s ≡ true → s ≡ (a || b)
 found_below true b s e t = e

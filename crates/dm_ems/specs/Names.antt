@@ -60,7 +60,8 @@ has_name name (Some s) = pointwise nat_eq s.name name
 
 -- a handle in use other than this one has the name; false for eight zeros
 unfoldable pub is_name_of_other : Tables → ℕ → List ℕ → Bool
-is_name_of_other ems handle name = if is_no_name name then false else list_any (has_name name) (slice_set ems.handles handle None)
+is_name_of_other ems handle name = if is_no_name name then false else
+    list_any (has_name name) (slice_set ems.handles handle None)
 
 -- 53h, AL = 0: the eight bytes of a handle's name are written at segment:offset; the tables stay. An error where the
 -- handle is not in use

@@ -54,14 +54,23 @@ page_count ems handle = count_by (is_of handle) ems.pages
 -- 42h: the number of pages that can still be allocated: those that fit the gaps of the pool, but not more than are
 -- left of the total
 abbrev pub unallocated : Expanded → ℕ
-unallocated x = min (count_fitting 16 (gaps x.memory.blocks.places x.memory.blocks.units)) (x.ems.total - length x.ems.pages)
+unallocated x = min (count_fitting 16 (gaps x.memory.blocks.places x.memory.blocks.units))
+    (x.ems.total - length x.ems.pages)
 
 -- ---- adding a page
 
 -- a new block of the pool becomes the last page of a handle; without a block nothing changes
 abbrev pub with_page : Expanded → ℕ → Option (ℕ × Blocks) → Expanded
 with_page x handle None = x
-with_page x handle (Some p) = record { ems = record x.ems { pages = x.ems.pages ++ record { handle = handle; block = p.0 } ∷ [] }; memory = with_blocks x.memory p.1 }
+with_page x handle (Some p) = record {
+  ems = record x.ems {
+    pages = x.ems.pages ++ record {
+      handle = handle;
+      block = p.0;
+    } ∷ [];
+  };
+  memory = with_blocks x.memory p.1;
+}
 
 -- a page of zeros is added after those of a handle, in the lowest gap of the pool that holds it; without such a gap, or
 -- a number of the pool that is left, nothing changes

@@ -16,7 +16,8 @@ impl Ems {
     /// 58h, AL = 0: writes the segment and the number of each window, 16 bytes, at segment:offset. The scratch part
     /// stays.
     pub fn list_frame(&self, space: &mut Space, segment: u16, offset: u16)
-        ensures left { expanded self.now space.new.memory ≡ list_frame (expanded self.now space.old.memory) segment offset }
+        ensures left { expanded self.now space.new.memory ≡ list_frame (expanded self.now
+            space.old.memory) segment offset }
         ensures kept { space.new ≡ record space.old { memory = space.new.memory } }
     {
         space.write_bytes(segment, offset, &FRAME);

@@ -27,7 +27,8 @@ impl Ems {
     #[tactic(auto, unfolding(crate::specs::Handles::allocate))]
     pub fn allocate(&mut self, space: &mut Space, pages: u16) -> Result<u16, Status>
         ensures answer { result ≡ result_of (allocate (expanded self.old space.old.memory) pages) }
-        ensures left { expanded self.new space.new.memory ≡ state_after (expanded self.old space.old.memory) (allocate (expanded self.old space.old.memory) pages) }
+        ensures left { expanded self.new space.new.memory ≡ state_after (expanded self.old space.old.memory) (allocate
+            (expanded self.old space.old.memory) pages) }
         ensures kept { space.new ≡ record space.old { memory = space.new.memory } }
     {
         if pages == 0 {
@@ -59,7 +60,8 @@ impl Ems {
     pub fn deallocate(&mut self, space: &mut Space, handle: u16) -> Result<(), Status>
         requires { IsConsistent (expanded self.old space.old.memory) }
         ensures answer { result ≡ result_of (deallocate (expanded self.old space.old.memory) handle) }
-        ensures left { expanded self.new space.new.memory ≡ state_after (expanded self.old space.old.memory) (deallocate (expanded self.old space.old.memory) handle) }
+        ensures left { expanded self.new space.new.memory ≡ state_after (expanded self.old space.old.memory) (deallocate
+            (expanded self.old space.old.memory) handle) }
         ensures kept { space.new ≡ record space.old { memory = space.new.memory } }
     {
         let Some(slot) = self.slot(handle) else {

@@ -35,7 +35,8 @@ impl Ems {
     ) -> Result<(), Status>
         requires { IsConsistent (expanded self.now space.old.memory) }
         ensures answer { result ≡ result_of (map_page (expanded self.now space.old.memory) window page handle) }
-        ensures left { expanded self.now space.new.memory ≡ state_after (expanded self.now space.old.memory) (map_page (expanded self.now space.old.memory) window page handle) }
+        ensures left { expanded self.now space.new.memory ≡ state_after (expanded self.now space.old.memory) (map_page
+            (expanded self.now space.old.memory) window page handle) }
         ensures kept { space.new ≡ record space.old { memory = space.new.memory } }
     {
         if self.slot(handle).is_none() {
@@ -65,7 +66,8 @@ impl Ems {
     #[tactic(auto, unfolding(crate::specs::Maps::save_map))]
     pub fn save_map(&mut self, space: &Space, handle: u16) -> Result<(), Status>
         ensures answer { result ≡ result_of (save_map (expanded self.old space.now.memory) handle) }
-        ensures left { expanded self.new space.now.memory ≡ state_after (expanded self.old space.now.memory) (save_map (expanded self.old space.now.memory) handle) }
+        ensures left { expanded self.new space.now.memory ≡ state_after (expanded self.old space.now.memory) (save_map
+            (expanded self.old space.now.memory) handle) }
     {
         let Some(slot) = self.slot(handle) else {
             return Err(Status::UnknownHandle);
@@ -94,7 +96,8 @@ impl Ems {
     pub fn restore_map(&mut self, space: &mut Space, handle: u16) -> Result<(), Status>
         requires { IsConsistent (expanded self.old space.old.memory) }
         ensures answer { result ≡ result_of (restore_map (expanded self.old space.old.memory) handle) }
-        ensures left { expanded self.new space.new.memory ≡ state_after (expanded self.old space.old.memory) (restore_map (expanded self.old space.old.memory) handle) }
+        ensures left { expanded self.new space.new.memory ≡ state_after (expanded self.old
+            space.old.memory) (restore_map (expanded self.old space.old.memory) handle) }
         ensures kept { space.new ≡ record space.old { memory = space.new.memory } }
     {
         let Some(slot) = self.slot(handle) else {

@@ -93,7 +93,8 @@ impl Ems {
     /// is not in use has none.
     fn put_pages(&self, entries: &mut Entries, handle: u16)
         requires { array_vec_len entries.old + 4 ≤ 640 }
-        ensures items { entries.new.items ≡ entries.old.items ++ page_entry self.now handle (slice_index_or self.now.handles handle None) }
+        ensures items { entries.new.items ≡ entries.old.items ++ page_entry self.now handle (slice_index_or
+            self.now.handles handle None) }
         ensures few { array_vec_len entries.new ≤ array_vec_len entries.old + 4 }
     {
         if self.slot(handle).is_some() {
@@ -105,7 +106,8 @@ impl Ems {
     /// The entries of all handles in use for the list of 4Dh, in ascending order.
     #[tactic(auto, using(crate::proofs::Turns::in_turn_more))]
     fn page_entries(&self) -> Entries
-        ensures items { result.items ≡ in_turn (λ handle. page_entry self.now handle (slice_index_or self.now.handles handle None)) 64 }
+        ensures items { result.items ≡ in_turn (λ handle. page_entry self.now handle
+            (slice_index_or self.now.handles handle None)) 64 }
     {
         let mut entries = ArrayVec::new();
         for handle in 0..HANDLES as u16 {
@@ -119,7 +121,8 @@ impl Ems {
     #[tactic(auto, unfolding(crate::specs::Names::list_pages))]
     pub fn list_pages(&self, space: &mut Space, segment: u16, offset: u16) -> u16
         ensures answer { result ≡ (list_pages (expanded self.now space.old.memory) segment offset).0 }
-        ensures left { expanded self.now space.new.memory ≡ (list_pages (expanded self.now space.old.memory) segment offset).1 }
+        ensures left { expanded self.now space.new.memory ≡ (list_pages (expanded self.now space.old.memory) segment
+            offset).1 }
         ensures kept { space.new ≡ record space.old { memory = space.new.memory } }
     {
         space.write_bytes(segment, offset, self.page_entries().as_slice());
@@ -130,7 +133,8 @@ impl Ems {
     /// is not in use has none.
     fn put_handle(&self, entries: &mut Entries, handle: u16)
         requires { array_vec_len entries.old + 10 ≤ 640 }
-        ensures items { entries.new.items ≡ entries.old.items ++ name_entry handle (slice_index_or self.now.handles handle None) }
+        ensures items { entries.new.items ≡ entries.old.items ++ name_entry handle (slice_index_or self.now.handles
+            handle None) }
         ensures few { array_vec_len entries.new ≤ array_vec_len entries.old + 10 }
     {
         if let Some(slot) = self.slot(handle) {
@@ -142,7 +146,8 @@ impl Ems {
     /// The entries of all handles in use for the list of 54h, in ascending order.
     #[tactic(auto, using(crate::proofs::Turns::in_turn_more))]
     fn name_entries(&self) -> Entries
-        ensures items { result.items ≡ in_turn (λ handle. name_entry handle (slice_index_or self.now.handles handle None)) 64 }
+        ensures items { result.items ≡ in_turn (λ handle. name_entry handle
+            (slice_index_or self.now.handles handle None)) 64 }
     {
         let mut entries = ArrayVec::new();
         for handle in 0..HANDLES as u16 {
@@ -157,7 +162,8 @@ impl Ems {
     pub fn list_names(&self, space: &mut Space, segment: u16, offset: u16) -> u16
         ensures answer { result ≡ (list_names (expanded self.now space.old.memory) segment offset).0 }
         ensures few { result ≤ 64 }
-        ensures left { expanded self.now space.new.memory ≡ (list_names (expanded self.now space.old.memory) segment offset).1 }
+        ensures left { expanded self.now space.new.memory ≡ (list_names (expanded self.now space.old.memory) segment
+            offset).1 }
         ensures kept { space.new ≡ record space.old { memory = space.new.memory } }
     {
         space.write_bytes(segment, offset, self.name_entries().as_slice());
@@ -190,7 +196,8 @@ impl Ems {
         offset: u16,
     ) -> Result<(), Status>
         ensures answer { result ≡ result_of (get_name (expanded self.now space.old.memory) handle segment offset) }
-        ensures left { expanded self.now space.new.memory ≡ state_after (expanded self.now space.old.memory) (get_name (expanded self.now space.old.memory) handle segment offset) }
+        ensures left { expanded self.now space.new.memory ≡ state_after (expanded self.now space.old.memory) (get_name
+            (expanded self.now space.old.memory) handle segment offset) }
         ensures kept { space.new ≡ record space.old { memory = space.new.memory } }
     {
         let Some(slot) = self.slot(handle) else {
@@ -215,7 +222,8 @@ impl Ems {
         offset: u16,
     ) -> Result<(), Status>
         ensures answer { result ≡ result_of (set_name (expanded self.old space.now.memory) handle segment offset) }
-        ensures left { expanded self.new space.now.memory ≡ state_after (expanded self.old space.now.memory) (set_name (expanded self.old space.now.memory) handle segment offset) }
+        ensures left { expanded self.new space.now.memory ≡ state_after (expanded self.old space.now.memory) (set_name
+            (expanded self.old space.now.memory) handle segment offset) }
     {
         let Some(slot) = self.slot(handle) else {
             return Err(Status::UnknownHandle);

@@ -27,7 +27,10 @@ pub fn set_windows(space: &mut Space, windows: [Option<Block>; 4])
 
 /// Makes each window that shows this block show nothing. Nothing else changes.
 fn unmap(space: &mut Space, block: Block)
-    ensures { space.new ≡ record space.old { memory = with_windows space.old.memory (map (unmapped block) space.old.memory.windows) } }
+    ensures { space.new ≡ record space.old {
+      memory = with_windows space.old.memory (map
+          (unmapped block) space.old.memory.windows);
+    } }
 {
     let windows = unmapped_windows(space.windows(), block);
     set_windows(space, windows);

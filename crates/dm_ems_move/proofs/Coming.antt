@@ -45,7 +45,8 @@ fewer x h n l lt =
     }
 
 -- pages came behind those that there were
-more : (x : Expanded) (h n : ℕ) → IsConsistent x → HasNumbers x → IsUsed x.ems.handles h → page_count x.ems h ≤ n → nat_lt (unallocated x) (n - page_count x.ems h) ≡ false
+more : (x : Expanded) (h n : ℕ) → IsConsistent x → HasNumbers x → IsUsed x.ems.handles h → page_count x.ems h ≤ n →
+    nat_lt (unallocated x) (n - page_count x.ems h) ≡ false
     → HasPages x (appended x h (n - page_count x.ems h)) h n
 more x h n l few u le e =
     let m = n - page_count x.ems h in
@@ -62,7 +63,8 @@ more x h n l few u le e =
       consistency = g.consistency;
     }
 
-counted : (x : Expanded) (h n : ℕ) (b : Bool) → nat_lt n (page_count x.ems h) ≡ b → IsConsistent x → HasNumbers x → IsUsed x.ems.handles h → nat_lt (unallocated x) (n - page_count x.ems h) ≡ false
+counted : (x : Expanded) (h n : ℕ) (b : Bool) → nat_lt n (page_count x.ems h) ≡ b → IsConsistent x → HasNumbers x →
+    IsUsed x.ems.handles h → nat_lt (unallocated x) (n - page_count x.ems h) ≡ false
     → HasPages x (cond b (cut x h n) (appended x h (n - page_count x.ems h))) h n
 counted x h n true e l few u f = fewer x h n l (less n (page_count x.ems h) e)
 counted x h n false e l few u f = more x h n l few u (not_less n (page_count x.ems h) e) f
@@ -71,14 +73,16 @@ counted x h n false e l few u f = more x h n l few u (not_less n (page_count x.e
 abbrev Has : Expanded → ℕ → ℕ → Result (Reallocated × Expanded) Status → Type 0
 Has x h n s = (y : Expanded) (r : Reallocated) → s ≡ Ok (r, y) → r.refused ≡ None → HasPages x y h n
 
-if_has : (x : Expanded) (h n : ℕ) (b : Bool) (r s : Result (Reallocated × Expanded) Status) → Has x h n r → (b ≡ false → Has x h n s) → Has x h n (cond b r s)
+if_has : (x : Expanded) (h n : ℕ) (b : Bool) (r s : Result (Reallocated × Expanded) Status) → Has x h n r →
+    (b ≡ false → Has x h n s) → Has x h n (cond b r s)
 if_has x h n true r s p q = p
 if_has x h n false r s p q = q refl
 
 err_has : (x : Expanded) (h n : ℕ) (e : Status) → Has x h n (Err e)
 err_has x h n e y r is none = cc
 
-need_has : (x : Expanded) (h n : ℕ) (o : Option Handle) (e : Status) (f : Handle → Result (Reallocated × Expanded) Status) → ((v : Handle) → o ≡ Some v → Has x h n (f v)) → Has x h n (need o e f)
+need_has : (x : Expanded) (h n : ℕ) (o : Option Handle) (e : Status) (f : Handle →
+    Result (Reallocated × Expanded) Status) → ((v : Handle) → o ≡ Some v → Has x h n (f v)) → Has x h n (need o e f)
 need_has x h n None e f p = err_has x h n e
 need_has x h n (Some v) e f p = p v refl
 
@@ -89,12 +93,19 @@ refused_has x h n count e y r is none =
     cc
 
 made_has : (x z : Expanded) (h n : ℕ) → HasPages x z h n → Has x h n (Ok (reallocated n None, z))
-made_has x z h n p y r is none = let same : (reallocated n None, z) ≡ (r, y) = cc in subst (λ (w : Reallocated × Expanded). HasPages x w.1 h n) same p
+made_has x z h n p y r is none = let same : (reallocated n None, z) ≡ (r, y) =
+    cc in subst (λ (w : Reallocated × Expanded). HasPages x w.1 h n) same p
 
 pub pages_come : PagesCome
 unfolding reallocate
 pages_come x y h n r l few =
     need_has x h n (slot x h) UnknownHandle _
-    (λ s e. if_has x h n (nat_lt x.ems.total n) (Ok (reallocated (page_count x.ems h) (Some OverTotal), x)) _ (refused_has x h n (page_count x.ems h) OverTotal)
-    (λ _. if_has x h n (nat_lt (unallocated x) (n - page_count x.ems h)) (Ok (reallocated (page_count x.ems h) (Some OverFree), x)) (Ok (reallocated n None, with_count x h n)) (refused_has x h n (page_count x.ems h) OverFree)
-    (λ f. made_has x (with_count x h n) h n (counted x h n (nat_lt n (page_count x.ems h)) refl l few (ap is_some e) f)))) y r
+    (λ s e. if_has x h n (nat_lt x.ems.total n) (Ok (
+      reallocated (page_count x.ems h) (Some OverTotal),
+      x,
+    )) _ (refused_has x h n (page_count x.ems h) OverTotal)
+    (λ _. if_has x h n (nat_lt (unallocated x) (n - page_count x.ems h))
+    (Ok (reallocated (page_count x.ems h) (Some OverFree), x)) (Ok (reallocated n None, with_count x h n))
+    (refused_has x h n (page_count x.ems h) OverFree)
+    (λ f. made_has x (with_count x h n) h n (counted x h n (nat_lt n (page_count x.ems h)) refl l few
+    (ap is_some e) f)))) y r

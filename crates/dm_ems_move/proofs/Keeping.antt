@@ -22,7 +22,8 @@ use Rattle.dm_ems_move.specs.RegionMoves.{length_at, regions_of, are_mixed, move
 use Rattle.dm_ems_move.specs.inner.Laws.{MovesKeepConsistency}
 use Rattle.dm_ems_move.proofs.Shown.{after_shown, map_shown, written_consistent}
 
-then_keeps : {A B : Type 0} (x : Expanded) (r : Result A Status) (f : A → Result (B × Expanded) Status) → IsConsistent x → ((v : A) → r ≡ Ok v → Keeps x (f v)) → Keeps x (and_then r f)
+then_keeps : {A B : Type 0} (x : Expanded) (r : Result A Status) (f : A → Result (B × Expanded) Status) →
+    IsConsistent x → ((v : A) → r ≡ Ok v → Keeps x (f v)) → Keeps x (and_then r f)
 then_keeps x (Ok v) f l h = h v refl
 then_keeps x (Err e) f l h = refused x e l
 
@@ -32,16 +33,23 @@ if_consistent : (b : Bool) (y z : Expanded) → IsConsistent y → IsConsistent 
 if_consistent true y z p q = p
 if_consistent false y z p q = q
 
-count_consistent : (x : Expanded) (h n : ℕ) → IsUsed x.ems.handles h → length x.ems.pages + (n - page_count x.ems h) ≤ x.ems.total → IsConsistent x → IsConsistent (with_count x h n)
+count_consistent : (x : Expanded) (h n : ℕ) → IsUsed x.ems.handles h → length x.ems.pages + (n - page_count x.ems h)
+    ≤ x.ems.total → IsConsistent x → IsConsistent (with_count x h n)
 count_consistent x h n u room l =
-    if_consistent (nat_lt n (page_count x.ems h)) (cut x h n) (appended x h (n - page_count x.ems h)) (consistent_cut x h n l) (consistent_appended x h (n - page_count x.ems h) u room l)
+    if_consistent (nat_lt n (page_count x.ems h)) (cut x h n) (appended x h (n - page_count x.ems h))
+    (consistent_cut x h n l) (consistent_appended x h (n - page_count x.ems h) u room l)
 
 reallocate_keeps : (x : Expanded) (h n : ℕ) → IsConsistent x → Keeps x (reallocate x h n)
 unfolding reallocate
 reallocate_keeps x h n l =
     need_keeps x (slot x h) UnknownHandle _ l (λ s e.
-    if_keeps x (nat_lt x.ems.total n) (Ok (reallocated (page_count x.ems h) (Some OverTotal), x)) _ (record { kept = l })
-    (else_keeps x (nat_lt (unallocated x) (n - page_count x.ems h)) (Ok (reallocated (page_count x.ems h) (Some OverFree), x)) (Ok (reallocated n None, with_count x h n)) (record { kept = l })
+    if_keeps x (nat_lt x.ems.total n) (Ok (
+      reallocated (page_count x.ems h) (Some OverTotal),
+      x,
+    )) _ (record { kept = l })
+    (else_keeps x (nat_lt (unallocated x) (n - page_count x.ems h))
+    (Ok (reallocated (page_count x.ems h) (Some OverFree), x)) (Ok (reallocated n None, with_count x h n))
+    (record { kept = l })
     (λ f. record { kept = count_consistent x h n (ap is_some e) (has_room x (n - page_count x.ems h) l f) l })))
 
 -- ---- windows
@@ -60,29 +68,34 @@ map_keeps x mode ts to fs fo l =
     let written = written_consistent x ts to (map_entries x.ems.pages x.memory.windows) l in
     if_keeps x (mode == 0) (Ok (None, with_map x ts to)) _ (record { kept = written })
     (if_keeps x (mode == 1) _ _
-    (need_keeps x (map_at x.ems x.memory fs fo) BadMap _ l (λ ws is. record { kept = with_shown x ws l (map_shown x.ems x.memory fs fo ws is) }))
+    (need_keeps x (map_at x.ems x.memory fs fo) BadMap _ l
+    (λ ws is. record { kept = with_shown x ws l (map_shown x.ems x.memory fs fo ws is) }))
     (if_keeps x (mode == 2) _ _
-    (need_keeps x (map_at x.ems x.memory fs fo) BadMap _ l (λ ws is. record { kept = with_shown (with_map x ts to) ws written (map_shown x.ems x.memory fs fo ws is) }))
+    (need_keeps x (map_at x.ems x.memory fs fo) BadMap _ l
+    (λ ws is. record { kept = with_shown (with_map x ts to) ws written (map_shown x.ems x.memory fs fo ws is) }))
     (if_keeps x (mode == 3) (Ok (Some 16, x)) (Err NoSubfunction) (record { kept = l }) (refused x NoSubfunction l))))
 
 -- ---- regions
 
 -- a memory of the same map
-shaped_keeps : {A : Type 0} (x : Expanded) (v : A) (m : Memory) → IsShaped x.memory m → IsConsistent x → Keeps x (Ok (v, with_memory x m))
+shaped_keeps : {A : Type 0} (x : Expanded) (v : A) (m : Memory) → IsShaped x.memory m → IsConsistent x →
+    Keeps x (Ok (v, with_memory x m))
 shaped_keeps x v m s l = record { kept = writes_keep x m s l }
 
 move_keeps : (x : Expanded) (n : ℕ) (from to : Span) → IsConsistent x → Keeps x (move_between x n from to)
 unfolding move_between
 move_keeps x n from to l =
     if_keeps x (overlap x.memory from to n) _ _
-    (if_keeps x (are_mixed from to) (Err KindsOverlap) _ (refused x KindsOverlap l) (shaped_keeps x Overlapping _ (moves_keep_map.moving x.memory from to n) l))
+    (if_keeps x (are_mixed from to) (Err KindsOverlap) _ (refused x KindsOverlap l)
+    (shaped_keeps x Overlapping _ (moves_keep_map.moving x.memory from to n) l))
     (shaped_keeps x Apart _ (moves_keep_map.moving x.memory from to n) l)
 
 exchange_keeps : (x : Expanded) (n : ℕ) (from to : Span) → IsConsistent x → Keeps x (exchange_between x n from to)
 unfolding exchange_between
 exchange_keeps x n from to l =
     if_keeps x (overlap x.memory from to n) _ _
-    (if_keeps x (are_mixed from to) (Err KindsOverlap) (Err ExchangeOverlaps) (refused x KindsOverlap l) (refused x ExchangeOverlaps l))
+    (if_keeps x (are_mixed from to) (Err KindsOverlap) (Err ExchangeOverlaps) (refused x KindsOverlap l)
+    (refused x ExchangeOverlaps l))
     (shaped_keeps x tt _ (moves_keep_map.exchanging x.memory from to n) l)
 
 move_region_keeps : (x : Expanded) (s o : ℕ) → IsConsistent x → Keeps x (move_region x s o)

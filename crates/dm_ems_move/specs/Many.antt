@@ -12,7 +12,8 @@ use Rattle.dm_ems_move.specs.Steps.{and_then}
 -- the window, 0 to 3, that a value names: by its segment (true), E000h, E400h, E800h or EC00h, or by its number
 -- (false); None if there is no such window
 abbrev pub window_of : Bool → ℕ → Option ℕ
-window_of true value = if nat_le 0xE000 value && nat_lt value 0xF000 && (value % 0x400 == 0) then Some ((value - 0xE000) / 0x400) else None
+window_of true value = if nat_le 0xE000 value && nat_lt value 0xF000 && (value % 0x400 == 0) then
+    Some ((value - 0xE000) / 0x400) else None
 window_of false value = if nat_lt value 4 then Some value else None
 
 -- what the four windows show after one pair of the call: the window that `value` names shows logical page `page` of

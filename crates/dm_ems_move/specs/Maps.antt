@@ -33,11 +33,13 @@ when (Some v) f = f v
 abbrev pub meant : Tables → ℕ → ℕ → Option (Option ℕ)
 meant ems handle page =
     if (handle == 0xFFFF) && (page == 0xFFFF) then Some None else
-    when (slice_index_or ems.handles handle None) (λ s. when (slice_get (blocks_of ems handle) page) (λ block. Some (Some block)))
+    when (slice_index_or ems.handles handle None) (λ s. when (slice_get (blocks_of ems handle) page)
+    (λ block. Some (Some block)))
 
 -- what window k (0 to 3) is to show by the map at segment:offset, whose offsets wrap
 abbrev pub meant_at : Tables → Memory → ℕ → ℕ → ℕ → Option (Option ℕ)
-meant_at ems m segment offset k = meant ems (word_after m segment offset (4 * k)) (word_after m segment offset (4 * k + 2))
+meant_at ems m segment offset k = meant ems (word_after m segment offset (4 * k))
+    (word_after m segment offset (4 * k + 2))
 
 -- what the four windows are to show by the map at segment:offset; None if an entry is bad
 unfoldable pub map_at : Tables → Memory → ℕ → ℕ → Option (List (Option ℕ))
@@ -65,6 +67,12 @@ with_map x segment offset = writing x segment offset (map_entries x.ems.pages x.
 unfoldable pub whole_map : Expanded → ℕ → ℕ → ℕ → ℕ → ℕ → Result (Option ℕ × Expanded) Status
 whole_map x mode to_segment to_offset from_segment from_offset =
     if mode == 0 then Ok (None, with_map x to_segment to_offset) else
-    if mode == 1 then need (map_at x.ems x.memory from_segment from_offset) BadMap (λ windows. Ok (None, showing_all x windows)) else
-    if mode == 2 then need (map_at x.ems x.memory from_segment from_offset) BadMap (λ windows. Ok (None, showing_all (with_map x to_segment to_offset) windows)) else
+    if mode == 1 then need (map_at x.ems x.memory from_segment from_offset) BadMap (λ windows. Ok (
+      None,
+      showing_all x windows,
+    )) else
+    if mode == 2 then need (map_at x.ems x.memory from_segment from_offset) BadMap (λ windows. Ok (
+      None,
+      showing_all (with_map x to_segment to_offset) windows,
+    )) else
     if mode == 3 then Ok (Some 16, x) else Err NoSubfunction

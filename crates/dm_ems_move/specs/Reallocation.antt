@@ -23,5 +23,6 @@ unfoldable pub reallocate : Expanded → ℕ → ℕ → Result (Reallocated × 
 reallocate x handle n =
     need (slot x handle) UnknownHandle (λ s.
     if nat_lt x.ems.total n then Ok (reallocated (page_count x.ems handle) (Some OverTotal), x) else
-    if nat_lt (unallocated x) (n - page_count x.ems handle) then Ok (reallocated (page_count x.ems handle) (Some OverFree), x) else
+    if nat_lt (unallocated x) (n - page_count x.ems handle) then
+    Ok (reallocated (page_count x.ems handle) (Some OverFree), x) else
     Ok (reallocated n None, with_count x handle n))

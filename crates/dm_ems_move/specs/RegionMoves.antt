@@ -38,7 +38,8 @@ described m segment offset k = record {
 -- the region of n bytes of conventional memory that starts at the described segment:offset; an error if it ends after
 -- FFFFFh
 abbrev pub conventional : Description → ℕ → Result Span Status
-conventional d n = if nat_lt 0x100000 (d.page * 16 + d.offset + n) then Err PastMemory else Ok (span Linear (d.page * 16 + d.offset) [])
+conventional d n = if nat_lt 0x100000 (d.page * 16 + d.offset + n) then Err PastMemory else
+    Ok (span Linear (d.page * 16 + d.offset) [])
 
 -- the region of n bytes of a handle's pages that starts at the described logical page and offset; an error if there
 -- is no such handle or page, if the offset is not within a page, or if the handle's pages end first
@@ -81,7 +82,10 @@ are_mixed from to = if is_linear from.kind then (if is_linear to.kind then false
 unfoldable pub move_between : Expanded → ℕ → Span → Span → Result (Moved × Expanded) Status
 move_between x n from to =
     if overlap x.memory from to n
-    then (if are_mixed from to then Err KindsOverlap else Ok (moved_is.Overlapping, with_memory x (span_moved x.memory from to n)))
+    then (if are_mixed from to then Err KindsOverlap else Ok (
+      moved_is.Overlapping,
+      with_memory x (span_moved x.memory from to n),
+    ))
     else Ok (moved_is.Apart, with_memory x (span_moved x.memory from to n))
 
 -- two regions of n bytes exchange their bytes; an error where they overlap. The tables stay
@@ -97,7 +101,8 @@ unfoldable pub move_region : Expanded → ℕ → ℕ → Result (Moved × Expan
 move_region x segment offset =
     if length_at x.memory segment offset == 0 then Ok (moved_is.Apart, x) else
     if nat_lt 0x100000 (length_at x.memory segment offset) then Err TooLong else
-    and_then (regions_of x segment offset (length_at x.memory segment offset)) (λ r. move_between x (length_at x.memory segment offset) r.0 r.1)
+    and_then (regions_of x segment offset (length_at x.memory segment offset))
+    (λ r. move_between x (length_at x.memory segment offset) r.0 r.1)
 
 -- 57h, AL = 1: the regions that the structure at segment:offset describes exchange their bytes; an error where they
 -- overlap. For 0 bytes nothing changes, whatever else the structure says; over 1 MiB is an error
@@ -105,7 +110,8 @@ unfoldable pub exchange_region : Expanded → ℕ → ℕ → Result (Unit {0} �
 exchange_region x segment offset =
     if length_at x.memory segment offset == 0 then Ok (tt, x) else
     if nat_lt 0x100000 (length_at x.memory segment offset) then Err TooLong else
-    and_then (regions_of x segment offset (length_at x.memory segment offset)) (λ r. exchange_between x (length_at x.memory segment offset) r.0 r.1)
+    and_then (regions_of x segment offset (length_at x.memory segment offset)) (λ r. exchange_between x
+    (length_at x.memory segment offset) r.0 r.1)
 
 -- the status byte in AH after a move: 0, or 92h where the regions overlap
 abbrev pub moved_code : Moved → ℕ

@@ -104,8 +104,10 @@ pub fn map_many(
     offset: u16,
 ) -> Result<(), Status>
     requires { IsConsistent (expanded ems.now space.old.memory) }
-    ensures answer { result ≡ result_of (map_many (expanded ems.now space.old.memory) mode handle count segment offset) }
-    ensures left { expanded ems.now space.new.memory ≡ state_after (expanded ems.now space.old.memory) (map_many (expanded ems.now space.old.memory) mode handle count segment offset) }
+    ensures answer { result ≡ result_of (map_many (expanded ems.now space.old.memory) mode handle count segment
+        offset) }
+    ensures left { expanded ems.now space.new.memory ≡ state_after (expanded ems.now space.old.memory) (map_many
+        (expanded ems.now space.old.memory) mode handle count segment offset) }
     ensures kept { space.new ≡ record space.old { memory = space.new.memory } }
 {
     if mode > 1 {

@@ -129,7 +129,10 @@ fn map_at(ems: &Ems, space: &Space, segment: u16, offset: u16) -> Option<[Option
 
 /// Writes the map of what the windows show, 16 bytes, at segment:offset. The windows and the scratch part stay.
 fn write_map(ems: &Ems, space: &mut Space, segment: u16, offset: u16)
-    ensures { space.new ≡ record space.old { memory = with_bytes space.old.memory segment offset (map_entries ems.now.pages space.old.memory.windows) } }
+    ensures { space.new ≡ record space.old {
+      memory = with_bytes space.old.memory segment offset (map_entries
+          ems.now.pages space.old.memory.windows);
+    } }
 {
     let bytes = map_entries(ems.pages(), space.windows());
     space.write_bytes(segment, offset, bytes.as_slice());
@@ -156,8 +159,10 @@ pub fn whole_map(
     from_offset: u16,
 ) -> Result<Option<u8>, Status>
     requires { IsConsistent (expanded ems.now space.old.memory) }
-    ensures answer { result ≡ result_of (whole_map (expanded ems.now space.old.memory) mode to_segment to_offset from_segment from_offset) }
-    ensures left { expanded ems.now space.new.memory ≡ state_after (expanded ems.now space.old.memory) (whole_map (expanded ems.now space.old.memory) mode to_segment to_offset from_segment from_offset) }
+    ensures answer { result ≡ result_of (whole_map (expanded ems.now space.old.memory) mode to_segment to_offset
+        from_segment from_offset) }
+    ensures left { expanded ems.now space.new.memory ≡ state_after (expanded ems.now space.old.memory) (whole_map
+        (expanded ems.now space.old.memory) mode to_segment to_offset from_segment from_offset) }
     ensures kept { space.new ≡ record space.old { memory = space.new.memory } }
 {
     if mode == 0 {

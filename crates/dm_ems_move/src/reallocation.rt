@@ -57,7 +57,8 @@ pub fn reallocate(
 ) -> Result<Reallocated, Status>
     requires { IsConsistent (expanded ems.old space.old.memory) }
     ensures answer { result ≡ result_of (reallocate (expanded ems.old space.old.memory) handle count) }
-    ensures left { expanded ems.new space.new.memory ≡ state_after (expanded ems.old space.old.memory) (reallocate (expanded ems.old space.old.memory) handle count) }
+    ensures left { expanded ems.new space.new.memory ≡ state_after (expanded ems.old space.old.memory) (reallocate
+        (expanded ems.old space.old.memory) handle count) }
     ensures kept { space.new ≡ record space.old { memory = space.new.memory } }
 {
     if ems.slot(handle).is_none() {

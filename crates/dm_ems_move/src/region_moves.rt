@@ -205,7 +205,8 @@ fn move_between(
     requires from { IsInside space.old.memory from.now len }
     requires to { IsInside space.old.memory to.now len }
     ensures answer { result ≡ result_of (move_between (expanded ems.now space.old.memory) len from.now to.now) }
-    ensures left { expanded ems.now space.new.memory ≡ state_after (expanded ems.now space.old.memory) (move_between (expanded ems.now space.old.memory) len from.now to.now) }
+    ensures left { expanded ems.now space.new.memory ≡ state_after (expanded ems.now space.old.memory) (move_between
+        (expanded ems.now space.old.memory) len from.now to.now) }
     ensures refused { OnErr result (space.new ≡ space.old) }
 {
     if !overlap(space, from, to, len) {
@@ -233,7 +234,8 @@ fn exchange_between(
     requires from { IsInside space.old.memory from.now len }
     requires to { IsInside space.old.memory to.now len }
     ensures answer { result ≡ result_of (exchange_between (expanded ems.now space.old.memory) len from.now to.now) }
-    ensures left { expanded ems.now space.new.memory ≡ state_after (expanded ems.now space.old.memory) (exchange_between (expanded ems.now space.old.memory) len from.now to.now) }
+    ensures left { expanded ems.now space.new.memory ≡ state_after (expanded ems.now space.old.memory) (exchange_between
+        (expanded ems.now space.old.memory) len from.now to.now) }
     ensures refused { OnErr result (space.new ≡ space.old) }
 {
     if !overlap(space, from, to, len) {
@@ -265,7 +267,8 @@ fn exchange_between(
 pub fn move_region(ems: &Ems, space: &mut Space, segment: u16, offset: u16) -> Result<Moved, Status>
     requires { IsConsistent (expanded ems.now space.old.memory) }
     ensures answer { result ≡ result_of (move_region (expanded ems.now space.old.memory) segment offset) }
-    ensures left { expanded ems.now space.new.memory ≡ state_after (expanded ems.now space.old.memory) (move_region (expanded ems.now space.old.memory) segment offset) }
+    ensures left { expanded ems.now space.new.memory ≡ state_after (expanded ems.now space.old.memory) (move_region
+        (expanded ems.now space.old.memory) segment offset) }
     ensures refused { OnErr result (space.new ≡ space.old) }
     ensures none { length_at space.old.memory segment offset ≡ 0 → space.new ≡ space.old }
 {
@@ -313,7 +316,8 @@ pub fn exchange_region(
 ) -> Result<(), Status>
     requires { IsConsistent (expanded ems.now space.old.memory) }
     ensures answer { result ≡ result_of (exchange_region (expanded ems.now space.old.memory) segment offset) }
-    ensures left { expanded ems.now space.new.memory ≡ state_after (expanded ems.now space.old.memory) (exchange_region (expanded ems.now space.old.memory) segment offset) }
+    ensures left { expanded ems.now space.new.memory ≡ state_after (expanded ems.now space.old.memory) (exchange_region
+        (expanded ems.now space.old.memory) segment offset) }
     ensures refused { OnErr result (space.new ≡ space.old) }
     ensures none { length_at space.old.memory segment offset ≡ 0 → space.new ≡ space.old }
 {

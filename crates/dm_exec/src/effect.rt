@@ -25,7 +25,9 @@ pub enum Next {
 /// value need be kept over the call.
 #[inline(never)]
 fn perform(cpu: &mut Registers, space: &mut Space, ins: &Ins, start: u16)
-    ensures { guest cpu.new space.new.memory ≡ operation_effect (guest cpu.old space.old.memory) ins.now.prefixes start (operation_of ins.now.action.mnemonic) ins.now.action.first ins.now.action.second }
+    ensures { guest cpu.new space.new.memory ≡ operation_effect (guest cpu.old
+        space.old.memory) ins.now.prefixes start (operation_of ins.now.action.mnemonic) ins.now.action.first
+        ins.now.action.second }
 {
     match operation_of(ins.action.mnemonic) {
         Operation::Move(operation) => moves::execute_move(cpu, space, ins, operation),
@@ -54,7 +56,9 @@ fn perform(cpu: &mut Registers, space: &mut Space, ins: &Ins, start: u16)
 /// instruction says, IP included; HLT sets IP back to `start`.
 #[inline(always)]
 pub fn execute(cpu: &mut Registers, space: &mut Space, ins: &Ins, start: u16)
-    ensures { guest cpu.new space.new.memory ≡ operation_effect (guest cpu.old space.old.memory) ins.now.prefixes start (operation_of ins.now.action.mnemonic) ins.now.action.first ins.now.action.second }
+    ensures { guest cpu.new space.new.memory ≡ operation_effect (guest cpu.old
+        space.old.memory) ins.now.prefixes start (operation_of ins.now.action.mnemonic) ins.now.action.first
+        ins.now.action.second }
 {
     perform(cpu, space, ins, start);
 }

@@ -22,21 +22,29 @@ most_counted = 2 ^ 64 - 1
 count-more : (p : Found → Bool) (fs : List Found) (f : Found) → count_by p (fs ++ f ∷ []) ≡ count_by p fs + one_if (p f)
 count-more p fs f = sum_by-append (λ x. one_if (p x)) fs (f ∷ []) ∙ ap (λ (n : ℕ). count_by p fs + n) (omega arith)
 
-counted-more : (p : Found → Bool) (fs : List Found) (f : Found) → p f ≡ true → min (bounded_count p fs + 1) most_counted ≡ bounded_count p (fs ++ f ∷ [])
+counted-more : (p : Found → Bool) (fs : List Found) (f : Found) → p f ≡ true → min (bounded_count p fs + 1) most_counted
+    ≡ bounded_count p (fs ++ f ∷ [])
 counted-more p fs f is = let k = count-more p fs f ∙ ap (λ (b : Bool). count_by p fs + one_if b) is in omega (arith, k)
 
-counted-same : (p : Found → Bool) (fs : List Found) (f : Found) → p f ≡ false → bounded_count p fs ≡ bounded_count p (fs ++ f ∷ [])
+counted-same : (p : Found → Bool) (fs : List Found) (f : Found) → p f ≡ false → bounded_count p fs ≡ bounded_count p (fs
+    ++ f ∷ [])
 counted-same p fs f is = let k = count-more p fs f ∙ ap (λ (b : Bool). count_by p fs + one_if b) is in omega (arith, k)
 
 -- ---- one line
 
-last-more : (p : Found → Bool) (fs : List Found) (step : ℕ) (f : Found) → last_step step p (fs ++ f ∷ []) ≡ (if p f then f.step else last_step step p fs)
+last-more : (p : Found → Bool) (fs : List Found) (step : ℕ) (f : Found) → last_step step p (fs ++ f ∷ []) ≡ (if p f then
+    f.step else last_step step p fs)
 last-more p [] step f = refl
 last-more p (g ∷ fs) step f = last-more p fs (if p g then g.step else step) f
 
-line-by : (g f : Found) (fs : List Found) (b : Bool) → is_repeated g f ≡ b → line_of g (fs ++ f ∷ []) ≡ (if b then one_more f (line_of g fs) else line_of g fs)
-line-by g f fs true is = ap₂ (λ (m l : ℕ). record { found = g; more = m; last = l }) (sym (counted-more (is_repeated g) fs f is)) (last-more (is_repeated g) fs g.step f ∙ ap (λ (b : Bool). if b then f.step else last_step g.step (is_repeated g) fs) is)
-line-by g f fs false is = ap₂ (λ (m l : ℕ). record { found = g; more = m; last = l }) (sym (counted-same (is_repeated g) fs f is)) (last-more (is_repeated g) fs g.step f ∙ ap (λ (b : Bool). if b then f.step else last_step g.step (is_repeated g) fs) is)
+line-by : (g f : Found) (fs : List Found) (b : Bool) → is_repeated g f ≡ b → line_of g (fs ++ f ∷ []) ≡ (if b then
+    one_more f (line_of g fs) else line_of g fs)
+line-by g f fs true is = ap₂ (λ (m l : ℕ). record { found = g; more = m; last = l })
+    (sym (counted-more (is_repeated g) fs f is)) (last-more (is_repeated g) fs g.step f
+    ∙ ap (λ (b : Bool). if b then f.step else last_step g.step (is_repeated g) fs) is)
+line-by g f fs false is = ap₂ (λ (m l : ℕ). record { found = g; more = m; last = l })
+    (sym (counted-same (is_repeated g) fs f is)) (last-more (is_repeated g) fs g.step f
+    ∙ ap (λ (b : Bool). if b then f.step else last_step g.step (is_repeated g) fs) is)
 
 line-more : (g f : Found) (fs : List Found) → line_of g (fs ++ f ∷ []) ≡ counted f (line_of g fs)
 line-more g f fs = line-by g f fs (is_repeated g f) refl
@@ -50,40 +58,58 @@ with_line seen ls f = map (counted f) ls ++ (if is_listed (seen ++ map found_of 
 lines-none : (seen : List Found) (f : Found) → lines_from seen (f ∷ []) ≡ with_line seen [] f
 lines-none seen f = ap (λ (s : List Found). if is_listed s f then line_of f [] ∷ [] else []) (sym (append-nil seen))
 
-lines-front : (seen : List Found) (g f : Found) (fs : List Found) (ls : List Listed) → with_line (seen ++ g ∷ []) ls f ≡ map (counted f) ls ++ (if is_listed (seen ++ map found_of (line_of g fs ∷ ls)) f then line_of f [] ∷ [] else [])
-lines-front seen g f fs ls = ap (λ (s : List Found). map (counted f) ls ++ (if is_listed s f then line_of f [] ∷ [] else [])) (append_assoc seen (g ∷ []) (map found_of ls))
+lines-front : (seen : List Found) (g f : Found) (fs : List Found) (ls : List Listed) →
+    with_line (seen ++ g ∷ []) ls f ≡ map (counted f) ls ++ (if is_listed (seen ++ map found_of (line_of g fs ∷ ls)) f
+    then line_of f [] ∷ [] else [])
+lines-front seen g f fs ls = ap (λ (s : List Found). map (counted f) ls ++ (if is_listed s f then line_of f [] ∷ [] else
+    [])) (append_assoc seen (g ∷ []) (map found_of ls))
 
-lines-by : (seen : List Found) (g f : Found) (fs : List Found) (b : Bool) → is_listed seen g ≡ b → (b ≡ true → lines_from (seen ++ g ∷ []) (fs ++ f ∷ []) ≡ with_line (seen ++ g ∷ []) (lines_from (seen ++ g ∷ []) fs) f) → (b ≡ false → lines_from seen (fs ++ f ∷ []) ≡ with_line seen (lines_from seen fs) f) → lines_from seen (g ∷ (fs ++ f ∷ [])) ≡ with_line seen (lines_from seen (g ∷ fs)) f
-lines-by seen g f fs true is h k = rw is (ap₂ (λ (l : Listed) (ls : List Listed). l ∷ ls) (line-more g f fs) (h refl ∙ lines-front seen g f fs (lines_from (seen ++ g ∷ []) fs)))
+lines-by : (seen : List Found) (g f : Found) (fs : List Found) (b : Bool) → is_listed seen g ≡ b →
+    (b ≡ true → lines_from (seen ++ g ∷ []) (fs ++ f ∷ []) ≡ with_line (seen ++ g ∷ []) (lines_from (seen ++ g
+    ∷ []) fs) f) → (b ≡ false → lines_from seen (fs ++ f ∷ []) ≡ with_line seen (lines_from seen fs) f) →
+    lines_from seen (g ∷ (fs ++ f ∷ [])) ≡ with_line seen (lines_from seen (g ∷ fs)) f
+lines-by seen g f fs true is h k = rw is (ap₂ (λ (l : Listed) (ls : List Listed). l ∷ ls) (line-more g f fs) (h refl
+    ∙ lines-front seen g f fs (lines_from (seen ++ g ∷ []) fs)))
 lines-by seen g f fs false is h k = rw is (k refl)
 
 lines-more : (fs seen : List Found) (f : Found) → lines_from seen (fs ++ f ∷ []) ≡ with_line seen (lines_from seen fs) f
 lines-more [] seen f = lines-none seen f
-lines-more (g ∷ fs) seen f = lines-by seen g f fs (is_listed seen g) refl (λ e. lines-more fs (seen ++ g ∷ []) f) (λ e. lines-more fs seen f)
+lines-more (g ∷ fs) seen f = lines-by seen g f fs (is_listed seen g) refl (λ e. lines-more fs (seen ++ g
+    ∷ []) f) (λ e. lines-more fs seen f)
 
 -- ---- those that are left out
 
 abbrev out_more : List Found → Found → ℕ
 out_more seen f = if is_listed seen f then 0 else if repeats seen f then 0 else 1
 
-out-one : (seen : List Found) (f : Found) (b c : Bool) → is_listed seen f ≡ b → repeats seen f ≡ c → left_out seen (f ∷ []) ≡ 0 + out_more seen f
+out-one : (seen : List Found) (f : Found) (b c : Bool) → is_listed seen f ≡ b → repeats seen f ≡ c →
+    left_out seen (f ∷ []) ≡ 0 + out_more seen f
 out-one seen f true c is again = rw is refl
 out-one seen f false true is again = rw (is, again) refl
 out-one seen f false false is again = rw (is, again) refl
 
-out-by : (seen : List Found) (g f : Found) (fs : List Found) (ls : List Listed) (b c : Bool) → is_listed seen g ≡ b → repeats seen g ≡ c
-    → left_out (seen ++ g ∷ []) (fs ++ f ∷ []) ≡ left_out (seen ++ g ∷ []) fs + out_more ((seen ++ g ∷ []) ++ map found_of (lines_from (seen ++ g ∷ []) fs)) f
+out-by : (seen : List Found) (g f : Found) (fs : List Found) (ls : List Listed) (b c : Bool) → is_listed seen g ≡ b →
+    repeats seen g ≡ c
+    → left_out (seen ++ g ∷ []) (fs ++ f ∷ []) ≡ left_out (seen ++ g ∷ []) fs + out_more ((seen ++ g ∷ [])
+    ++ map found_of (lines_from (seen ++ g ∷ []) fs)) f
     → left_out seen (fs ++ f ∷ []) ≡ left_out seen fs + out_more (seen ++ map found_of (lines_from seen fs)) f
-    → left_out seen (g ∷ (fs ++ f ∷ [])) ≡ left_out seen (g ∷ fs) + out_more (seen ++ map found_of (lines_from seen (g ∷ fs))) f
-out-by seen g f fs ls true c is again h k = rw is (h ∙ ap (λ (s : List Found). left_out (seen ++ g ∷ []) fs + out_more s f) (append_assoc seen (g ∷ []) (map found_of (lines_from (seen ++ g ∷ []) fs))))
+    → left_out seen (g ∷ (fs ++ f ∷ [])) ≡ left_out seen (g ∷ fs) + out_more (seen
+    ++ map found_of (lines_from seen (g ∷ fs))) f
+out-by seen g f fs ls true c is again h k = rw is (h ∙ ap (λ (s : List Found). left_out (seen ++ g
+    ∷ []) fs + out_more s f) (append_assoc seen (g ∷ []) (map found_of (lines_from (seen ++ g ∷ []) fs))))
 out-by seen g f fs ls false true is again h k = rw (is, again) k
 out-by seen g f fs ls false false is again h k = rw (is, again) (omega (arith, k))
 
-out-more : (fs seen : List Found) (f : Found) → left_out seen (fs ++ f ∷ []) ≡ left_out seen fs + out_more (seen ++ map found_of (lines_from seen fs)) f
-out-more [] seen f = out-one seen f (is_listed seen f) (repeats seen f) refl refl ∙ ap (λ (s : List Found). 0 + out_more s f) (sym (append-nil seen))
-out-more (g ∷ fs) seen f = out-by seen g f fs (lines_from seen fs) (is_listed seen g) (repeats seen g) refl refl (out-more fs (seen ++ g ∷ []) f) (out-more fs seen f)
+out-more : (fs seen : List Found) (f : Found) → left_out seen (fs ++ f ∷ []) ≡ left_out seen fs + out_more (seen
+    ++ map found_of (lines_from seen fs)) f
+out-more [] seen f = out-one seen f (is_listed seen f) (repeats seen f) refl refl
+    ∙ ap (λ (s : List Found). 0 + out_more s f) (sym (append-nil seen))
+out-more (g ∷ fs) seen f = out-by seen g f fs (lines_from seen fs) (is_listed seen g) (repeats seen g) refl refl
+    (out-more fs (seen ++ g ∷ []) f) (out-more fs seen f)
 
-bounded-out : (seen : List Found) (f : Found) (n : ℕ) (b c : Bool) → is_listed seen f ≡ b → repeats seen f ≡ c → min (n + out_more seen f) most_counted ≡ (if is_listed seen f then min n most_counted else if repeats seen f then min n most_counted else min (min n most_counted + 1) most_counted)
+bounded-out : (seen : List Found) (f : Found) (n : ℕ) (b c : Bool) → is_listed seen f ≡ b → repeats seen f ≡ c →
+    min (n + out_more seen f) most_counted ≡ (if is_listed seen f then min n most_counted else if repeats seen f then
+    min n most_counted else min (min n most_counted + 1) most_counted)
 bounded-out seen f n true c is again = rw is (omega arith)
 bounded-out seen f n false true is again = rw (is, again) (omega arith)
 bounded-out seen f n false false is again = rw (is, again) (omega arith)
@@ -110,7 +136,8 @@ count-front {A} p x xs = sum_by-append (λ y. one_if (p y)) (x ∷ []) xs ∙ ap
 
 count-found : (p : Found → Bool) (ls : List Listed) → count_by p (map found_of ls) ≡ count_by (λ l. p l.found) ls
 count-found p [] = refl
-count-found p (l ∷ ls) = count-front p l.found (map found_of ls) ∙ ap (λ (n : ℕ). one_if (p l.found) + n) (count-found p ls) ∙ sym (count-front (λ (x : Listed). p x.found) l ls)
+count-found p (l ∷ ls) = count-front p l.found (map found_of ls)
+    ∙ ap (λ (n : ℕ). one_if (p l.found) + n) (count-found p ls) ∙ sym (count-front (λ (x : Listed). p x.found) l ls)
 
 -- ---- how a finding is entered
 
@@ -118,43 +145,57 @@ count-found p (l ∷ ls) = count-front p l.found (map found_of ls) ∙ ap (λ (n
 abbrev room_for : List Listed → Found → Bool
 room_for ls f = nat_lt (count_by (is_kind (is_an_error f)) ls) 100
 
-room-by : (ls : List Listed) (f : Found) (b : Bool) → is_an_error f ≡ b → nat_lt (if b then count_by is_an_error (map found_of ls) else count_by is_a_note (map found_of ls)) 100 ≡ nat_lt (count_by (is_kind b) ls) 100
+room-by : (ls : List Listed) (f : Found) (b : Bool) → is_an_error f ≡ b →
+    nat_lt (if b then count_by is_an_error (map found_of ls) else count_by is_a_note (map found_of ls)) 100
+    ≡ nat_lt (count_by (is_kind b) ls) 100
 room-by ls f true e = ap (λ (n : ℕ). nat_lt n 100) (count-found is_an_error ls)
 room-by ls f false e = ap (λ (n : ℕ). nat_lt n 100) (count-found is_a_note ls)
 
-listed-by : (ls : List Listed) (f : Found) (again room : Bool) → list_any (is_again f) ls ≡ again → room_for ls f ≡ room → is_listed (map found_of ls) f ≡ (not again && room)
-listed-by ls f again room e h = ap₂ (λ (a r : Bool). not a && r) (any-found f ls ∙ e) (room-by ls f (is_an_error f) refl ∙ h)
+listed-by : (ls : List Listed) (f : Found) (again room : Bool) → list_any (is_again f) ls ≡ again →
+    room_for ls f ≡ room → is_listed (map found_of ls) f ≡ (not again && room)
+listed-by ls f again room e h = ap₂ (λ (a r : Bool). not a && r) (any-found f ls ∙ e) (room-by ls f (is_an_error f) refl
+    ∙ h)
 
 -- a finding that repeats one that is listed
-pub enters_again : (f : Found) (old new : Reported) → list_any (is_again f) old.listed ≡ true → new.listed ≡ map (counted f) old.listed → new.not_listed ≡ old.not_listed → new.errors ≡ old.errors → new.notes ≡ old.notes → Lists f old new
+pub enters_again : (f : Found) (old new : Reported) → list_any (is_again f) old.listed ≡ true →
+    new.listed ≡ map (counted f) old.listed → new.not_listed ≡ old.not_listed → new.errors ≡ old.errors →
+    new.notes ≡ old.notes → Lists f old new
 enters_again f old new known lines out errors notes =
-    let off : is_listed (map found_of old.listed) f ≡ false = listed-by old.listed f true (room_for old.listed f) known refl in
+    let off : is_listed (map found_of old.listed) f ≡ false =
+    listed-by old.listed f true (room_for old.listed f) known refl in
     let again : repeats (map found_of old.listed) f ≡ true = any-found f old.listed ∙ known in
     record {
-      listed = lines ∙ sym (append-nil _) ∙ ap (λ (b : Bool). map (counted f) old.listed ++ (if b then line_of f [] ∷ [] else [])) (sym off);
+      listed = lines ∙ sym (append-nil _) ∙ ap (λ (b : Bool). map (counted f) old.listed
+          ++ (if b then line_of f [] ∷ [] else [])) (sym off);
       not_listed = out ∙ (rw (off, again) refl);
       errors = errors;
       notes = notes;
     }
 
 -- a finding that is listed
-pub enters_new : (f : Found) (old new : Reported) → list_any (is_again f) old.listed ≡ false → room_for old.listed f ≡ true → new.listed ≡ old.listed ++ line_of f [] ∷ [] → new.not_listed ≡ old.not_listed → new.errors ≡ old.errors → new.notes ≡ old.notes → Lists f old new
+pub enters_new : (f : Found) (old new : Reported) → list_any (is_again f) old.listed ≡ false →
+    room_for old.listed f ≡ true → new.listed ≡ old.listed ++ line_of f [] ∷ [] → new.not_listed ≡ old.not_listed →
+    new.errors ≡ old.errors → new.notes ≡ old.notes → Lists f old new
 enters_new f old new none room lines out errors notes =
     let on : is_listed (map found_of old.listed) f ≡ true = listed-by old.listed f false true none room in
     record {
-      listed = lines ∙ ap₂ (λ (ls : List Listed) (b : Bool). ls ++ (if b then line_of f [] ∷ [] else [])) (sym (none-counted f old.listed none)) (sym on);
+      listed = lines ∙ ap₂ (λ (ls : List Listed) (b : Bool). ls ++ (if b then line_of f [] ∷ [] else
+          [])) (sym (none-counted f old.listed none)) (sym on);
       not_listed = out ∙ (rw on refl);
       errors = errors;
       notes = notes;
     }
 
 -- a finding that is left out
-pub enters_out : (f : Found) (old new : Reported) → list_any (is_again f) old.listed ≡ false → room_for old.listed f ≡ false → new.listed ≡ old.listed → new.not_listed ≡ min (old.not_listed + 1) most_counted → new.errors ≡ old.errors → new.notes ≡ old.notes → Lists f old new
+pub enters_out : (f : Found) (old new : Reported) → list_any (is_again f) old.listed ≡ false →
+    room_for old.listed f ≡ false → new.listed ≡ old.listed → new.not_listed ≡ min (old.not_listed + 1) most_counted →
+    new.errors ≡ old.errors → new.notes ≡ old.notes → Lists f old new
 enters_out f old new none room lines out errors notes =
     let off : is_listed (map found_of old.listed) f ≡ false = listed-by old.listed f false false none room in
     let again : repeats (map found_of old.listed) f ≡ false = any-found f old.listed ∙ none in
     record {
-      listed = lines ∙ sym (append-nil _) ∙ ap₂ (λ (ls : List Listed) (b : Bool). ls ++ (if b then line_of f [] ∷ [] else [])) (sym (none-counted f old.listed none)) (sym off);
+      listed = lines ∙ sym (append-nil _) ∙ ap₂ (λ (ls : List Listed) (b : Bool). ls
+          ++ (if b then line_of f [] ∷ [] else [])) (sym (none-counted f old.listed none)) (sym off);
       not_listed = out ∙ (rw (off, again) refl);
       errors = errors;
       notes = notes;
@@ -162,7 +203,8 @@ enters_out f old new none room lines out errors notes =
 
 -- ---- reports
 
-parts : (r : Reported) (a : List Listed) (b c d : ℕ) → r.listed ≡ a → r.errors ≡ b → r.notes ≡ c → r.not_listed ≡ d → r ≡ record { listed = a; errors = b; notes = c; not_listed = d }
+parts : (r : Reported) (a : List Listed) (b c d : ℕ) → r.listed ≡ a → r.errors ≡ b → r.notes ≡ c → r.not_listed ≡ d →
+    r ≡ record { listed = a; errors = b; notes = c; not_listed = d }
 parts r a b c d e f g h =
     ap (λ (x : List Listed). record { listed = x; errors = r.errors; notes = r.notes; not_listed = r.not_listed }) e
     ∙ ap (λ (x : ℕ). record { listed = a; errors = x; notes = r.notes; not_listed = r.not_listed }) f
@@ -170,10 +212,13 @@ parts r a b c d e f g h =
     ∙ ap (λ (x : ℕ). record { listed = a; errors = b; notes = c; not_listed = x }) h
 
 -- the lines and the findings left out, with one finding more
-lines-of : (f : Found) (fs : List Found) (old new : Reported) → Lists f old new → old.listed ≡ lines_from [] fs → new.listed ≡ lines_from [] (fs ++ f ∷ [])
-lines-of f fs old new x e = x.listed ∙ ap (λ (ls : List Listed). map (counted f) ls ++ new_line ls f) e ∙ sym (lines-more fs [] f)
+lines-of : (f : Found) (fs : List Found) (old new : Reported) → Lists f old new → old.listed ≡ lines_from [] fs →
+    new.listed ≡ lines_from [] (fs ++ f ∷ [])
+lines-of f fs old new x e = x.listed ∙ ap (λ (ls : List Listed). map (counted f) ls ++ new_line ls f) e
+    ∙ sym (lines-more fs [] f)
 
-out-of : (f : Found) (fs : List Found) (old new : Reported) → Lists f old new → old.listed ≡ lines_from [] fs → old.not_listed ≡ min (left_out [] fs) most_counted → new.not_listed ≡ min (left_out [] (fs ++ f ∷ [])) most_counted
+out-of : (f : Found) (fs : List Found) (old new : Reported) → Lists f old new → old.listed ≡ lines_from [] fs →
+    old.not_listed ≡ min (left_out [] fs) most_counted → new.not_listed ≡ min (left_out [] (fs ++ f ∷ [])) most_counted
 out-of f fs old new x e h =
     let seen = map found_of (lines_from [] fs) in
     x.not_listed ∙ ap₂ (λ (ls : List Listed) (n : ℕ). out_with ls f n) e h
@@ -181,7 +226,9 @@ out-of f fs old new x e h =
     ∙ ap (λ (n : ℕ). min n most_counted) (sym (out-more fs [] f))
 
 -- the report with an error more
-pub error-added : (old mid new : Reported) (f : Found) → is_an_error f ≡ true → Lists f old mid → new.listed ≡ mid.listed → new.not_listed ≡ mid.not_listed → new.errors ≡ min (mid.errors + 1) most_counted → new.notes ≡ mid.notes → (fs : List Found) → old ≡ report_of fs → new ≡ report_of (fs ++ f ∷ [])
+pub error-added : (old mid new : Reported) (f : Found) → is_an_error f ≡ true → Lists f old mid →
+    new.listed ≡ mid.listed → new.not_listed ≡ mid.not_listed → new.errors ≡ min (mid.errors + 1) most_counted →
+    new.notes ≡ mid.notes → (fs : List Found) → old ≡ report_of fs → new ≡ report_of (fs ++ f ∷ [])
 unfolding report_of
 error-added old mid new f is x lines out errors notes fs e =
     let k : old.listed ≡ lines_from [] fs = ap (λ (r : Reported). r.listed) e in
@@ -195,7 +242,10 @@ error-added old mid new f is x lines out errors notes fs e =
     (out ∙ out-of f fs old mid x k u)
 
 -- the report with a note more
-pub note-added : (old mid new : Reported) (f : Found) → is_an_error f ≡ false → Lists f old mid → new.listed ≡ mid.listed → new.not_listed ≡ mid.not_listed → new.errors ≡ mid.errors → new.notes ≡ min (mid.notes + 1) most_counted → (fs : List Found) → old ≡ report_of fs → new ≡ report_of (fs ++ f ∷ [])
+pub note-added : (old mid new : Reported) (f : Found) → is_an_error f ≡ false → Lists f old mid →
+    new.listed ≡ mid.listed → new.not_listed ≡ mid.not_listed → new.errors ≡ mid.errors →
+    new.notes ≡ min (mid.notes + 1) most_counted → (fs : List Found) → old ≡ report_of fs →
+    new ≡ report_of (fs ++ f ∷ [])
 unfolding report_of
 note-added old mid new f is x lines out errors notes fs e =
     let k : old.listed ≡ lines_from [] fs = ap (λ (r : Reported). r.listed) e in

@@ -41,7 +41,8 @@ is_listed seen f = not (repeats seen f) && nat_lt (count_like f seen) 100
 -- the lines of the findings behind those that are listed already, in the order of the list
 abbrev pub lines_from : List Found → List Found → List Listed
 lines_from seen [] = []
-lines_from seen (f ∷ fs) = if is_listed seen f then line_of f fs ∷ lines_from (seen ++ f ∷ []) fs else lines_from seen fs
+lines_from seen (f ∷ fs) = if is_listed seen f then line_of f fs ∷ lines_from (seen ++ f ∷ []) fs else
+    lines_from seen fs
 
 -- how many of the findings are neither listed nor repeat one that is, since 100 of their kind are listed
 abbrev pub left_out : List Found → List Found → ℕ

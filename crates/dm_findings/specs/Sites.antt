@@ -20,7 +20,8 @@ int_opcode = 0xCD
 -- before the return address, as the instruction of an interrupt that is no INT. Offsets wrap
 abbrev pub interrupted_at : Memory → ℕ → ℕ → Site
 interrupted_at m segment offset =
-    if peek m (linear m.a20 segment (down offset 2)) == int_opcode then At segment (down offset 2) else Before segment offset
+    if peek m (linear m.a20 segment (down offset 2)) == int_opcode then At segment (down offset 2) else
+    Before segment offset
 
 -- where a call with this return address was made; a call of the extended memory driver is a far call, no INT
 abbrev pub called_at : Memory → ℕ → ℕ → Call → Site

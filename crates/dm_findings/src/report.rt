@@ -42,7 +42,12 @@ impl Model for Report {
 
     ghost Value = { Reported };
 
-    ghost view = { λ r. record { listed = r.listed.items; errors = r.errors; notes = r.notes; not_listed = r.not_listed } };
+    ghost view = { λ r. record {
+      listed = r.listed.items;
+      errors = r.errors;
+      notes = r.notes;
+      not_listed = r.not_listed;
+    } };
 }
 
 /// Whether the finding repeats the one of a line.
@@ -145,7 +150,8 @@ impl Report {
     ///
     /// An `Err` says that an allocation failed, and that nothing has changed.
     pub fn add(&mut self, found: Found) -> Result<(), AllocError>
-        ensures ok { OnOk result ((fs : List Found) → self.old ≡ report_of fs → self.new ≡ report_of (fs ++ found ∷ [])) }
+        ensures ok { OnOk result ((fs : List Found) → self.old ≡ report_of fs → self.new ≡ report_of (fs ++ found
+            ∷ [])) }
         ensures err { OnErr result (self.new ≡ self.old) }
     {
         self.enter(found)?;

@@ -15,16 +15,19 @@ use Rattle.dm_gdb.specs.Connections.{Connected, Hears, Obeys, Takes, receipt, al
 use Rattle.dm_gdb.specs.Servers.{Served, PutsConsole, Replies, console_text}
 
 -- there was output that was not sent
-pub some_console : (s t : Served) (text : List ℕ) → PutsConsole s [] true text t → (console_packet s ≡ frame_of text) × (all_shown s ≡ t)
+pub some_console : (s t : Served) (text : List ℕ) → PutsConsole s [] true text t → (console_packet s ≡ frame_of text) ×
+    (all_shown s ≡ t)
 some_console s t text h =
     let some : nat_lt s.shown (length s.history.machine.console.output) ≡ true = grind (h.0, arith, nat_tests) in
-    let whole : max s.shown (length s.history.machine.console.output) ≡ length s.history.machine.console.output = max-eq_right (omega (arith, h.0)) in (
+    let whole : max s.shown (length s.history.machine.console.output) ≡ length s.history.machine.console.output =
+    max-eq_right (omega (arith, h.0)) in (
       ap (λ b. if b then frame_of (console_text s) else []) some ∙ ap frame_of (sym h.1),
       ap (λ n. record s { shown = n }) whole ∙ sym h.2,
     )
 
 -- there was none
-pub no_console : (s t : Served) (text : List ℕ) → PutsConsole s [] false text t → (console_packet s ≡ []) × (all_shown s ≡ t)
+pub no_console : (s t : Served) (text : List ℕ) → PutsConsole s [] false text t → (console_packet s ≡ []) ×
+    (all_shown s ≡ t)
 no_console s t text h =
     let none : nat_lt s.shown (length s.history.machine.console.output) ≡ false = grind (h.0, arith, nat_tests) in (
       ap (λ b. if b then frame_of (console_text s) else []) none,
@@ -41,29 +44,36 @@ on_ok_one (Ok x) P R f h = f h
 on_ok_one (Err e) P R f h = tt
 
 -- a request that ends the conversation
-pub killed : (a s : Connected) (most : ℕ) (r : Request) → a ≡ s → is_kill r ≡ true → Obeys most s r [] (record a { over = true })
+pub killed : (a s : Connected) (most : ℕ) (r : Request) → a ≡ s → is_kill r ≡ true →
+    Obeys most s r [] (record a { over = true })
 killed a s most r e h = subst (λ (x : Connected). Obeys most x r [] (record a { over = true })) e (kills h)
 
 -- a way to go on after the debugger wanted a stop
-pub stopped : (a s d : Connected) (most : ℕ) (r : Request) (out more : List ℕ) → a ≡ s → is_kill r ≡ false → (s.stopping && makes_steps r) ≡ true
-    → more ≡ out ++ packet_of (reply.Signal 2) → d ≡ with_last (record a { stopping = false }) (packet_of (reply.Signal 2))
+pub stopped : (a s d : Connected) (most : ℕ) (r : Request) (out more : List ℕ) → a ≡ s → is_kill r ≡ false →
+    (s.stopping && makes_steps r) ≡ true
+    → more ≡ out ++ packet_of (reply.Signal 2) → d ≡ with_last (record a { stopping = false })
+    (packet_of (reply.Signal 2))
     → (x : List ℕ) × (more ≡ out ++ x) × Obeys most s r x d
 stopped a s d most r out more e other wanted sent is = (
   packet_of (reply.Signal 2),
   sent,
   subst (λ (x : Connected). Obeys most s r (packet_of (reply.Signal 2)) x)
-      (sym (is ∙ ap (λ (x : Connected). with_last (record x { stopping = false }) (packet_of (reply.Signal 2))) e)) (stops other wanted),
+      (sym (is ∙ ap (λ (x : Connected). with_last (record x { stopping = false }) (packet_of (reply.Signal 2))) e))
+      (stops other wanted),
 )
 
 -- a request that is answered
-pub answered : (a s d : Connected) (t : Served) (most : ℕ) (r : Request) (told : Reply) (out more : List ℕ) → a ≡ s → is_kill r ≡ false
-    → (s.stopping && makes_steps r) ≡ false → Replies a.server most r told t → more ≡ out ++ (console_packet t ++ packet_of told)
+pub answered : (a s d : Connected) (t : Served) (most : ℕ) (r : Request) (told : Reply) (out more : List ℕ) → a ≡ s →
+    is_kill r ≡ false
+    → (s.stopping && makes_steps r) ≡ false → Replies a.server most r told t → more ≡ out
+    ++ (console_packet t ++ packet_of told)
     → d ≡ replied (record a { server = t }) r told t → (x : List ℕ) × (more ≡ out ++ x) × Obeys most s r x d
 answered a s d t most r told out more e other goes h sent is = (
   console_packet t ++ packet_of told,
   sent,
   subst (λ (x : Connected). Obeys most s r (console_packet t ++ packet_of told) x)
-      (sym (is ∙ ap (λ (x : Connected). replied x r told t) e)) (answers told t other goes (subst (λ (x : Connected). Replies x.server most r told t) e h)),
+      (sym (is ∙ ap (λ (x : Connected). replied x r told t) e)) (answers told t other goes
+      (subst (λ (x : Connected). Replies x.server most r told t) e h)),
 )
 
 -- nothing is sent
@@ -71,28 +81,41 @@ pub silent : (out : List ℕ) (P : List ℕ → Type 0) → P [] → (x : List �
 silent out P h = ([], sym (append-nil out), h)
 
 -- what was received, by what it is known to be
-pub heard_as : (s d : Connected) (most : ℕ) (what known : Received) (sent : List ℕ) → what ≡ known → Hears most s known sent d → Hears most s what sent d
+pub heard_as : (s d : Connected) (most : ℕ) (what known : Received) (sent : List ℕ) → what ≡ known →
+    Hears most s known sent d → Hears most s what sent d
 heard_as s d most what known sent e h = subst (λ (w : Received). Hears most s w sent d) (sym e) h
 
 -- a packet
-pub heard_packet : (s d : Connected) (most : ℕ) (what : Received) (payload : List ℕ) (r : Request) (sent : List ℕ) → what ≡ heard.Packet payload → r ≡ request_of payload
+pub heard_packet : (s d : Connected) (most : ℕ) (what : Received) (payload : List ℕ) (r : Request) (sent : List ℕ) →
+    what ≡ heard.Packet payload → r ≡ request_of payload
     → Obeys most s r sent d → Hears most s what sent d
-heard_packet s d most what payload r sent e f h = heard_as s d most what (heard.Packet payload) sent e (obeyed payload sent d (subst (λ (q : Request). Obeys most s q sent d) f h))
+heard_packet s d most what payload r sent e f h = heard_as s d most what (heard.Packet payload) sent e
+    (obeyed payload sent d (subst (λ (q : Request). Obeys most s q sent d) f h))
 
 -- a packet that is too long
-pub heard_long : (s d : Connected) (most : ℕ) (what : Received) (out more : List ℕ) → what ≡ heard.TooLong → more ≡ out ++ packet_of (reply.Refused 1)
+pub heard_long : (s d : Connected) (most : ℕ) (what : Received) (out more : List ℕ) → what ≡ heard.TooLong → more ≡ out
+    ++ packet_of (reply.Refused 1)
     → d ≡ with_last s (packet_of (reply.Refused 1)) → (x : List ℕ) × (more ≡ out ++ x) × Hears most s what x d
-heard_long s d most what out more e sent is =
-    (packet_of (reply.Refused 1), sent, heard_as s d most what heard.TooLong (packet_of (reply.Refused 1)) e (subst (λ (x : Connected). Hears most s heard.TooLong (packet_of (reply.Refused 1)) x) (sym is) too_long))
+heard_long s d most what out more e sent is = (
+  packet_of (reply.Refused 1),
+  sent,
+  heard_as s d most what heard.TooLong (packet_of
+      (reply.Refused 1)) e (subst (λ (x : Connected). Hears most s heard.TooLong (packet_of (reply.Refused 1)) x)
+      (sym is) too_long),
+)
 
 -- the debugger wants a stop
-pub heard_stop : (a s : Connected) (most : ℕ) (what : Received) → a ≡ s → what ≡ heard.Interrupt → Hears most s what [] (record a { stopping = true })
+pub heard_stop : (a s : Connected) (most : ℕ) (what : Received) → a ≡ s → what ≡ heard.Interrupt →
+    Hears most s what [] (record a { stopping = true })
 heard_stop a s most what e is =
-    heard_as s (record a { stopping = true }) most what heard.Interrupt [] is (subst (λ (x : Connected). Hears most x heard.Interrupt [] (record a { stopping = true })) e interrupted)
+    heard_as s (record a { stopping = true }) most what heard.Interrupt [] is
+    (subst (λ (x : Connected). Hears most x heard.Interrupt [] (record a { stopping = true })) e interrupted)
 
 -- a byte with which something is complete
-pub taken : (a s d : Connected) (m : Reading) (most byte : ℕ) (what : Received) (sent out more : List ℕ) → a ≡ s → received a.reading byte ≡ Some what → m ≡ after_byte a.reading byte
-    → more ≡ out ++ (receipt (record a { reading = m }) what ++ sent) → Hears most (record a { reading = m }) what sent d → (x : List ℕ) × (more ≡ out ++ x) × Takes most s byte x d
+pub taken : (a s d : Connected) (m : Reading) (most byte : ℕ) (what : Received) (sent out more : List ℕ) → a ≡ s →
+    received a.reading byte ≡ Some what → m ≡ after_byte a.reading byte
+    → more ≡ out ++ (receipt (record a { reading = m }) what ++ sent) →
+    Hears most (record a { reading = m }) what sent d → (x : List ℕ) × (more ≡ out ++ x) × Takes most s byte x d
 taken a s d m most byte what sent out more e f g sent_is h = (
   receipt a what ++ sent,
   sent_is,
@@ -101,10 +124,13 @@ taken a s d m most byte what sent out more e f g sent_is h = (
 )
 
 -- a byte with which nothing is complete
-pub kept : (a s : Connected) (m : Reading) (most byte : ℕ) → a ≡ s → received a.reading byte ≡ None → m ≡ after_byte a.reading byte → Takes most s byte [] (record a { reading = m })
+pub kept : (a s : Connected) (m : Reading) (most byte : ℕ) → a ≡ s → received a.reading byte ≡ None →
+    m ≡ after_byte a.reading byte → Takes most s byte [] (record a { reading = m })
 kept a s m most byte e f g =
-    subst (λ (y : Connected). Takes most y byte [] (record a { reading = m })) e (subst (λ (r : Reading). Takes most a byte [] (record a { reading = r })) (sym g) (incomplete f))
+    subst (λ (y : Connected). Takes most y byte [] (record a { reading = m })) e
+    (subst (λ (r : Reading). Takes most a byte [] (record a { reading = r })) (sym g) (incomplete f))
 
 -- what is sent after something else
-pub sent_after : (out first between more x : List ℕ) → between ≡ out ++ first → more ≡ between ++ x → more ≡ out ++ (first ++ x)
+pub sent_after : (out first between more x : List ℕ) → between ≡ out ++ first → more ≡ between ++ x → more ≡ out
+    ++ (first ++ x)
 sent_after out first between more x e f = f ∙ ap (λ (l : List ℕ). l ++ x) e ∙ append_assoc out first x

@@ -55,11 +55,16 @@ checked_text r why = findings_text r.listed r.not_listed ++ checked_end_line why
 -- (`whole`); or the program stops first (`stops`), and what is found in its last step, as by its end, is printed too.
 -- For want of memory for the console's output the steps may end on the way (`short`)
 pub data ChecksFrom (s : State) : Reply → State → Type 0 where
-  finds : (n : ℕ) (before t : State) (found : List Found) → s.exited ≡ None → n < most_checked → FindsIn s n before [] → FindsIn s (n + 1) t found → found ≢ []
+  finds : (n : ℕ) (before t : State) (found : List Found) → s.exited ≡ None → n < most_checked → FindsIn s n before [] →
+      FindsIn s (n + 1) t found → found ≢ []
       → ChecksFrom s (reply.Bytes (checked_text (report_of found) None)) t
-  over : (code : ℕ) → s.exited ≡ Some code → ChecksFrom s (reply.Bytes (checked_text (report_of []) (Some (stop.Exited code)))) s
-  whole : (t : State) → s.exited ≡ None → FindsIn s most_checked t [] → ChecksFrom s (reply.Bytes (checked_text (report_of []) (Some stop.Steps))) t
-  stops : (made : ℕ) (before t : State) (k : Known) (found : List Found) (why : Stop) → s.exited ≡ None → why ≢ stop.Memory → made < most_checked
-      → FindsIn s made before [] → OriginsIn s made before k → Answers before (Some why) t → FindsAtStop before why t k found
+  over : (code : ℕ) → s.exited ≡ Some code →
+      ChecksFrom s (reply.Bytes (checked_text (report_of []) (Some (stop.Exited code)))) s
+  whole : (t : State) → s.exited ≡ None → FindsIn s most_checked t [] →
+      ChecksFrom s (reply.Bytes (checked_text (report_of []) (Some stop.Steps))) t
+  stops : (made : ℕ) (before t : State) (k : Known) (found : List Found) (why : Stop) → s.exited ≡ None →
+      why ≢ stop.Memory → made < most_checked
+      → FindsIn s made before [] → OriginsIn s made before k → Answers before (Some why) t →
+      FindsAtStop before why t k found
       → ChecksFrom s (reply.Bytes (checked_text (report_of found) (Some why))) t
   short : (n : ℕ) (t : State) → n ≤ most_checked → IsRun s n stop.Memory t → ChecksFrom s reply.StoppedBefore t

@@ -28,7 +28,13 @@ pub record Connected : Type 0 where
 -- the start of a conversation over a machine on which a program was loaded
 abbrev pub new_connection : State → Connected
 new_connection m =
-    record { reading = between; sending = record { acknowledges = true; last = [] }; server = new_server m; stopping = false; over = false }
+    record {
+      reading = between;
+      sending = record { acknowledges = true; last = [] };
+      server = new_server m;
+      stopping = false;
+      over = false;
+    }
 
 -- the packet of a reply
 abbrev pub packet_of : Reply → List ℕ
@@ -83,8 +89,10 @@ replied c r told s = record c {
 pub data Obeys (most : ℕ) (c : Connected) (r : Request) : List ℕ → Connected → Type 0 where
   kills : is_kill r ≡ true → Obeys most c r [] (record c { over = true })
   stops : is_kill r ≡ false → (c.stopping && makes_steps r) ≡ true
-      → Obeys most c r (packet_of (reply.Signal 0x02)) (with_last (record c { stopping = false }) (packet_of (reply.Signal 0x02)))
-  answers : (told : Reply) (s : Served) → is_kill r ≡ false → (c.stopping && makes_steps r) ≡ false → Replies c.server most r told s
+      → Obeys most c r (packet_of (reply.Signal 0x02)) (with_last (record c { stopping = false })
+      (packet_of (reply.Signal 0x02)))
+  answers : (told : Reply) (s : Served) → is_kill r ≡ false → (c.stopping && makes_steps r) ≡ false →
+      Replies c.server most r told s
       → Obeys most c r (console_packet s ++ packet_of told) (replied c r told s)
 
 -- what was received leads from the conversation c to the next, and these bytes are sent for it after its
@@ -94,7 +102,8 @@ pub data Hears (most : ℕ) (c : Connected) : Received → List ℕ → Connecte
   asked_again : Hears most c heard.Again c.sending.last c
   damaged : Hears most c heard.Damaged [] c
   too_long : Hears most c heard.TooLong (packet_of (reply.Refused 0x01)) (with_last c (packet_of (reply.Refused 0x01)))
-  obeyed : (payload sent : List ℕ) (d : Connected) → Obeys most c (request_of payload) sent d → Hears most c (heard.Packet payload) sent d
+  obeyed : (payload sent : List ℕ) (d : Connected) → Obeys most c (request_of payload) sent d →
+      Hears most c (heard.Packet payload) sent d
 
 -- the acknowledgement of what was received
 abbrev pub receipt : Connected → Received → List ℕ

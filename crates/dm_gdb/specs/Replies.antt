@@ -62,7 +62,9 @@ reply_text (reply.Bytes bytes) = encode_lower bytes
 reply_text reply.Help = encode_lower (codes "monitor takes R, U, D, M, P, X, O, check and step N" ++ 10 ∷ [])
 reply_text reply.Passed = encode_lower (codes "this step has passed" ++ 10 ∷ [])
 reply_text reply.StoppedBefore = encode_lower (codes "the program has stopped before" ++ 10 ∷ [])
-reply_text reply.Abilities = codes "PacketSize=4000;qXfer:features:read+;swbreak+;hwbreak+;ReverseStep+;ReverseContinue+;QStartNoAckMode+;vContSupported+"
+reply_text reply.Abilities =
+    codes
+    "PacketSize=4000;qXfer:features:read+;swbreak+;hwbreak+;ReverseStep+;ReverseContinue+;QStartNoAckMode+;vContSupported+"
 reply_text (reply.Part bytes) = 109 ∷ bytes
 reply_text (reply.Rest bytes) = 108 ∷ bytes
 reply_text (reply.Offsets base) = offsets_text base

@@ -51,7 +51,13 @@ first_segment_address c = if c.cs == c.ds then c.ds * 16 else (c.ds + 0x10) * 16
 
 -- the session over a machine on which a program was loaded, without breakpoints
 abbrev pub new_server : State → Served
-new_server m = record { history = new_past m; points = none_set; shown = 0; base = first_segment_address m.cpu; ended = false }
+new_server m = record {
+  history = new_past m;
+  points = none_set;
+  shown = 0;
+  base = first_segment_address m.cpu;
+  ended = false;
+}
 
 -- the reply to a request that asks for nothing of the machine, or for nothing that this server has
 abbrev pub plain_reply : Request → Reply
@@ -88,7 +94,8 @@ register_reply s n = if has_register n then reply.Bytes (register_bytes s n) els
 
 -- bytes from an address up; fewer where memory ends, and an error where there is none at the address
 abbrev pub memory_reply : Memory → ℕ → ℕ → Reply
-memory_reply m address count = if nat_lt 0x10FFEF address then reply.Refused 0x0E else reply.Bytes (bytes_from m address (readable address count))
+memory_reply m address count = if nat_lt 0x10FFEF address then reply.Refused 0x0E else
+    reply.Bytes (bytes_from m address (readable address count))
 
 -- the reply to a write: an error if memory does not have the bytes after it, because some of it is ROM or nothing
 abbrev pub written_reply : Memory → ℕ → List ℕ → Reply
@@ -104,7 +111,10 @@ at_state s t = record s { history = record s.history { machine = t } }
 
 -- the session after a write
 abbrev pub after_write : Served → ℕ → List ℕ → Served
-after_write s address bytes = record s { history = with_change s.history (change.Written (segment_below address) (address - segment_below address * 16) bytes) }
+after_write s address bytes = record s {
+  history = with_change s.history (change.Written (segment_below address)
+      (address - segment_below address * 16) bytes);
+}
 
 -- the session after a request to set a breakpoint or watchpoint
 abbrev pub with_inserted : Served → Point → Served
@@ -182,34 +192,50 @@ pub data Replies (s : Served) (most : ℕ) : Request → Reply → Served → Ty
   plain : (r : Request) → is_plain r ≡ true → Replies s most r (plain_reply r) s
   registers : Replies s most request.Registers (reply.Bytes (all_registers s.history.machine)) s
   register : (n : ℕ) → Replies s most (request.Register n) (register_reply s.history.machine n) s
-  memory : (address count : ℕ) → Replies s most (request.Memory address count) (memory_reply s.history.machine.memory address count) s
+  memory : (address count : ℕ) → Replies s most (request.Memory address count)
+      (memory_reply s.history.machine.memory address count) s
   writes : (address : ℕ) (bytes : List ℕ) → address ≤ 0x10FFEF → address + length bytes ≤ 0x10FFF0
-      → Replies s most (request.SetMemory address bytes) (written_reply (memory_written s.history.machine.memory address bytes) address bytes) (after_write s address bytes)
-  out_of_reach : (address : ℕ) (bytes : List ℕ) → (0x10FFEF < address) ⊎ (0x10FFF0 < address + length bytes) → Replies s most (request.SetMemory address bytes) (reply.Refused 0x0E) s
+      → Replies s most (request.SetMemory address bytes) (written_reply (memory_written s.history.machine.memory address
+      bytes) address bytes) (after_write s address bytes)
+  out_of_reach : (address : ℕ) (bytes : List ℕ) → (0x10FFEF < address) ⊎ (0x10FFF0 < address + length bytes) →
+      Replies s most (request.SetMemory address bytes) (reply.Refused 0x0E) s
   inserts : (point : Point) → Replies s most (request.Insert point) reply.Done (with_inserted s point)
   removes : (point : Point) → Replies s most (request.Remove point) reply.Done (with_removed s point)
-  sets : (n : ℕ) (bytes : List ℕ) → Replies s most (request.SetRegister n bytes) (setting_reply (registers_after s.history.machine n bytes)) (with_registers s (registers_after s.history.machine n bytes))
+  sets : (n : ℕ) (bytes : List ℕ) → Replies s most (request.SetRegister n bytes)
+      (setting_reply (registers_after s.history.machine n bytes)) (with_registers s
+      (registers_after s.history.machine n bytes))
   describes : (offset count : ℕ) → Replies s most (request.Features offset count) (features_reply offset count) s
   places : Replies s most request.Offsets (reply.Offsets s.base) s
   threads : Replies s most request.FirstThreads (threads_reply s.ended) s
   ends : Replies s most request.EndProgram reply.Done (record s { ended = true })
-  shows : (line : List ℕ) (command : Command) (text : List ℕ) → step_asked line ≡ None → is_check line ≡ false → command_of line ≡ Some command → is_shown command ≡ true → Displays (new_session s.history.machine) command text
+  shows : (line : List ℕ) (command : Command) (text : List ℕ) → step_asked line ≡ None → is_check line ≡ false →
+      command_of line ≡ Some command → is_shown command ≡ true → Displays (new_session s.history.machine) command text
       → Replies s most (request.Command line) (text_reply text) s
-  helps : (line : List ℕ) → step_asked line ≡ None → is_check line ≡ false → is_shown_line (command_of line) ≡ false → Replies s most (request.Command line) reply.Help s
-  goes_to : (line : List ℕ) (n : ℕ) (why : Stop) (t : State) → step_asked line ≡ Some n → s.history.machine.steps ≤ n → IsRun s.history.machine (n - s.history.machine.steps) why t
+  helps : (line : List ℕ) → step_asked line ≡ None → is_check line ≡ false → is_shown_line (command_of line) ≡ false →
+      Replies s most (request.Command line) reply.Help s
+  goes_to : (line : List ℕ) (n : ℕ) (why : Stop) (t : State) → step_asked line ≡ Some n → s.history.machine.steps ≤ n →
+      IsRun s.history.machine (n - s.history.machine.steps) why t
       → Replies s most (request.Command line) (stepped_reply why) (at_state s t)
-  goes_back : (line : List ℕ) (n : ℕ) (q : Past) → step_asked line ≡ Some n → n < s.history.machine.steps → GoesBack s.history n q → Replies s most (request.Command line) reply.Done (with_past s q)
-  has_passed : (line : List ℕ) (n : ℕ) → step_asked line ≡ Some n → n < s.history.beginning.steps → Replies s most (request.Command line) reply.Passed s
-  checks : (line : List ℕ) (told : Reply) (t : State) → is_check line ≡ true → ChecksFrom s.history.machine told t → Replies s most (request.Command line) told (at_state s t)
-  steps_back : (what : Undone) (q : Past) → Undoes s.points.watches s.history what q → Replies s most request.StepBack (undone_reply s.points.breaks what q.machine) (with_past s q)
-  continues_back : (what : Undone) (q : Past) → Returns s.points.breaks s.points.watches s.history what q → Replies s most request.ContinueBack (undone_reply s.points.breaks what q.machine) (with_past s q)
+  goes_back : (line : List ℕ) (n : ℕ) (q : Past) → step_asked line ≡ Some n → n < s.history.machine.steps →
+      GoesBack s.history n q → Replies s most (request.Command line) reply.Done (with_past s q)
+  has_passed : (line : List ℕ) (n : ℕ) → step_asked line ≡ Some n → n < s.history.beginning.steps →
+      Replies s most (request.Command line) reply.Passed s
+  checks : (line : List ℕ) (told : Reply) (t : State) → is_check line ≡ true → ChecksFrom s.history.machine told t →
+      Replies s most (request.Command line) told (at_state s t)
+  steps_back : (what : Undone) (q : Past) → Undoes s.points.watches s.history what q →
+      Replies s most request.StepBack (undone_reply s.points.breaks what q.machine) (with_past s q)
+  continues_back : (what : Undone) (q : Past) → Returns s.points.breaks s.points.watches s.history what q →
+      Replies s most request.ContinueBack (undone_reply s.points.breaks what q.machine) (with_past s q)
   restarts : Replies s most request.Restart (reply.Signal 0x05) (restarted s)
   steps : (why : Pause) (t : State) → Continues s.points.breaks s.points.watches None s.history.machine 1 why t
       → Replies s most request.Step (step_reply s.points.breaks why t) (gone s (step_reply s.points.breaks why t) t)
   continues : (why : Pause) (t : State) → Continues s.points.breaks s.points.watches None s.history.machine most why t
-      → Replies s most request.Continue (arrival_reply s.points.breaks why t) (gone s (arrival_reply s.points.breaks why t) t)
-  ranges : (start end : ℕ) (why : Pause) (t : State) → Continues s.points.breaks s.points.watches (Some (record { start = start; end = end })) s.history.machine most why t
-      → Replies s most (request.Range start end) (step_reply s.points.breaks why t) (gone s (step_reply s.points.breaks why t) t)
+      → Replies s most request.Continue (arrival_reply s.points.breaks why t)
+      (gone s (arrival_reply s.points.breaks why t) t)
+  ranges : (start end : ℕ) (why : Pause) (t : State) → Continues s.points.breaks s.points.watches
+      (Some (record { start = start; end = end })) s.history.machine most why t
+      → Replies s most (request.Range start end) (step_reply s.points.breaks why t)
+      (gone s (step_reply s.points.breaks why t) t)
 
 -- the packet of console output that was not sent yet: `O` and the bytes in hexadecimal
 abbrev pub console_text : Served → List ℕ
@@ -217,5 +243,6 @@ console_text s = 79 ∷ encode_lower (drop s.shown s.history.machine.console.out
 
 -- output that was not sent yet is appended as a packet, and counts as sent; or there is none, and nothing changes
 abbrev pub PutsConsole : Served → List ℕ → Bool → List ℕ → Served → Type 0
-PutsConsole s before true after t = (s.shown < length s.history.machine.console.output) × (after ≡ before ++ console_text s) × (t ≡ record s { shown = length s.history.machine.console.output })
+PutsConsole s before true after t = (s.shown < length s.history.machine.console.output) ×
+    (after ≡ before ++ console_text s) × (t ≡ record s { shown = length s.history.machine.console.output })
 PutsConsole s before false after t = (length s.history.machine.console.output ≤ s.shown) × (after ≡ before) × (t ≡ s)

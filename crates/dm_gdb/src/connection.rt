@@ -34,7 +34,13 @@ impl Model for Connection {
 
     ghost Value = { Connected };
 
-    ghost view = { λ c. record { reading = c.receiver; sending = c.sending; server = c.server; stopping = c.is_stopping; over = c.is_over } };
+    ghost view = { λ c. record {
+      reading = c.receiver;
+      sending = c.sending;
+      server = c.server;
+      stopping = c.is_stopping;
+      over = c.is_over;
+    } };
 }
 
 /// Whether the request ends the conversation without a word.
@@ -139,7 +145,8 @@ impl Connection {
     fn send_console(&mut self, out: &mut Vec<u8>) -> Result<(), AllocError>
         ensures sent { OnOk result (out.new.items ≡ out.old.items ++ console_packet self.old.server) }
         ensures shown { OnOk result (self.new.server ≡ all_shown self.old.server) }
-        ensures kept { OnOk result ((self.new.reading ≡ self.old.reading) × (self.new.sending.acknowledges ≡ self.old.sending.acknowledges)
+        ensures kept { OnOk result ((self.new.reading ≡ self.old.reading) ×
+            (self.new.sending.acknowledges ≡ self.old.sending.acknowledges)
             × (self.new.stopping ≡ self.old.stopping) × (self.new.over ≡ self.old.over)) }
     {
         let mut text = Vec::new(self.alloc);
@@ -158,7 +165,8 @@ impl Connection {
         reply: &Reply,
         out: &mut Vec<u8>,
     ) -> Result<(), AllocError>
-        ensures sent { OnOk result (out.new.items ≡ out.old.items ++ (console_packet self.old.server ++ packet_of reply.now)) }
+        ensures sent { OnOk result (out.new.items ≡ out.old.items ++ (console_packet self.old.server
+            ++ packet_of reply.now)) }
         ensures after { OnOk result (self.new ≡ replied self.old request.now reply.now self.old.server) }
     {
         self.send_console(out)?;
@@ -185,7 +193,8 @@ impl Connection {
 
     /// Executes a request, and appends what is sent for it to `out`. An `Err` is a failed allocation.
     fn obey(&mut self, request: &Request, most: u64, out: &mut Vec<u8>) -> Result<(), AllocError>
-        ensures { OnOk result ((sent : List ℕ) × (out.new.items ≡ out.old.items ++ sent) × Obeys most self.old request.now sent self.new) }
+        ensures { OnOk result ((sent : List ℕ) × (out.new.items ≡ out.old.items ++ sent) ×
+            Obeys most self.old request.now sent self.new) }
     {
         if is_kill(request) {
             self.is_over = true;
@@ -202,7 +211,8 @@ impl Connection {
     /// Does what was received, and appends what is sent for it after its acknowledgement to `out`. An `Err` is a failed
     /// allocation.
     fn hear(&mut self, received: &Received, most: u64, out: &mut Vec<u8>) -> Result<(), AllocError>
-        ensures { OnOk result ((sent : List ℕ) × (out.new.items ≡ out.old.items ++ sent) × Hears most self.old received.now sent self.new) }
+        ensures { OnOk result ((sent : List ℕ) × (out.new.items ≡ out.old.items ++ sent) ×
+            Hears most self.old received.now sent self.new) }
     {
         match received {
             Received::Packet(payload) => {
@@ -222,7 +232,8 @@ impl Connection {
     /// Acknowledges what was received, does it, and appends what is sent for it to `out`. An `Err` is a failed
     /// allocation.
     fn react(&mut self, received: &Received, most: u64, out: &mut Vec<u8>) -> Result<(), AllocError>
-        ensures { OnOk result ((sent : List ℕ) × (out.new.items ≡ out.old.items ++ (receipt self.old received.now ++ sent)) × Hears most self.old received.now sent self.new) }
+        ensures { OnOk result ((sent : List ℕ) × (out.new.items ≡ out.old.items ++ (receipt self.old received.now
+            ++ sent)) × Hears most self.old received.now sent self.new) }
     {
         self.acknowledge(received, out)?;
         self.hear(received, most, out)
@@ -236,7 +247,8 @@ impl Connection {
     /// `AllocError`. The conversation cannot go on then: the request may have been executed, and a first part of what
     /// is sent for it may have been appended.
     pub fn receive(&mut self, byte: u8, most: u64, out: &mut Vec<u8>) -> Result<(), AllocError>
-        ensures { OnOk result ((sent : List ℕ) × (out.new.items ≡ out.old.items ++ sent) × Takes most self.old byte sent self.new) }
+        ensures { OnOk result ((sent : List ℕ) × (out.new.items ≡ out.old.items ++ sent) ×
+            Takes most self.old byte sent self.new) }
     {
         match self.receiver.receive(byte)? {
             Some(received) => self.react(&received, most, out),

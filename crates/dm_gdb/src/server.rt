@@ -41,7 +41,13 @@ impl Model for Server {
 
     ghost Value = { Served };
 
-    ghost view = { λ s. record { history = s.history; points = s.points; shown = s.shown; base = s.base; ended = s.is_ended } };
+    ghost view = { λ s. record {
+      history = s.history;
+      points = s.points;
+      shown = s.shown;
+      base = s.base;
+      ended = s.is_ended;
+    } };
 }
 
 /// The reply to a request that asks for nothing of the machine, or for nothing that this server has: empty, but an
@@ -162,7 +168,8 @@ impl Server {
         requires there { address ≤ 0x10FFEF }
         requires ends { address + length bytes.now ≤ 0x10FFF0 }
         ensures after { OnOk result (self.new ≡ after_write self.old address bytes.now) }
-        ensures reply { IfOk result (λ r. r ≡ written_reply (memory_written self.old.history.machine.memory address bytes.now) address bytes.now) }
+        ensures reply { IfOk result (λ r. r ≡ written_reply (memory_written self.old.history.machine.memory address
+            bytes.now) address bytes.now) }
         ensures err { OnErr result (self.new ≡ self.old) }
     {
         let segment = segment_below(address);
@@ -178,7 +185,8 @@ impl Server {
     /// Makes at most `most` steps, but none after one that led to a breakpoint or out of the range, or hit a
     /// watchpoint, and returns why the steps ended. Nothing but the machine changes.
     fn go(&mut self, most: u64, span: Option<StepRange>) -> Pause
-        ensures goes { Continues self.old.points.breaks self.old.points.watches span self.old.history.machine most result self.new.history.machine }
+        ensures goes { Continues self.old.points.breaks self.old.points.watches span self.old.history.machine most
+            result self.new.history.machine }
         ensures same { self.new ≡ at_state self.old self.new.history.machine }
     {
         go_on(
@@ -213,7 +221,8 @@ impl Server {
     /// `M`: writes bytes, and returns the reply; nothing is written if they would end behind FFFF:FFFF. An `Err` is a
     /// failed allocation, and nothing has changed.
     fn set_memory(&mut self, address: u32, bytes: &[u8]) -> Result<Reply, AllocError>
-        ensures ok { IfOk result (λ r. (most : ℕ) → Replies self.old most (Request.SetMemory address bytes.now) r self.new) }
+        ensures ok { IfOk result (λ r. (most : ℕ) → Replies self.old most (Request.SetMemory address bytes.now) r
+            self.new) }
         ensures err { OnErr result (self.new ≡ self.old) }
     {
         if LAST < address {
@@ -244,7 +253,8 @@ impl Server {
 
     /// `P`: sets a register to bytes, and returns the reply. An `Err` is a failed allocation, and nothing has changed.
     fn set_register(&mut self, number: u32, bytes: &[u8]) -> Result<Reply, AllocError>
-        ensures ok { IfOk result (λ r. (most : ℕ) → Replies self.old most (Request.SetRegister number bytes.now) r self.new) }
+        ensures ok { IfOk result (λ r. (most : ℕ) → Replies self.old most (Request.SetRegister number bytes.now) r
+            self.new) }
         ensures err { OnErr result (self.new ≡ self.old) }
     {
         let machine = self.history.machine();

@@ -56,7 +56,8 @@ IsEarly _ = Unit {0}
 -- the result x of a step from s goes on, ends the program, comes after its end, or stops before the step
 pub data Counts (s : State) (x : Answer) : Type 0 where
   goes : x.stop ≡ None → x.state.steps ≡ counted s.steps → x.state.exited ≡ s.exited → Counts s x
-  ends : (code : ℕ) → x.stop ≡ Some (Exited code) → x.state.steps ≡ counted s.steps → x.state.exited ≡ Some code → Counts s x
+  ends : (code : ℕ) → x.stop ≡ Some (Exited code) → x.state.steps ≡ counted s.steps → x.state.exited ≡ Some code →
+      Counts s x
   over : (code : ℕ) → s.exited ≡ Some code → x ≡ stop_at (Exited code) s → Counts s x
   stays : (stop : Stop) → IsEarly stop → x ≡ stop_at stop s → Counts s x
 
@@ -134,7 +135,8 @@ bad_handle-counts s = on s _ refl refl
 read_handle-counts : (s : State) → Counts s (read_handle s)
 unfolding read_handle
 read_handle-counts s =
-    choice-counts s (nat_lt s.cpu.bx 3) _ _ (choice-counts s (waits s) _ _ (input_ended s) (on s _ refl refl)) (bad_handle-counts s)
+    choice-counts s (nat_lt s.cpu.bx 3) _ _ (choice-counts s (waits s) _ _ (input_ended s) (on s _ refl refl))
+    (bad_handle-counts s)
 
 write_handle-counts : (s : State) → Counts s (write_handle s)
 unfolding write_handle
@@ -180,7 +182,8 @@ no_function-counts : (s : State) → Counts s (no_function s)
 unfolding no_function
 no_function-counts s = on s _ refl refl
 
-executed-counts : (s : State) (r : Result (Unit {0}) ExecRefusal) (qs : Processes) (d : Cpu) (n : Memory) → Counts s (executed s r qs d n)
+executed-counts : (s : State) (r : Result (Unit {0}) ExecRefusal) (qs : Processes) (d : Cpu) (n : Memory) →
+    Counts s (executed s r qs d n)
 executed-counts s (Ok x) qs d n = on s _ refl refl
 executed-counts s (Err e) qs d n = on s _ refl refl
 
@@ -188,7 +191,8 @@ overlaid-counts : (s : State) (r : Result (Unit {0}) ExecRefusal) (n : Memory) �
 overlaid-counts s (Ok x) n = on s _ refl refl
 overlaid-counts s (Err e) n = on s _ refl refl
 
-concluded-counts : (s : State) (code : ℕ) (r : Result Ending ArenaDestroyed) (qs : Processes) (d : Cpu) (n : Memory) → Counts s (concluded s code r qs d n)
+concluded-counts : (s : State) (code : ℕ) (r : Result Ending ArenaDestroyed) (qs : Processes) (d : Cpu) (n : Memory) →
+    Counts s (concluded s code r qs d n)
 concluded-counts s code (Ok ending.Returned) qs d n = on s _ refl refl
 concluded-counts s code (Ok ending.Exited) qs d n = ends code refl refl refl
 concluded-counts s code (Err e) qs d n = stays Destroyed tt refl
@@ -264,7 +268,8 @@ after-counts s Go g = on s _ refl refl
 after-counts s Halt g = stays Halted tt refl
 
 instructs-count : (s : State) (x : Answer) → Instructs s x → Counts s x
-instructs-count s x (listed i k b e) = by s x _ e (after-counts s (next_of i.action.mnemonic) (effect (guest s.cpu s.memory) i k))
+instructs-count s x (listed i k b e) = by s x _ e (after-counts s (next_of i.action.mnemonic)
+    (effect (guest s.cpu s.memory) i k))
 instructs-count s x (unlisted h e) = by s x _ e (stays Unlisted tt refl)
 
 acts-count : (s : State) (o : Option EntryPoint) (x : Answer) → Acts s o x → Counts s x
@@ -283,7 +288,8 @@ unfolding MakesStep
 steps-count s x h = runs-count s s.exited x refl h
 
 -- once the program has ended, a step returns its code again
-pub ended-stays : (s : State) (code : ℕ) (x : Answer) → s.exited ≡ Some code → MakesStep s x → x ≡ stop_at (Exited code) s
+pub ended-stays : (s : State) (code : ℕ) (x : Answer) → s.exited ≡ Some code → MakesStep s x →
+    x ≡ stop_at (Exited code) s
 unfolding MakesStep
 ended-stays s code x e h = subst (λ o. ActsUnlessEnded s o x) e h
 

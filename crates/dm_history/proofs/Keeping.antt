@@ -26,17 +26,20 @@ history-new s h = record { becomes = start; beginning = h; loaded = h; ways = Al
 
 -- ---- steps
 
-pub way-on : (p : Past) (t : State) (c : Kept) → p.machine.steps ≤ t.steps → IsOnTheWay p c → IsOnTheWay (at_state p t) c
+pub way-on : (p : Past) (t : State) (c : Kept) → p.machine.steps ≤ t.steps → IsOnTheWay p c →
+    IsOnTheWay (at_state p t) c
 way-on p t c l w =
     let before = w.before in
     record { made = w.made; becomes = w.becomes; next = w.next; before = omega (arith, before, l); loaded = w.loaded }
 
-pub history-run : (p : Past) (cs : List Kept) (t : State) (n : ℕ) (stop : Stop) → p.machine.steps ≤ 2 ^ 64 - 1 → IsHistory p cs → IsRun p.machine n stop t → HasProgram t → IsHistory (at_state p t) cs
+pub history-run : (p : Past) (cs : List Kept) (t : State) (n : ℕ) (stop : Stop) → p.machine.steps ≤ 2 ^ 64 - 1 →
+    IsHistory p cs → IsRun p.machine n stop t → HasProgram t → IsHistory (at_state p t) cs
 history-run p cs t n stop l h r loaded = record {
   becomes = run-becomes p.beginning p.machine t p.edits n stop h.becomes r;
   beginning = h.beginning;
   loaded = loaded;
-  ways = All-weaker (IsOnTheWay p) (IsOnTheWay (at_state p t)) (λ c w. way-on p t c (run-rises p.machine t n stop l r) w) cs h.ways;
+  ways = All-weaker (IsOnTheWay p) (IsOnTheWay (at_state p t)) (λ c w. way-on p t c (run-rises p.machine t n stop l r)
+      w) cs h.ways;
 }
 
 -- ---- an edit
@@ -49,14 +52,17 @@ way-edited p e c w =
     let before = w.before in
     record {
       made = omega (arith, made, length-append p.edits add);
-      becomes = subst (λ (xs : List TimedChange). BecomesBy p.beginning xs c.machine) (sym (take-append-le c.edits p.edits add w.made)) w.becomes;
-      next = All-same (λ z. c.machine.steps ≤ z.step) (drop c.edits (p.edits ++ add)) (drop c.edits p.edits ++ add) (drop-append-le c.edits p.edits add w.made)
+      becomes = subst (λ (xs : List TimedChange). BecomesBy p.beginning xs c.machine)
+          (sym (take-append-le c.edits p.edits add w.made)) w.becomes;
+      next = All-same (λ z. c.machine.steps ≤ z.step) (drop c.edits (p.edits ++ add)) (drop c.edits p.edits
+          ++ add) (drop-append-le c.edits p.edits add w.made)
           (All-push (λ z. c.machine.steps ≤ z.step) (drop c.edits p.edits) (edit_of p.machine e) w.next w.before);
       before = omega (arith, count, before);
       loaded = w.loaded;
     }
 
-pub history-edited : (p : Past) (cs : List Kept) (e : Change) → IsHistory p cs → HasProgram (changed e p.machine) → IsHistory (with_change p e) cs
+pub history-edited : (p : Past) (cs : List Kept) (e : Change) → IsHistory p cs → HasProgram (changed e p.machine) →
+    IsHistory (with_change p e) cs
 history-edited p cs e h loaded = record {
   becomes = edited p.edits p.machine e h.becomes;
   beginning = h.beginning;
@@ -69,39 +75,62 @@ history-edited p cs e h loaded = record {
 pub with-copies : (p : Past) (cs ds : List Kept) → IsHistory p cs → All (IsOnTheWay p) ds → IsHistory p ds
 with-copies p cs ds h a = record { becomes = h.becomes; beginning = h.beginning; loaded = h.loaded; ways = a }
 
-way-now : (p : Past) (cs : List Kept) → IsHistory p cs → IsOnTheWay p (record { machine = p.machine; edits = length p.edits })
+way-now : (p : Past) (cs : List Kept) → IsHistory p cs → IsOnTheWay p (record {
+  machine = p.machine;
+  edits = length p.edits;
+})
 way-now p cs h = record {
   made = omega arith;
-  becomes = subst (λ (xs : List TimedChange). BecomesBy p.beginning xs p.machine) (sym (take_all (length p.edits) p.edits (omega arith))) h.becomes;
-  next = All-same (λ z. p.machine.steps ≤ z.step) (drop (length p.edits) p.edits) [] (drop_all (length p.edits) p.edits (omega arith)) (All-nil (λ z. p.machine.steps ≤ z.step));
+  becomes = subst (λ (xs : List TimedChange). BecomesBy p.beginning xs p.machine)
+      (sym (take_all (length p.edits) p.edits (omega arith))) h.becomes;
+  next = All-same (λ z. p.machine.steps ≤ z.step) (drop (length p.edits) p.edits) []
+      (drop_all (length p.edits) p.edits (omega arith)) (All-nil (λ z. p.machine.steps ≤ z.step));
   before = omega arith;
   loaded = h.loaded;
 }
 
-history-kept : (p : Past) (cs : List Kept) → IsHistory p cs → IsHistory p (cs ++ record { machine = p.machine; edits = length p.edits } ∷ [])
+history-kept : (p : Past) (cs : List Kept) → IsHistory p cs → IsHistory p (cs ++ record {
+  machine = p.machine;
+  edits = length p.edits;
+} ∷ [])
 history-kept p cs h = with-copies p cs _ h (All-push (IsOnTheWay p) cs _ h.ways (way-now p cs h))
 
 history-removed : (p : Past) (cs : List Kept) (i : ℕ) → IsHistory p cs → IsHistory p (take i cs ++ drop (i + 1) cs)
 history-removed p cs i h =
-    with-copies p cs _ h (All-append (IsOnTheWay p) (take i cs) (drop (i + 1) cs) (All-take (IsOnTheWay p) i cs h.ways) (All-drop (IsOnTheWay p) (i + 1) cs h.ways))
+    with-copies p cs _ h (All-append (IsOnTheWay p) (take i cs) (drop (i + 1) cs) (All-take (IsOnTheWay p) i cs h.ways)
+    (All-drop (IsOnTheWay p) (i + 1) cs h.ways))
 
 pub history-fewer : (p : Past) (cs ds : List Kept) → IsHistory p cs → LosesOne cs ds → IsHistory p ds
 history-fewer p cs ds h (all e) = subst (IsHistory p) (sym e) h
 history-fewer p cs ds h (one i e) = subst (IsHistory p) (sym e) (history-removed p cs i h)
 
-pub history-more : (p : Past) (cs ds : List Kept) (m : State) (k : ℕ) → IsHistory p cs → m ≡ p.machine → k ≡ length p.edits → MayGain cs (record { machine = m; edits = k }) ds → IsHistory p ds
+pub history-more : (p : Past) (cs ds : List Kept) (m : State) (k : ℕ) → IsHistory p cs → m ≡ p.machine →
+    k ≡ length p.edits → MayGain cs (record { machine = m; edits = k }) ds → IsHistory p ds
 history-more p cs ds m k h e f (none g) = subst (IsHistory p) (sym g) h
 history-more p cs ds m k h e f (more g) =
-    let same : cs ++ record { machine = m; edits = k } ∷ [] ≡ cs ++ record { machine = p.machine; edits = length p.edits } ∷ []
-    = ap (λ s. cs ++ record { machine = s; edits = k } ∷ []) e ∙ ap (λ j. cs ++ record { machine = p.machine; edits = j } ∷ []) f in
+    let same : cs ++ record { machine = m; edits = k } ∷ [] ≡ cs ++ record {
+      machine = p.machine;
+      edits = length p.edits;
+    } ∷ []
+    = ap (λ s. cs ++ record { machine = s; edits = k } ∷ []) e ∙ ap (λ j. cs ++ record {
+      machine = p.machine;
+      edits = j;
+    } ∷ []) f in
     subst (IsHistory p) (sym (g ∙ same)) (history-kept p cs h)
 
-pub edited-history : (p : Past) (cs : List Kept) (e f : Change) (step : ℕ) (es : List TimedChange) (m : State) → IsHistory p cs → step ≡ p.machine.steps → f ≡ e → es ≡ p.edits ++ record { step = step; change = f } ∷ [] → m ≡ changed e p.machine →
+pub edited-history : (p : Past) (cs : List Kept) (e f : Change) (step : ℕ) (es : List TimedChange) (m : State) →
+    IsHistory p cs → step ≡ p.machine.steps → f ≡ e → es ≡ p.edits ++ record { step = step; change = f } ∷ [] →
+    m ≡ changed e p.machine →
     IsHistory (record { beginning = p.beginning; edits = es; machine = m }) cs
 edited-history p cs e f step es m h n same made moved =
-    let whole : es ≡ p.edits ++ edit_of p.machine e ∷ [] = made ∙ ap (λ j. p.edits ++ record { step = j; change = f } ∷ []) n ∙ ap (λ (z : Change). p.edits ++ edit_of p.machine z ∷ []) same in
+    let whole : es ≡ p.edits ++ edit_of p.machine e ∷ [] = made ∙ ap (λ j. p.edits ++ record { step = j; change = f }
+    ∷ []) n ∙ ap (λ (z : Change). p.edits ++ edit_of p.machine z ∷ []) same in
     subst (λ xs. IsHistory (record { beginning = p.beginning; edits = xs; machine = m }) cs) (sym whole)
-    (subst (λ (s : State). IsHistory (record { beginning = p.beginning; edits = p.edits ++ edit_of p.machine e ∷ []; machine = s }) cs) (sym moved)
+    (subst (λ (s : State). IsHistory (record {
+      beginning = p.beginning;
+      edits = p.edits ++ edit_of p.machine e ∷ [];
+      machine = s;
+    }) cs) (sym moved)
     (history-edited p cs e h (changed-loaded e p.machine h.loaded)))
 
 pub same-on : (p q r x : Past) → q ≡ at_state p q.machine → r ≡ q → x ≡ at_state r x.machine → x ≡ at_state p x.machine
@@ -109,36 +138,49 @@ same-on p q r x a b c = c ∙ ap (λ (z : Past). at_state z x.machine) (b ∙ a)
 
 -- ---- going back
 
-way-taken : (p : Past) (step count : ℕ) (t : State) (c : Kept) → t.steps ≡ step → count ≤ length p.edits → IsOnTheWay p c → NoLater step count c →
+way-taken : (p : Past) (step count : ℕ) (t : State) (c : Kept) → t.steps ≡ step → count ≤ length p.edits →
+    IsOnTheWay p c → NoLater step count c →
     IsOnTheWay (record { beginning = p.beginning; edits = take count p.edits; machine = t }) c
 way-taken p step count t c e some w n =
     let few = n.some in
     let now = n.before in
     let length_is = length-take-le count p.edits some in
     let rest : drop c.edits (take count p.edits) ≡ take (count - c.edits) (drop c.edits p.edits)
-    = ap (λ j. drop c.edits (take j p.edits)) (let whole : count ≡ c.edits + (count - c.edits) = omega (arith, few) in whole) ∙ drop-take c.edits (count - c.edits) p.edits in
+    = ap (λ j. drop c.edits (take j p.edits)) (let whole : count ≡ c.edits + (count - c.edits) = omega (arith, few) in
+    whole) ∙ drop-take c.edits (count - c.edits) p.edits in
     record {
       made = omega (arith, few, length_is);
       becomes = subst (λ xs. BecomesBy p.beginning xs c.machine) (sym (take-take c.edits count p.edits few)) w.becomes;
-      next = All-same (λ z. c.machine.steps ≤ z.step) (drop c.edits (take count p.edits)) (take (count - c.edits) (drop c.edits p.edits)) rest
+      next = All-same (λ z. c.machine.steps ≤ z.step) (drop c.edits (take count p.edits))
+          (take (count - c.edits) (drop c.edits p.edits)) rest
           (All-take (λ z. c.machine.steps ≤ z.step) (count - c.edits) (drop c.edits p.edits) w.next);
       before = omega (arith, now, e);
       loaded = w.loaded;
     }
 
-ways-taken : (p : Past) (cs : List Kept) (step count kept : ℕ) (t : State) → IsHistory p cs → t.steps ≡ step → count ≤ length p.edits → kept ≡ length (take_while (is_no_later step count) cs) →
+ways-taken : (p : Past) (cs : List Kept) (step count kept : ℕ) (t : State) → IsHistory p cs → t.steps ≡ step →
+    count ≤ length p.edits → kept ≡ length (take_while (is_no_later step count) cs) →
     All (IsOnTheWay (record { beginning = p.beginning; edits = take count p.edits; machine = t })) (take kept cs)
 ways-taken p cs step count kept t h e some m = λ k d l.
     let q : Past = record { beginning = p.beginning; edits = take count p.edits; machine = t } in
     let few = front-few (is_no_later step count) cs in
     let long = length-take kept cs in
     let under : k < kept = omega (arith, l, long) in
-    let passes = no-later step count (get_or cs k d) (front-pass (is_no_later step count) cs k d (omega (arith, m, under))) in
+    let passes = no-later step count (get_or cs k d) (front-pass (is_no_later step count) cs k d (omega (
+      arith,
+      m,
+      under,
+    ))) in
     subst (IsOnTheWay q) (sym (get_or-take kept cs k d under))
     (way-taken p step count t (get_or cs k d) e some (h.ways k d (omega (arith, m, under, few))) passes)
 
-pub history-taken : (p : Past) (cs : List Kept) (step count kept : ℕ) (t : State) → IsHistory p cs → Was p step t → HasProgram t → count ≡ length (edits_to step p.edits) →
-    kept ≡ length (take_while (is_no_later step count) cs) → IsHistory (record { beginning = p.beginning; edits = take count p.edits; machine = t }) (take kept cs)
+pub history-taken : (p : Past) (cs : List Kept) (step count kept : ℕ) (t : State) → IsHistory p cs → Was p step t →
+    HasProgram t → count ≡ length (edits_to step p.edits) →
+    kept ≡ length (take_while (is_no_later step count) cs) → IsHistory (record {
+      beginning = p.beginning;
+      edits = take count p.edits;
+      machine = t;
+    }) (take kept cs)
 history-taken p cs step count kept t h w loaded n m =
     let c = cut step p.edits in
     let some = c.some in
@@ -150,17 +192,21 @@ history-taken p cs step count kept t h w loaded n m =
     }
 
 -- the history after going back, where its parts have names of their own
-pub taken-history : (p q : Past) (cs ds : List Kept) (es fs : List TimedChange) (step count kept : ℕ) (t : State) → p ≡ q → IsHistory p cs → Was q step t → HasProgram t → fs ≡ p.edits → count ≡ length (edits_to step fs) →
-    ds ≡ cs → kept ≡ length (take_while (is_no_later step count) ds) → es ≡ take count p.edits → (xs : List Kept) → xs ≡ take kept cs → IsHistory (record { beginning = p.beginning; edits = es; machine = t }) xs
+pub taken-history : (p q : Past) (cs ds : List Kept) (es fs : List TimedChange) (step count kept : ℕ) (t : State) →
+    p ≡ q → IsHistory p cs → Was q step t → HasProgram t → fs ≡ p.edits → count ≡ length (edits_to step fs) →
+    ds ≡ cs → kept ≡ length (take_while (is_no_later step count) ds) → es ≡ take count p.edits → (xs : List Kept) →
+    xs ≡ take kept cs → IsHistory (record { beginning = p.beginning; edits = es; machine = t }) xs
 taken-history p q cs ds es fs step count kept t e h w loaded f n g m x xs y =
     let was : Was p step t = subst (λ (r : Past). Was r step t) (sym e) w in
     let n2 : count ≡ length (edits_to step p.edits) = n ∙ ap (λ zs. length (edits_to step zs)) f in
-    let m2 : kept ≡ length (take_while (is_no_later step count) cs) = m ∙ ap (λ zs. length (take_while (is_no_later step count) zs)) g in
+    let m2 : kept ≡ length (take_while (is_no_later step count) cs) =
+    m ∙ ap (λ zs. length (take_while (is_no_later step count) zs)) g in
     let whole = history-taken p cs step count kept t h was loaded n2 m2 in
     subst (IsHistory (record { beginning = p.beginning; edits = es; machine = t })) (sym y)
     (subst (λ zs. IsHistory (record { beginning = p.beginning; edits = zs; machine = t }) (take kept cs)) (sym x) whole)
 
-pub taken-back : (p q : Past) (es fs : List TimedChange) (step count : ℕ) (t : State) → p ≡ q → Was q step t → fs ≡ p.edits → count ≡ length (edits_to step fs) → es ≡ take count p.edits →
+pub taken-back : (p q : Past) (es fs : List TimedChange) (step count : ℕ) (t : State) → p ≡ q → Was q step t →
+    fs ≡ p.edits → count ≡ length (edits_to step fs) → es ≡ take count p.edits →
     GoesBack q step (record { beginning = p.beginning; edits = es; machine = t })
 taken-back p q es fs step count t e w f n x =
     let c = cut step p.edits in
@@ -173,14 +219,17 @@ taken-back p q es fs step count t e w f n x =
 
 -- ---- the beginning
 
-pub beginning-history : (s o m : State) (es : List TimedChange) (cs : List Kept) → o ≡ s → m ≡ s → es ≡ [] → cs ≡ [] → HasProgram s → IsHistory (record { beginning = o; edits = es; machine = m }) cs
+pub beginning-history : (s o m : State) (es : List TimedChange) (cs : List Kept) → o ≡ s → m ≡ s → es ≡ [] → cs ≡ [] →
+    HasProgram s → IsHistory (record { beginning = o; edits = es; machine = m }) cs
 beginning-history s o m es cs e f g h loaded =
     subst (IsHistory (record { beginning = o; edits = es; machine = m })) (sym h)
     (subst (λ xs. IsHistory (record { beginning = o; edits = xs; machine = m }) []) (sym g)
     (subst (λ (u : State). IsHistory (record { beginning = o; edits = []; machine = u }) []) (sym f)
-    (subst (λ (u : State). IsHistory (record { beginning = u; edits = []; machine = s }) []) (sym e) (history-new s loaded))))
+    (subst (λ (u : State). IsHistory (record { beginning = u; edits = []; machine = s }) []) (sym e)
+    (history-new s loaded))))
 
-pub beginning-view : (p q : Past) (es : List TimedChange) (m : State) → p ≡ q → es ≡ [] → m ≡ p.beginning → record { beginning = p.beginning; edits = es; machine = m } ≡ new_past q.beginning
+pub beginning-view : (p q : Past) (es : List TimedChange) (m : State) → p ≡ q → es ≡ [] → m ≡ p.beginning →
+    record { beginning = p.beginning; edits = es; machine = m } ≡ new_past q.beginning
 beginning-view p q es m e f g =
     ap (λ xs. record { beginning = p.beginning; edits = xs; machine = m }) f
     ∙ ap (λ (s : State). record { beginning = p.beginning; edits = []; machine = s }) g
@@ -194,11 +243,14 @@ gains old new copy false e = none e
 
 -- ---- a copy of an earlier state
 
-gained-history : (p : Past) (cs ds : List Kept) (copy : Kept) → IsHistory p cs → IsOnTheWay p copy → MayGain cs copy ds → IsHistory p ds
+gained-history : (p : Past) (cs ds : List Kept) (copy : Kept) → IsHistory p cs → IsOnTheWay p copy →
+    MayGain cs copy ds → IsHistory p ds
 gained-history p cs ds copy h w (none e) = subst (IsHistory p) (sym e) h
-gained-history p cs ds copy h w (more e) = subst (IsHistory p) (sym e) (with-copies p cs (cs ++ copy ∷ []) h (All-push (IsOnTheWay p) cs copy h.ways w))
+gained-history p cs ds copy h w (more e) = subst (IsHistory p) (sym e) (with-copies p cs (cs ++ copy
+    ∷ []) h (All-push (IsOnTheWay p) cs copy h.ways w))
 
-way-then : (p : Past) (step : ℕ) (m : State) → p.beginning.steps ≤ 2 ^ 64 - 1 → step ≤ p.machine.steps → BecomesBy p.beginning p.edits p.machine → Was p step m → HasProgram m →
+way-then : (p : Past) (step : ℕ) (m : State) → p.beginning.steps ≤ 2 ^ 64 - 1 → step ≤ p.machine.steps →
+    BecomesBy p.beginning p.edits p.machine → Was p step m → HasProgram m →
     IsOnTheWay p (record { machine = m; edits = length (edits_to step p.edits) })
 way-then p step m l b h w loaded =
     let c = cut step p.edits in
@@ -206,18 +258,28 @@ way-then p step m l b h w loaded =
     record {
       made = c.some;
       becomes = subst (λ xs. BecomesBy p.beginning xs m) (sym c.front) w.becomes;
-      next = All-weaker (λ z. step ≤ z.step) (λ z. m.steps ≤ z.step) (λ z k. omega (arith, k, now)) (drop (length (edits_to step p.edits)) p.edits) (later-edits p.beginning p.machine step p.edits l h);
+      next = All-weaker (λ z. step ≤ z.step) (λ z. m.steps ≤ z.step) (λ z k. omega (
+        arith,
+        k,
+        now,
+      )) (drop (length (edits_to step p.edits)) p.edits) (later-edits p.beginning p.machine step p.edits l h);
       before = omega (arith, b, now);
       loaded = loaded;
     }
 
-pub history-inserted : (p q : Past) (cs ds es fs : List Kept) (xs : List TimedChange) (step count kept : ℕ) (m : State) → p ≡ q → IsHistory p cs → p.beginning.steps ≤ 2 ^ 64 - 1 → step ≤ q.machine.steps → Was q step m → HasProgram m →
-    xs ≡ p.edits → count ≡ length (edits_to step xs) → ds ≡ take kept cs → LosesOne ds es → MayGain es (record { machine = m; edits = count }) fs → IsHistory p fs
+pub history-inserted : (p q : Past) (cs ds es fs : List Kept) (xs : List TimedChange) (step count kept : ℕ)
+    (m : State) → p ≡ q → IsHistory p cs → p.beginning.steps ≤ 2 ^ 64 - 1 → step ≤ q.machine.steps → Was q step m →
+    HasProgram m →
+    xs ≡ p.edits → count ≡ length (edits_to step xs) → ds ≡ take kept cs → LosesOne ds es →
+    MayGain es (record { machine = m; edits = count }) fs → IsHistory p fs
 history-inserted p q cs ds es fs xs step count kept m e h l b w loaded f n g lost gained =
     let was : Was p step m = subst (λ (r : Past). Was r step m) (sym e) w in
     let before : step ≤ p.machine.steps = subst (λ (r : Past). step ≤ r.machine.steps) (sym e) b in
     let n2 : count ≡ length (edits_to step p.edits) = n ∙ ap (λ zs. length (edits_to step zs)) f in
-    let cutoff : IsHistory p ds = subst (IsHistory p) (sym g) (with-copies p cs (take kept cs) h (All-take (IsOnTheWay p) kept cs h.ways)) in
+    let cutoff : IsHistory p ds = subst (IsHistory p) (sym g) (with-copies p cs (take kept cs) h
+    (All-take (IsOnTheWay p) kept cs h.ways)) in
     let fewer = history-fewer p ds es cutoff lost in
-    let way : IsOnTheWay p (record { machine = m; edits = count }) = subst (λ k. IsOnTheWay p (record { machine = m; edits = k })) (sym n2) (way-then p step m l before h.becomes was loaded) in
+    let way : IsOnTheWay p (record { machine = m; edits = count }) =
+    subst (λ k. IsOnTheWay p (record { machine = m; edits = k })) (sym n2)
+    (way-then p step m l before h.becomes was loaded) in
     gained-history p es fs (record { machine = m; edits = count }) fewer way gained

@@ -33,7 +33,8 @@ record Ended (s t : State) : Type 0 where
   pub code : ℕ
   pub exited : t.exited ≡ Some code
 
-ended : (s t : State) (code : ℕ) → s.exited ≡ None → Counts s (record { stop = Some (Exited code); state = t }) → Ended s t
+ended : (s t : State) (code : ℕ) → s.exited ≡ None → Counts s (record { stop = Some (Exited code); state = t }) →
+    Ended s t
 ended s t code n (goes e f g) = absurd (none≢some (Exited code) (sym e))
 ended s t code n (ends d e f g) = record { steps = f; code = d; exited = g }
 ended s t code n (over d e f) = absurd (none≢some d (sym n ∙ e))
@@ -44,7 +45,8 @@ pub leads-steps : (s t : State) → HasStepTo s t → t.steps ≡ counted s.step
 leads-steps s t (on h) = (goes-on s t (steps-count s _ h)).steps
 leads-steps s t (end code e h) = (ended s t code e (steps-count s _ h)).steps
 
-alive-by : (s t : State) (o : Option ℕ) → s.exited ≡ o → MakesStep s (record { stop = None; state = t }) → s.exited ≡ None
+alive-by : (s t : State) (o : Option ℕ) → s.exited ≡ o → MakesStep s (record { stop = None; state = t }) →
+    s.exited ≡ None
 alive-by s t None e h = e
 alive-by s t (Some code) e h = absurd (none≢some (Exited code) (ap (λ (x : Answer). x.stop) (ended-stays s code _ e h)))
 
@@ -54,14 +56,17 @@ leads-alive s t (end code e h) = e
 
 pub leads-one : (s t u : State) → HasStepTo s t → HasStepTo s u → t ≡ u
 leads-one s t u (on h) (on g) = ap (λ (x : Answer). x.state) (steps-one s _ _ h g)
-leads-one s t u (on h) (end code e g) = absurd (none≢some (Exited code) (ap (λ (x : Answer). x.stop) (steps-one s _ _ h g)))
-leads-one s t u (end code e h) (on g) = absurd (none≢some (Exited code) (ap (λ (x : Answer). x.stop) (steps-one s _ _ g h)))
+leads-one s t u (on h) (end code e g) =
+    absurd (none≢some (Exited code) (ap (λ (x : Answer). x.stop) (steps-one s _ _ h g)))
+leads-one s t u (end code e h) (on g) =
+    absurd (none≢some (Exited code) (ap (λ (x : Answer). x.stop) (steps-one s _ _ g h)))
 leads-one s t u (end code e h) (end d f g) = ap (λ (x : Answer). x.state) (steps-one s _ _ h g)
 
 -- a step that does not end the program
 pub leads-on : (s t : State) → HasStepTo s t → t.exited ≡ None → MakesStep s (record { stop = None; state = t })
 leads-on s t (on h) n = h
-leads-on s t (end code e h) n = let x = ended s t code e (steps-count s _ h) in absurd (none≢some x.code (sym n ∙ x.exited))
+leads-on s t (end code e h) n = let x = ended s t code e (steps-count s _ h) in
+    absurd (none≢some x.code (sym n ∙ x.exited))
 
 pub changed-steps : (c : Change) (s : State) → (changed c s).steps ≡ s.steps
 changed-steps (Registers cpu) s = refl

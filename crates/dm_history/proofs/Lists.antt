@@ -26,7 +26,8 @@ record CutAt (step : ℕ) (es front : List TimedChange) : Type 0 where
   pub after : AreAfter step (drop (length front) es)
   pub some : length front ≤ length es
 
-more : (step : ℕ) (e : TimedChange) (es front : List TimedChange) (b : Bool) → is_made step e ≡ b → CutAt step es front → CutAt step (e ∷ es) (cond b (e ∷ front) [])
+more : (step : ℕ) (e : TimedChange) (es front : List TimedChange) (b : Bool) → is_made step e ≡ b →
+    CutAt step es front → CutAt step (e ∷ es) (cond b (e ∷ front) [])
 more step e es front true made c =
     let some = c.some in
     record {
@@ -45,7 +46,8 @@ more step e es front false made c = record {
 cut-at : (step : ℕ) (es : List TimedChange) → CutAt step es (edits_to step es)
 cut-at step [] = record { is = refl; within = All-nil (λ z. z.step ≤ step); after = tt; some = omega arith }
 cut-at step (e ∷ es) =
-    subst (CutAt step (e ∷ es)) (sym (take_while-cons (is_made step) e es)) (more step e es (edits_to step es) (is_made step e) refl (cut-at step es))
+    subst (CutAt step (e ∷ es)) (sym (take_while-cons (is_made step) e es)) (more step e es (edits_to step es)
+    (is_made step e) refl (cut-at step es))
 
 pub cut : (step : ℕ) (es : List TimedChange) → Cut step es
 cut step es = let c = cut-at step es in record { front = c.is; within = c.within; after = c.after; some = c.some }

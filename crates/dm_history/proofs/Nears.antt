@@ -20,12 +20,15 @@ near-goes : (ps : List Breakpoint) (s t : State) (n : ℕ) → GoesNear ps s n t
 near-goes ps s _ _ start = run.here
 near-goes ps s _ _ (ended n t u g h) = run.further n t u (within-goes ps s t n g) h
 
-pub history-near : (p : Past) (cs : List Kept) (ps : List Breakpoint) (t : State) (n : ℕ) → p.machine.steps ≤ 2 ^ 64 - 1 → IsHistory p cs → GoesNear ps p.machine n t → HasProgram t → IsHistory (at_state p t) cs
+pub history-near : (p : Past) (cs : List Kept) (ps : List Breakpoint) (t : State) (n : ℕ) →
+    p.machine.steps ≤ 2 ^ 64 - 1 → IsHistory p cs → GoesNear ps p.machine n t → HasProgram t →
+    IsHistory (at_state p t) cs
 history-near p cs ps t n l h g loaded =
     let goes = near-goes ps p.machine t n g in
     record {
       becomes = goes-becomes p.beginning p.machine t p.edits n h.becomes goes;
       beginning = h.beginning;
       loaded = loaded;
-      ways = All-weaker (IsOnTheWay p) (IsOnTheWay (at_state p t)) (λ c w. way-on p t c (goes-rise p.machine t n l goes).0 w) cs h.ways;
+      ways = All-weaker (IsOnTheWay p) (IsOnTheWay (at_state p t)) (λ c w. way-on p t c
+          (goes-rise p.machine t n l goes).0 w) cs h.ways;
     }

@@ -63,12 +63,14 @@ rises s _ _ (stepped es t u b h) l =
     omega (arith, e, before)
 
 -- the edits were made up to now
-pub edits-before : (s t : State) (es : List TimedChange) → BecomesBy s es t → t.steps < 2 ^ 64 - 1 → All (λ e. e.step ≤ t.steps) es
+pub edits-before : (s t : State) (es : List TimedChange) → BecomesBy s es t → t.steps < 2 ^ 64 - 1 →
+    All (λ e. e.step ≤ t.steps) es
 edits-before s _ _ start l = All-nil (λ e. e.step ≤ s.steps)
 edits-before s _ _ (edited es t c b) l =
     let e = changed-steps c t in
     let before = edits-before s t es b (omega (arith, e)) in
-    let raised : All (λ e. e.step ≤ (changed c t).steps) es = All-weaker (λ e. e.step ≤ t.steps) (λ e. e.step ≤ (changed c t).steps) (λ x h. omega (arith, e, h)) es before in
+    let raised : All (λ e. e.step ≤ (changed c t).steps) es =
+    All-weaker (λ e. e.step ≤ t.steps) (λ e. e.step ≤ (changed c t).steps) (λ x h. omega (arith, e, h)) es before in
     All-push (λ e. e.step ≤ (changed c t).steps) es (edit_of t c) raised (omega (arith, e))
 edits-before s _ _ (stepped es t u b h) l =
     let e = counted-one t u h l in
@@ -76,21 +78,25 @@ edits-before s _ _ (stepped es t u b h) l =
     All-weaker (λ e. e.step ≤ t.steps) (λ e. e.step ≤ u.steps) (λ x h. omega (arith, e, h)) es before
 
 -- no edit was made after the last step
-not-now : (s t u v : State) (es fs : List TimedChange) (c : Change) → BecomesBy s fs t → HasStepTo t u → es ++ edit_of v c ∷ [] ≡ fs → v.steps ≡ u.steps → u.steps < 2 ^ 64 - 1 → ⊥
+not-now : (s t u v : State) (es fs : List TimedChange) (c : Change) → BecomesBy s fs t → HasStepTo t u → es
+    ++ edit_of v c ∷ [] ≡ fs → v.steps ≡ u.steps → u.steps < 2 ^ 64 - 1 → ⊥
 not-now s t u v es fs c b h e f l =
     let next = counted-one t u h l in
-    let before : All (λ x. x.step ≤ t.steps) (es ++ edit_of v c ∷ []) = All-same (λ x. x.step ≤ t.steps) (es ++ edit_of v c ∷ []) fs e (edits-before s t fs b (omega (arith, next))) in
+    let before : All (λ x. x.step ≤ t.steps) (es ++ edit_of v c ∷ []) = All-same (λ x. x.step ≤ t.steps) (es
+    ++ edit_of v c ∷ []) fs e (edits-before s t fs b (omega (arith, next))) in
     let last : v.steps ≤ t.steps = All-last (λ x. x.step ≤ t.steps) es (edit_of v c) before in
     omega (arith, next, last, f)
 
 -- no step was made after a start with as many
-not-then : (s t u : State) (es : List TimedChange) → BecomesBy s es t → HasStepTo t u → s.steps ≡ u.steps → u.steps < 2 ^ 64 - 1 → ⊥
+not-then : (s t u : State) (es : List TimedChange) → BecomesBy s es t → HasStepTo t u → s.steps ≡ u.steps →
+    u.steps < 2 ^ 64 - 1 → ⊥
 not-then s t u es b h f l =
     let next = counted-one t u h l in
     let before = rises s t es b (omega (arith, next)) in
     omega (arith, next, before, f)
 
-one-state : (s t u : State) (es fs : List TimedChange) → BecomesBy s es t → BecomesBy s fs u → es ≡ fs → t.steps ≡ u.steps → u.steps < 2 ^ 64 - 1 → t ≡ u
+one-state : (s t u : State) (es fs : List TimedChange) → BecomesBy s es t → BecomesBy s fs u → es ≡ fs →
+    t.steps ≡ u.steps → u.steps < 2 ^ 64 - 1 → t ≡ u
 one-state s _ _ _ _ start start e f l = refl
 one-state s _ _ _ _ start (edited fs u d y) e f l = absurd (no-snoc fs (edit_of u d) (sym e))
 one-state s _ _ _ fs start (stepped fs' u v y h) e f l = absurd (not-then s u v fs' y h f l)

@@ -21,14 +21,16 @@ data Stopped (s t : State) : Type 0 where
   same : t ≡ s → Stopped s t
   ended : HasStepTo s t → Stopped s t
 
-stopped-by : (s t : State) (stop : Stop) → s.exited ≡ None → MakesStep s (record { stop = Some stop; state = t }) → Counts s (record { stop = Some stop; state = t }) → Stopped s t
+stopped-by : (s t : State) (stop : Stop) → s.exited ≡ None → MakesStep s (record { stop = Some stop; state = t }) →
+    Counts s (record { stop = Some stop; state = t }) → Stopped s t
 stopped-by s t stop n h (goes e f g) = absurd (none≢some stop (sym e))
 stopped-by s t stop n h (ends code e f g) =
     ended (end code n (subst (λ (o : Option Stop). MakesStep s (record { stop = o; state = t })) e h))
 stopped-by s t stop n h (counts.over code e f) = absurd (none≢some code (sym n ∙ e))
 stopped-by s t stop n h (stays why p f) = same (ap (λ (x : Answer). x.state) f)
 
-stopped-at : (s t : State) (stop : Stop) (o : Option ℕ) → s.exited ≡ o → MakesStep s (record { stop = Some stop; state = t }) → Stopped s t
+stopped-at : (s t : State) (stop : Stop) (o : Option ℕ) → s.exited ≡ o →
+    MakesStep s (record { stop = Some stop; state = t }) → Stopped s t
 stopped-at s t stop None e h = stopped-by s t stop e h (steps-count s _ h)
 stopped-at s t stop (Some code) e h = same (ap (λ (x : Answer). x.state) (ended-stays s code _ e h))
 
@@ -40,7 +42,8 @@ stopped-becomes : (o s t : State) (es : List TimedChange) → BecomesBy o es s �
 stopped-becomes o s t es b (same e) = subst (BecomesBy o es) (sym e) b
 stopped-becomes o s t es b (ended h) = stepped es s t b h
 
-pub run-becomes : (o s t : State) (es : List TimedChange) (n : ℕ) (stop : Stop) → BecomesBy o es s → IsRun s n stop t → BecomesBy o es t
+pub run-becomes : (o s t : State) (es : List TimedChange) (n : ℕ) (stop : Stop) → BecomesBy o es s → IsRun s n stop t →
+    BecomesBy o es t
 run-becomes o s t es n stop b (over code e f g) = subst (BecomesBy o es) (sym g) b
 run-becomes o s t es n stop b (whole e f g) = goes-becomes o s t es n b g
 run-becomes o s t es n stop b (cut e w) =
@@ -79,7 +82,8 @@ pub record Whole (s : State) (n : ℕ) (t : State) : Type 0 where
 no-last : (s t : State) → Counts s (record { stop = Some AllSteps; state = t }) → ⊥
 no-last s t (goes e f g) = none≢some AllSteps (sym e)
 no-last s t (ends code e f g) = let no : AllSteps ≡ Exited code = same-some AllSteps (Exited code) e in cc
-no-last s t (counts.over code e f) = let no : AllSteps ≡ Exited code = same-some AllSteps (Exited code) (ap (λ (x : Answer). x.stop) f) in cc
+no-last s t (counts.over code e f) = let no : AllSteps ≡ Exited code =
+    same-some AllSteps (Exited code) (ap (λ (x : Answer). x.stop) f) in cc
 no-last s t (stays stop p f) = subst IsEarly (sym (same-some AllSteps stop (ap (λ (x : Answer). x.stop) f))) p
 
 pub all-made : (s t : State) (n : ℕ) (stop : Stop) → stop ≡ AllSteps → IsRun s n stop t → Whole s n t
@@ -95,17 +99,32 @@ goes-join s t _ m _ g (further n v u h x) =
     let e : (m + n) + 1 ≡ m + (n + 1) = omega arith in
     subst (λ k. Goes s k u) e (further (m + n) v u (goes-join s t v m n g h) x)
 
-pub runs-join : (s t u : State) (m n : ℕ) (stop : Stop) → 0 < n → IsRun s m AllSteps t → IsRun t n stop u → IsRun s (m + n) stop u
+pub runs-join : (s t u : State) (m n : ℕ) (stop : Stop) → 0 < n → IsRun s m AllSteps t → IsRun t n stop u →
+    IsRun s (m + n) stop u
 runs-join s t u m n stop some r (over code e f g) =
     let a = all-made s t m AllSteps refl r in
     let end : MakesStep t (stop_at (Exited code) t) = ended-step t code e in
-    let last : MakesStep t (record { stop = Some (Exited code); state = u }) = subst (λ (v : State). MakesStep t (record { stop = Some (Exited code); state = v })) (sym g) end in
-    cut a.alive (record { made = m; before = t; fewer = omega arith; goes = a.goes; answers = subst (λ (why : Stop). Answers t (Some why) u) (sym f) last })
-runs-join s t u m n stop some r (whole e f g) = let a = all-made s t m AllSteps refl r in whole a.alive f (goes-join s t u m n a.goes g)
+    let last : MakesStep t (record { stop = Some (Exited code); state = u }) =
+    subst (λ (v : State). MakesStep t (record { stop = Some (Exited code); state = v })) (sym g) end in
+    cut a.alive (record {
+      made = m;
+      before = t;
+      fewer = omega arith;
+      goes = a.goes;
+      answers = subst (λ (why : Stop). Answers t (Some why) u) (sym f) last;
+    })
+runs-join s t u m n stop some r (whole e f g) = let a = all-made s t m AllSteps refl r in
+    whole a.alive f (goes-join s t u m n a.goes g)
 runs-join s t u m n stop some r (cut e w) =
     let a = all-made s t m AllSteps refl r in
     let fewer = w.fewer in
-    cut a.alive (record { made = m + w.made; before = w.before; fewer = omega (arith, fewer); goes = goes-join s t w.before m w.made a.goes w.goes; answers = w.answers })
+    cut a.alive (record {
+      made = m + w.made;
+      before = w.before;
+      fewer = omega (arith, fewer);
+      goes = goes-join s t w.before m w.made a.goes w.goes;
+      answers = w.answers;
+    })
 
 -- a run that stopped early stops there with a higher limit too
 pub run-more : (s t : State) (m n : ℕ) (stop : Stop) → m ≤ n → stop ≢ AllSteps → IsRun s m stop t → IsRun s n stop t
@@ -113,15 +132,24 @@ run-more s t m n stop l p (over code e f g) = over code e f g
 run-more s t m n stop l p (whole e f g) = absurd (p f)
 run-more s t m n stop l p (cut e w) =
     let fewer = w.fewer in
-    cut e (record { made = w.made; before = w.before; fewer = omega (arith, fewer); goes = w.goes; answers = w.answers })
+    cut e (record {
+      made = w.made;
+      before = w.before;
+      fewer = omega (arith, fewer);
+      goes = w.goes;
+      answers = w.answers;
+    })
 
 pub run-at : (s t : State) (m n : ℕ) (stop : Stop) → m ≡ n → IsRun s m stop t → IsRun s n stop t
 run-at s t m n stop e r = subst (λ k. IsRun s k stop t) e r
 
 -- the next part of a run
-pub run-on : (s u : State) (most left part : ℕ) (a b : Stop) (q r : Past) → a ≡ AllSteps → r ≡ q → 0 < part → part ≤ left → left ≤ most → IsRun s (most - left) a q.machine → IsRun r.machine part b u →
+pub run-on : (s u : State) (most left part : ℕ) (a b : Stop) (q r : Past) → a ≡ AllSteps → r ≡ q → 0 < part →
+    part ≤ left → left ≤ most → IsRun s (most - left) a q.machine → IsRun r.machine part b u →
     IsRun s (most - (left - part)) b u
 run-on s u most left part a b q r e f some few within x y =
-    let first : IsRun s (most - left) AllSteps q.machine = subst (λ (why : Stop). IsRun s (most - left) why q.machine) e x in
+    let first : IsRun s (most - left) AllSteps q.machine =
+    subst (λ (why : Stop). IsRun s (most - left) why q.machine) e x in
     let next : IsRun q.machine part b u = subst (λ (p : Past). IsRun p.machine part b u) f y in
-    run-at s u (most - left + part) (most - (left - part)) b (omega arith) (runs-join s q.machine u (most - left) part b some first next)
+    run-at s u (most - left + part) (most - (left - part)) b (omega arith) (runs-join s q.machine u
+    (most - left) part b some first next)

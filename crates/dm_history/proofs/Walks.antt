@@ -48,7 +48,8 @@ pub record Gone (s t : State) : Type 0 where
   pub steps : s.steps + made ≡ t.steps
   pub alive : s.exited ≡ None
 
-pub all-goes : (s t : State) (es : List TimedChange) → BecomesBy s es t → es ≡ [] → t.exited ≡ None → t.steps < 2 ^ 64 - 1 → Gone s t
+pub all-goes : (s t : State) (es : List TimedChange) → BecomesBy s es t → es ≡ [] → t.exited ≡ None →
+    t.steps < 2 ^ 64 - 1 → Gone s t
 all-goes s _ _ start e n l = record { made = 0; goes = here; steps = omega arith; alive = n }
 all-goes s _ _ (edited es t c b) e n l = absurd (no-snoc es (edit_of t c) e)
 all-goes s _ _ (stepped es t u b h) e n l =
@@ -70,7 +71,8 @@ pub record Front (s : State) (e : TimedChange) (rest : List TimedChange) (t : St
   pub steps : before.steps ≡ e.step
   pub on : BecomesBy (changed e.change before) rest t
 
-front-edited : (s t : State) (c : Change) (e : TimedChange) (rest es : List TimedChange) → BecomesBy s es t → ((f : TimedChange) (fs : List TimedChange) → es ≡ f ∷ fs → Front s f fs t) → es ++ edit_of t c ∷ [] ≡ e ∷ rest →
+front-edited : (s t : State) (c : Change) (e : TimedChange) (rest es : List TimedChange) → BecomesBy s es t →
+    ((f : TimedChange) (fs : List TimedChange) → es ≡ f ∷ fs → Front s f fs t) → es ++ edit_of t c ∷ [] ≡ e ∷ rest →
     Front s e rest (changed c t)
 front-edited s t c e rest [] b ih q =
     let same : edit_of t c ≡ e = cc in
@@ -91,10 +93,12 @@ front-edited s t c e rest (f ∷ fs) b ih q =
       becomes = x.becomes;
       steps = x.steps ∙ ap (λ (z : TimedChange). z.step) same;
       on = subst (λ (es : List TimedChange). BecomesBy (changed e.change x.before) es (changed c t)) tail
-          (subst (λ (z : TimedChange). BecomesBy (changed z.change x.before) (fs ++ edit_of t c ∷ []) (changed c t)) same (edited fs t c x.on));
+          (subst (λ (z : TimedChange). BecomesBy (changed z.change x.before) (fs ++ edit_of t c
+          ∷ []) (changed c t)) same (edited fs t c x.on));
     }
 
-pub front : (s t : State) (es : List TimedChange) (e : TimedChange) (rest : List TimedChange) → BecomesBy s es t → es ≡ e ∷ rest → Front s e rest t
+pub front : (s t : State) (es : List TimedChange) (e : TimedChange) (rest : List TimedChange) → BecomesBy s es t →
+    es ≡ e ∷ rest → Front s e rest t
 front s _ _ e rest start q = let no : [] ≡ e ∷ rest = q in absurd (cc)
 front s _ _ e rest (edited es t c b) q = front-edited s t c e rest es b (λ f fs p. front s t es f fs b p) q
 front s _ _ e rest (stepped es t u b h) q =
@@ -113,13 +117,16 @@ pub fewer-after : (step : ℕ) (es : List TimedChange) (x : TimedChange) → Are
 fewer-after step [] x h = tt
 fewer-after step (e ∷ es) x h = h
 
-pub no-edits : (s t : State) (step : ℕ) (es : List TimedChange) → BecomesBy s es t → t.steps ≡ step → step < 2 ^ 64 - 1 → AreAfter step es → BecomesBy s [] t
+pub no-edits : (s t : State) (step : ℕ) (es : List TimedChange) → BecomesBy s es t → t.steps ≡ step →
+    step < 2 ^ 64 - 1 → AreAfter step es → BecomesBy s [] t
 no-edits s t step [] b e l a = b
 no-edits s t step (x ∷ xs) b e l a =
-    let first : x.step ≤ t.steps = All-head (λ z. z.step ≤ t.steps) x xs (edits-before s t (x ∷ xs) b (omega (arith, e))) in
+    let first : x.step ≤ t.steps = All-head (λ z. z.step ≤ t.steps) x xs (edits-before s t (x
+    ∷ xs) b (omega (arith, e))) in
     absurd (omega (arith, first, e, a))
 
-pub midway : (s t : State) (es : List TimedChange) (step : ℕ) → BecomesBy s es t → step < 2 ^ 64 - 1 → s.steps ≤ step → step < t.steps → AreAfter step es → Midway s step
+pub midway : (s t : State) (es : List TimedChange) (step : ℕ) → BecomesBy s es t → step < 2 ^ 64 - 1 → s.steps ≤ step →
+    step < t.steps → AreAfter step es → Midway s step
 midway s _ _ step start l b a h = absurd (omega (arith, b, a))
 midway s _ _ step (edited es t c x) l b a h =
     let e = changed-steps c t in
@@ -151,7 +158,8 @@ none-both step (x ∷ xs) a b =
     absurd (omega (arith, low, high))
 
 -- all edits are done, and no step is left
-all-done : (o t : State) (es : List TimedChange) (k : ℕ) → BecomesBy o es t → take k es ≡ es → drop k es ≡ [] → Split o es k t.steps t
+all-done : (o t : State) (es : List TimedChange) (k : ℕ) → BecomesBy o es t → take k es ≡ es → drop k es ≡ [] →
+    Split o es k t.steps t
 all-done o t es k b e f = record {
   at = t;
   before = subst (λ (xs : List TimedChange). BecomesBy o xs t) (sym e) b;
@@ -162,40 +170,54 @@ all-done o t es k b e f = record {
 at-step : (o t : State) (es : List TimedChange) (k m n : ℕ) → m ≡ n → Split o es k m t → Split o es k n t
 at-step o t es k m n e s = subst (λ j. Split o es k j t) e s
 
-more-edits : (o t : State) (es : List TimedChange) (c : Change) (k step : ℕ) → k ≤ length es → Split o es k step t → Split o (es ++ edit_of t c ∷ []) k step (changed c t)
+more-edits : (o t : State) (es : List TimedChange) (c : Change) (k step : ℕ) → k ≤ length es → Split o es k step t →
+    Split o (es ++ edit_of t c ∷ []) k step (changed c t)
 more-edits o t es c k step l s = record {
   at = s.at;
-  before = subst (λ (xs : List TimedChange). BecomesBy o xs s.at) (sym (take-append-le k es (edit_of t c ∷ []) l)) s.before;
-  after = subst (λ (xs : List TimedChange). BecomesBy s.at xs (changed c t)) (sym (drop-append-le k es (edit_of t c ∷ []) l)) (edited (drop k es) t c s.after);
+  before = subst (λ (xs : List TimedChange). BecomesBy o xs s.at) (sym (take-append-le k es (edit_of t c ∷ []) l))
+      s.before;
+  after = subst (λ (xs : List TimedChange). BecomesBy s.at xs (changed c t)) (sym (drop-append-le k es (edit_of t c
+      ∷ []) l)) (edited (drop k es) t c s.after);
   steps = s.steps;
 }
 
-pub split : (o t : State) (es : List TimedChange) (k step : ℕ) → BecomesBy o es t → k ≤ length es → step < 2 ^ 64 - 1 → o.steps ≤ step → step ≤ t.steps →
+pub split : (o t : State) (es : List TimedChange) (k step : ℕ) → BecomesBy o es t → k ≤ length es → step < 2 ^ 64 - 1 →
+    o.steps ≤ step → step ≤ t.steps →
     All (λ e. e.step ≤ step) (take k es) → All (λ e. step ≤ e.step) (drop k es) → Split o es k step t
-split o _ _ k step start l m a b p q = at-step o o [] k o.steps step (omega (arith, a, b)) (all-done o o [] k start (take_all k [] (omega arith)) (drop_all k [] (omega arith)))
+split o _ _ k step start l m a b p q = at-step o o [] k o.steps step (omega (
+  arith,
+  a,
+  b,
+)) (all-done o o [] k start (take_all k [] (omega arith)) (drop_all k [] (omega arith)))
 split o _ _ k step (edited es t c x) l m a b p q = elim (cases_lt (length es) k) [
   | inl all ↦
       let e = changed-steps c t in
       let whole = es ++ edit_of t c ∷ [] in
       let long : length whole ≤ k = omega (arith, all, length-append es (edit_of t c ∷ [])) in
       let made = take_all k whole long in
-      let last : t.steps ≤ step = All-last (λ z. z.step ≤ step) es (edit_of t c) (All-same (λ z. z.step ≤ step) whole (take k whole) (sym made) p) in
+      let last : t.steps ≤ step = All-last (λ z. z.step ≤ step) es (edit_of t c) (All-same (λ z. z.step
+      ≤ step) whole (take k whole) (sym made) p) in
       at-step o (changed c t) whole k (changed c t).steps step (omega (arith, e, b, last))
       (all-done o (changed c t) whole k (edited es t c x) made (drop_all k whole long))
   | inr few ↦
       let e = changed-steps c t in
       let add = edit_of t c ∷ [] in
-      let p2 : All (λ z. z.step ≤ step) (take k es) = All-same (λ z. z.step ≤ step) (take k es) (take k (es ++ add)) (sym (take-append-le k es add few)) p in
-      let q2 : All (λ z. step ≤ z.step) (drop k es ++ add) = All-same (λ z. step ≤ z.step) (drop k es ++ add) (drop k (es ++ add)) (sym (drop-append-le k es add few)) q in
-      more-edits o t es c k step few (split o t es k step x few m a (omega (arith, e, b)) p2 (All-left (λ z. step ≤ z.step) (drop k es) add q2))
+      let p2 : All (λ z. z.step ≤ step) (take k es) = All-same (λ z. z.step ≤ step) (take k es) (take k (es
+      ++ add)) (sym (take-append-le k es add few)) p in
+      let q2 : All (λ z. step ≤ z.step) (drop k es ++ add) = All-same (λ z. step ≤ z.step) (drop k es
+      ++ add) (drop k (es ++ add)) (sym (drop-append-le k es add few)) q in
+      more-edits o t es c k step few (split o t es k step x few m a (omega (arith, e, b)) p2
+      (All-left (λ z. step ≤ z.step) (drop k es) add q2))
 ]
 split o _ _ k step (stepped es t u x g) l m a b p q = elim (cases_lt t.steps step) [
   | inl over ↦
       let e = leads-steps t u g in
       let now : u.steps ≡ step = omega (arith, e, over, b, m) in
       let before = edits-before o t es x (omega (arith, over, m)) in
-      let none : drop k es ≡ [] = none-both step (drop k es) q (All-drop (λ z. z.step < step) k es (All-weaker (λ z. z.step ≤ t.steps) (λ z. z.step < step) (λ z h. omega (arith, h, over)) es before)) in
-      let all : take k es ≡ es = sym (append-nil (take k es)) ∙ ap (λ (xs : List TimedChange). take k es ++ xs) (sym none) ∙ take-append-drop k es in
+      let none : drop k es ≡ [] = none-both step (drop k es) q (All-drop (λ z. z.step < step) k es
+      (All-weaker (λ z. z.step ≤ t.steps) (λ z. z.step < step) (λ z h. omega (arith, h, over)) es before)) in
+      let all : take k es ≡ es = sym (append-nil (take k es)) ∙ ap (λ (xs : List TimedChange). take k es
+      ++ xs) (sym none) ∙ take-append-drop k es in
       at-step o u es k u.steps step now (all-done o u es k (stepped es t u x g) all none)
   | inr under ↦
       let s = split o t es k step x l m a under p q in

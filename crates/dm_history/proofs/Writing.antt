@@ -28,7 +28,9 @@ each_is m s o (x ∷ xs) h =
     ∙ ap (λ k. with_bytes (poke m (linear m.a20 s k) x) s (suc o) xs) (sym same)
 
 -- all are written, and nothing else has changed
-pub all_entered : (v w : State) (s o p i : ℕ) (xs : List ℕ) → length xs ≤ i → o < 65536 → w ≡ record v { memory = w.memory } → each w.memory s p (drop i xs) ≡ each v.memory s o xs →
+pub all_entered : (v w : State) (s o p i : ℕ) (xs : List ℕ) → length xs ≤ i → o < 65536 →
+    w ≡ record v { memory = w.memory } → each w.memory s p (drop i xs) ≡ each v.memory s o xs →
     w ≡ record v { memory = with_bytes v.memory s o xs }
 all_entered v w s o p i xs h low others left =
-    others ∙ ap (λ (m : Memory). record v { memory = m }) (sym (at_drop_all (each w.memory s p) xs i h) ∙ left ∙ each_is v.memory s o xs low)
+    others ∙ ap (λ (m : Memory). record v { memory = m }) (sym (at_drop_all (each w.memory s p) xs i h) ∙ left
+    ∙ each_is v.memory s o xs low)

@@ -15,5 +15,6 @@ pub data HasStepTo (s t : State) : Type 0 where
 -- s becomes this state by steps and by these edits, each made when so many steps had been made
 pub data BecomesBy (s : State) : List TimedChange → State → Type 0 where
   start : BecomesBy s [] s
-  edited : (es : List TimedChange) (t : State) (c : Change) → BecomesBy s es t → BecomesBy s (es ++ record { step = t.steps; change = c } ∷ []) (changed c t)
+  edited : (es : List TimedChange) (t : State) (c : Change) → BecomesBy s es t →
+      BecomesBy s (es ++ record { step = t.steps; change = c } ∷ []) (changed c t)
   stepped : (es : List TimedChange) (t u : State) → BecomesBy s es t → HasStepTo t u → BecomesBy s es u

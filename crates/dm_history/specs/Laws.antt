@@ -7,4 +7,5 @@ use Rattle.dm_history.specs.Becomes.{BecomesBy}
 -- s becomes at most one state by these edits and so many steps. It is about counts below 2^64 - 1: there the count
 -- stays
 abbrev pub ThereIsOneState : Type 0
-ThereIsOneState = (s t u : State) (es : List TimedChange) → BecomesBy s es t → BecomesBy s es u → t.steps ≡ u.steps → u.steps < 2 ^ 64 - 1 → t ≡ u
+ThereIsOneState = (s t u : State) (es : List TimedChange) → BecomesBy s es t → BecomesBy s es u → t.steps ≡ u.steps →
+    u.steps < 2 ^ 64 - 1 → t ≡ u

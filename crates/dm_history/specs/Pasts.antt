@@ -22,7 +22,10 @@ at_state p s = record p { machine = s }
 
 -- the history after a change made now
 abbrev pub with_change : Past → Change → Past
-with_change p c = record p { edits = p.edits ++ record { step = p.machine.steps; change = c } ∷ []; machine = changed c p.machine }
+with_change p c = record p {
+  edits = p.edits ++ record { step = p.machine.steps; change = c } ∷ [];
+  machine = changed c p.machine;
+}
 
 -- the history p was in this state after so many steps, with the edits made up to then
 pub record Was (p : Past) (step : ℕ) (s : State) : Type 0 where

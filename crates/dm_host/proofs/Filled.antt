@@ -5,7 +5,8 @@ use Rattle.dm_space.specs.Memory.{Memory, linear, peek}
 use Rattle.dm_space.proofs.Copies.{values-more}
 use Rattle.dm_host.specs.Memory.{byte_at_offset, bytes_at}
 
-pub read_more : (m : Memory) (segment offset place at : ℕ) (xs : List ℕ) → place < length xs → at ≡ (offset + place) % 65536 → take place xs ≡ bytes_at m segment offset place
+pub read_more : (m : Memory) (segment offset place at : ℕ) (xs : List ℕ) → place < length xs →
+    at ≡ (offset + place) % 65536 → take place xs ≡ bytes_at m segment offset place
     → take (place + 1) (set xs place (peek m (linear m.a20 segment at))) ≡ bytes_at m segment offset (place + 1)
 read_more m segment offset place at xs within at_is done =
     take_more_set xs place (peek m (linear m.a20 segment at)) within

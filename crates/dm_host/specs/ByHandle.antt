@@ -13,7 +13,8 @@ use Rattle.dm_host.specs.Hosts.{Hosted, Shows, IsNotLoaded}
 -- the buffer `new` is filled with the bytes from the offset on, if there are as many (true); otherwise it is `old`
 -- (false)
 abbrev pub FillsBuffer : List ℕ → ℕ → List ℕ → List ℕ → Bool → Type 0
-FillsBuffer bytes offset old new true = (offset + length old ≤ length bytes) × (new ≡ take (length old) (drop offset bytes))
+FillsBuffer bytes offset old new true = (offset + length old ≤ length bytes) ×
+    (new ≡ take (length old) (drop offset bytes))
 FillsBuffer bytes offset old new false = (length bytes < offset + length old) × (new ≡ old)
 
 -- the handle of expanded memory is in use
@@ -40,9 +41,12 @@ pub record IsPastPage (s : State) (handle page offset n : ℕ) : Type 0 where
 -- page; not all of the bytes are in the page
 pub data IsPageUnread (h : Hosted) (handle page offset n : ℕ) (why : Refusal) : Type 0 where
   not_loaded : IsNotLoaded h why → IsPageUnread h handle page offset n why
-  no_handle : Shows h (λ s. slice_index_or s.ems.handles handle None ≡ None) → why ≡ NoHandle → IsPageUnread h handle page offset n why
-  no_page : Shows h (λ s. HasHandle s handle × (block_of s handle page ≡ None)) → why ≡ NoPage → IsPageUnread h handle page offset n why
-  past_end : Shows h (λ s. HasHandle s handle × IsPastPage s handle page offset n) → why ≡ PastEnd → IsPageUnread h handle page offset n why
+  no_handle : Shows h (λ s. slice_index_or s.ems.handles handle None ≡ None) → why ≡ NoHandle →
+      IsPageUnread h handle page offset n why
+  no_page : Shows h (λ s. HasHandle s handle × (block_of s handle page ≡ None)) → why ≡ NoPage →
+      IsPageUnread h handle page offset n why
+  past_end : Shows h (λ s. HasHandle s handle × IsPastPage s handle page offset n) → why ≡ PastEnd →
+      IsPageUnread h handle page offset n why
 
 -- the buffer `new` is filled with bytes of the block of a handle of extended memory, from an offset in the block on
 pub record ReadsBlock (s : State) (handle offset : ℕ) (old new : List ℕ) : Type 0 where

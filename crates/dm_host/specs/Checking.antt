@@ -14,7 +14,8 @@ use Rattle.dm_host.specs.Hosts.{Hosted, with_stage, machine_of}
 
 -- a checked run of at most n steps leads from session s to t, with this stop, this report and this text, of the report
 -- and the line about the stop; the breakpoints stay
-pub record IsChecked (s : Debugged) (n : ℕ) (stop : Stop) (report : Reported) (text : List ℕ) (t : Debugged) : Type 0 where
+pub record IsChecked (s : Debugged) (n : ℕ) (stop : Stop) (report : Reported) (text : List ℕ)
+    (t : Debugged) : Type 0 where
   pub run : IsRun s.machine n stop t.machine
   pub reported : IsReport s.machine n true stop t.machine report
   pub told : text ≡ report_text report ++ stopped_line stop t.machine.memory t.machine.cpu
@@ -40,4 +41,5 @@ pub record Checks (h : Hosted) (n : ℕ) (stop : Stop) (g : Hosted) : Type 0 whe
 -- allocation failed, after none, some or all of the steps. The answer and the report before stay
 pub data IsUnchecked (h : Hosted) (n : ℕ) (why : Refusal) (g : Hosted) : Type 0 where
   not_loaded : machine_of h.stage ≡ None → why ≡ NotLoaded → g ≡ h → IsUnchecked h n why g
-  no_memory : (s t : Debugged) → h.stage ≡ Loaded s → IsPartlyChecked s n t → why ≡ Memory → g ≡ with_stage h (Loaded t) → IsUnchecked h n why g
+  no_memory : (s t : Debugged) → h.stage ≡ Loaded s → IsPartlyChecked s n t → why ≡ Memory →
+      g ≡ with_stage h (Loaded t) → IsUnchecked h n why g

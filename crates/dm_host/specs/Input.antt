@@ -12,7 +12,8 @@ SetsMore h more g = Works h (λ s t. t ≡ with_machine s (with_more s.machine m
 
 -- the program's input is open in the host h, and these bytes are added to its end; the host becomes g
 abbrev pub Supplies : Hosted → List ℕ → Hosted → Type 0
-Supplies h bytes g = Works h (λ s t. (s.machine.console.more ≡ true) × (t ≡ with_machine s (with_supply s.machine bytes))) g
+Supplies h bytes g = Works h (λ s t. (s.machine.console.more ≡ true) ×
+    (t ≡ with_machine s (with_supply s.machine bytes))) g
 
 -- why no input is added in the host, in this order: no program is loaded; its input is closed; an allocation failed
 pub data IsUnsupplied (h : Hosted) (why : Refusal) : Type 0 where

@@ -22,4 +22,5 @@ with_byte_at_linear m address byte = if nat_lt address 0x10FFF0 then poke m (rea
 -- the memory after the bytes have been written one by one, from a linear address up
 abbrev pub with_bytes_at_linear : Memory → ℕ → List ℕ → Memory
 with_bytes_at_linear m address [] = m
-with_bytes_at_linear m address (byte ∷ bytes) = with_bytes_at_linear (with_byte_at_linear m address byte) (address + 1) bytes
+with_bytes_at_linear m address (byte ∷ bytes) = with_bytes_at_linear (with_byte_at_linear m address byte)
+    (address + 1) bytes

@@ -48,9 +48,13 @@ pub record Loads (h : Hosted) (name tail input : List ℕ) (g : Hosted) : Type 0
 pub data IsUnloaded (h : Hosted) (name tail input : List ℕ) (why : Refusal) (g : Hosted) : Type 0 where
   late : (IsFresh h → ⊥) → why ≡ Started → g ≡ h → IsUnloaded h name tail input why g
   bad_name : IsFresh h → (IsName name → ⊥) → why ≡ BadName → g ≡ h → IsUnloaded h name tail input why g
-  long_tail : IsFresh h → IsName name → 126 < length tail → why ≡ TailTooLong → g ≡ h → IsUnloaded h name tail input why g
-  no_program : (s : Prepared) → h.stage ≡ Fresh s → IsName name → length tail ≤ 126 → IsNoProgram s name why → g ≡ h → IsUnloaded h name tail input why g
-  no_room : (s : Prepared) (m : State) → h.stage ≡ Fresh s → IsName name → length tail ≤ 126 → IsLoadable s name → IsMachine s input m → HasNoRoom m name
+  long_tail : IsFresh h → IsName name → 126 < length tail → why ≡ TailTooLong → g ≡ h →
+      IsUnloaded h name tail input why g
+  no_program : (s : Prepared) → h.stage ≡ Fresh s → IsName name → length tail ≤ 126 → IsNoProgram s name why → g ≡ h →
+      IsUnloaded h name tail input why g
+  no_room : (s : Prepared) (m : State) → h.stage ≡ Fresh s → IsName name → length tail ≤ 126 → IsLoadable s name →
+      IsMachine s input m → HasNoRoom m name
       → why ≡ Short → g ≡ with_stage h Spent → IsUnloaded h name tail input why g
-  no_memory : (s : Prepared) → h.stage ≡ Fresh s → IsName name → length tail ≤ 126 → IsLoadable s name → why ≡ Memory → g ≡ with_stage h Spent
+  no_memory : (s : Prepared) → h.stage ≡ Fresh s → IsName name → length tail ≤ 126 → IsLoadable s name → why ≡ Memory →
+      g ≡ with_stage h Spent
       → IsUnloaded h name tail input why g

@@ -23,7 +23,8 @@ fn text_of(
     stop: Stop,
     machine: &Machine,
 ) -> Result<Vec<u8>, AllocError>
-    ensures { IfOk result (λ text. text.items ≡ report_text report.now ++ stopped_line stop machine.now.memory machine.now.cpu) }
+    ensures { IfOk result (λ text. text.items ≡ report_text report.now
+        ++ stopped_line stop machine.now.memory machine.now.cpu) }
 {
     let mut text = Vec::new(alloc);
     put_report(&mut text, report)?;
@@ -40,7 +41,8 @@ fn kept_of(
     machine: &Machine,
 ) -> Result<(KeptReport, Vec<u8>), AllocError>
     ensures report { IfOk result (λ r. r.0 ≡ report.now) }
-    ensures text { IfOk result (λ r. r.1.items ≡ report_text report.now ++ stopped_line stop machine.now.memory machine.now.cpu) }
+    ensures text { IfOk result (λ r. r.1.items ≡ report_text report.now
+        ++ stopped_line stop machine.now.memory machine.now.cpu) }
 {
     let text = text_of(alloc, report, stop, machine)?;
     Ok((KeptReport::of(alloc, report)?, text))

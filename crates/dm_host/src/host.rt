@@ -49,7 +49,12 @@ impl Host {
     /// `TooLarge` exactly where the sizes are over 512 pages or 15,360 KiB; else `VariablesTooLong` exactly where the
     /// variables have over 32,767 bytes; else `Memory` if an allocation failed.
     pub fn new(alloc: Global, sizes: Sizes, variables: &[u8], upper: bool) -> Result<Host, Refusal>
-        ensures ok { IfOk result (λ h. h ≡ new_host (record { sizes = sizes; variables = variables.now; upper = upper; programs = [] })) }
+        ensures ok { IfOk result (λ h. h ≡ new_host (record {
+          sizes = sizes;
+          variables = variables.now;
+          upper = upper;
+          programs = [];
+        })) }
         ensures fits { OnOk result ((IsTooLarge sizes → ⊥) × (length variables.now ≤ 0x7FFF)) }
         ensures err { IfErr result (IsNewFault sizes variables.now) }
     {

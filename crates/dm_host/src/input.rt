@@ -86,7 +86,8 @@ impl Host {
     ///
     /// `NotLoaded` exactly where no program is loaded; then nothing has changed.
     pub fn set_registers(&mut self, registers: Cpu) -> Result<(), Refusal>
-        ensures ok { OnOk result (Works self.old (λ s t. t ≡ with_machine s (record s.machine { cpu = registers })) self.new) }
+        ensures ok { OnOk result (Works self.old (λ s t. t ≡ with_machine s (record s.machine { cpu = registers }))
+            self.new) }
         ensures err { IfErr result (λ e. IsNotLoaded self.old e × (self.new ≡ self.old)) }
     {
         let Stage::Loaded(session) = &mut self.stage else {

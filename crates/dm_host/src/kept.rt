@@ -21,7 +21,12 @@ impl Model for KeptReport {
 
     ghost Value = { Reported };
 
-    ghost view = { λ k. record { listed = k.listed.items; errors = k.errors; notes = k.notes; not_listed = k.not_listed } };
+    ghost view = { λ k. record {
+      listed = k.listed.items;
+      errors = k.errors;
+      notes = k.notes;
+      not_listed = k.not_listed;
+    } };
 }
 
 impl KeptReport {

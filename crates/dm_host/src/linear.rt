@@ -51,14 +51,16 @@ fn read_up(machine: &Machine, address: u32, buffer: &mut [u8])
 /// Writes a byte to memory.
 #[tactic(auto, unfolding(dm_space::specs::Buffers::with_bytes))]
 fn put(session: &mut Session, segment: u16, offset: u16, byte: u8)
-    ensures { session.new ≡ with_machine session.old (record session.old.machine { memory = poke session.old.machine.memory (linear session.old.machine.memory.a20 segment offset) byte }) }
+    ensures { session.new ≡ with_machine session.old (record session.old.machine
+        { memory = poke session.old.machine.memory (linear session.old.machine.memory.a20 segment offset) byte }) }
 {
     session.write(segment, offset, &[byte]);
 }
 
 /// Writes the bytes to memory from a linear address up, as a program does; those past FFFF:FFFF are lost.
 fn write_up(session: &mut Session, address: u32, bytes: &[u8])
-    ensures { session.new ≡ with_machine session.old (record session.old.machine { memory = with_bytes_at_linear session.old.machine.memory address bytes.now }) }
+    ensures { session.new ≡ with_machine session.old (record session.old.machine
+        { memory = with_bytes_at_linear session.old.machine.memory address bytes.now }) }
 {
     let mut at = address;
     for byte in bytes {
@@ -78,7 +80,8 @@ impl Host {
     ///
     /// `NotLoaded` exactly where no program is loaded. The buffer stays then.
     pub fn read_linear(&self, address: u32, buffer: &mut [u8]) -> Result<(), Refusal>
-        ensures ok { OnOk result (Shows self.now (λ s. buffer.new ≡ bytes_at_linear s.memory address (length buffer.old))) }
+        ensures ok { OnOk result (Shows self.now (λ s. buffer.new ≡ bytes_at_linear s.memory address
+            (length buffer.old))) }
         ensures err { IfErr result (λ e. IsNotLoaded self.now e × (buffer.new ≡ buffer.old)) }
     {
         let Some(machine) = self.machine() else {
@@ -96,7 +99,8 @@ impl Host {
     ///
     /// `NotLoaded` exactly where no program is loaded. Nothing has changed then.
     pub fn write_linear(&mut self, address: u32, bytes: &[u8]) -> Result<(), Refusal>
-        ensures ok { OnOk result (Works self.old (λ s t. t ≡ with_machine s (record s.machine { memory = with_bytes_at_linear s.machine.memory address bytes.now })) self.new) }
+        ensures ok { OnOk result (Works self.old (λ s t. t ≡ with_machine s (record s.machine
+            { memory = with_bytes_at_linear s.machine.memory address bytes.now })) self.new) }
         ensures err { IfErr result (λ e. IsNotLoaded self.old e × (self.new ≡ self.old)) }
     {
         let Stage::Loaded(session) = &mut self.stage else {

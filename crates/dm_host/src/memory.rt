@@ -42,7 +42,8 @@ impl Host {
     ///
     /// `NotLoaded` exactly where no program is loaded. The buffer stays then.
     pub fn read(&self, segment: u16, offset: u16, buffer: &mut [u8]) -> Result<(), Refusal>
-        ensures ok { OnOk result (Shows self.now (λ s. buffer.new ≡ bytes_at s.memory segment offset (length buffer.old))) }
+        ensures ok { OnOk result (Shows self.now (λ s. buffer.new ≡ bytes_at s.memory segment offset
+            (length buffer.old))) }
         ensures err { IfErr result (λ e. IsNotLoaded self.now e × (buffer.new ≡ buffer.old)) }
     {
         let Some(machine) = self.machine() else {
@@ -59,7 +60,8 @@ impl Host {
     ///
     /// `NotLoaded` exactly where no program is loaded. Nothing has changed then.
     pub fn write(&mut self, segment: u16, offset: u16, bytes: &[u8]) -> Result<(), Refusal>
-        ensures ok { OnOk result (Works self.old (λ s t. t ≡ with_machine s (record s.machine { memory = with_bytes s.machine.memory segment offset bytes.now })) self.new) }
+        ensures ok { OnOk result (Works self.old (λ s t. t ≡ with_machine s (record s.machine
+            { memory = with_bytes s.machine.memory segment offset bytes.now })) self.new) }
         ensures err { IfErr result (λ e. IsNotLoaded self.old e × (self.new ≡ self.old)) }
     {
         let Stage::Loaded(session) = &mut self.stage else {

@@ -15,7 +15,8 @@ impl Host {
     ///
     /// `NotLoaded` exactly where no program is loaded; then nothing has changed.
     pub fn run(&mut self, n: u64) -> Result<Stop, Refusal>
-        ensures ok { IfOk result (λ stop. Works self.old (λ s t. IsRun s.machine n stop t.machine × (t.points ≡ s.points)) self.new) }
+        ensures ok { IfOk result (λ stop. Works self.old (λ s t. IsRun s.machine n stop t.machine ×
+            (t.points ≡ s.points)) self.new) }
         ensures err { IfErr result (λ e. IsNotLoaded self.old e × (self.new ≡ self.old)) }
     {
         let Stage::Loaded(session) = &mut self.stage else {
@@ -31,7 +32,8 @@ impl Host {
     ///
     /// `NotLoaded` exactly where no program is loaded; then nothing has changed.
     pub fn run_until(&mut self, n: u64, breakpoints: &[Breakpoint]) -> Result<Option<Stop>, Refusal>
-        ensures ok { IfOk result (λ stop. Works self.old (λ s t. RunsUntil s.machine n breakpoints.now stop t.machine × (t.points ≡ s.points)) self.new) }
+        ensures ok { IfOk result (λ stop. Works self.old (λ s t. RunsUntil s.machine n breakpoints.now stop t.machine ×
+            (t.points ≡ s.points)) self.new) }
         ensures err { IfErr result (λ e. IsNotLoaded self.old e × (self.new ≡ self.old)) }
     {
         let Stage::Loaded(session) = &mut self.stage else {

@@ -38,9 +38,19 @@ impl Model for Setup {
 
     ghost Value = { Prepared };
 
-    ghost view = { λ s. record { sizes = s.config.sizes; variables = s.config.variables.items; upper = s.config.upper; programs = s.programs } };
+    ghost view = { λ s. record {
+      sizes = s.config.sizes;
+      variables = s.config.variables.items;
+      upper = s.config.upper;
+      programs = s.programs;
+    } };
 
-    ghost invariant = { λ s. IsPrepared (record { sizes = s.config.sizes; variables = s.config.variables.items; upper = s.config.upper; programs = s.programs }) };
+    ghost invariant = { λ s. IsPrepared (record {
+      sizes = s.config.sizes;
+      variables = s.config.variables.items;
+      upper = s.config.upper;
+      programs = s.programs;
+    }) };
 }
 
 /// Whether a program can have this name: it has 1 to 64 bytes, none of them zero.
@@ -59,7 +69,12 @@ impl Setup {
     /// `TooLarge` exactly where the sizes are over 512 pages or 15,360 KiB; else `VariablesTooLong` exactly where the
     /// variables have over 32,767 bytes; else `Memory` if an allocation failed.
     pub fn new(alloc: Global, sizes: Sizes, variables: &[u8], upper: bool) -> Result<Setup, Refusal>
-        ensures ok { IfOk result (λ s. s ≡ record { sizes = sizes; variables = variables.now; upper = upper; programs = [] }) }
+        ensures ok { IfOk result (λ s. s ≡ record {
+          sizes = sizes;
+          variables = variables.now;
+          upper = upper;
+          programs = [];
+        }) }
         ensures fits { OnOk result ((IsTooLarge sizes → ⊥) × (length variables.now ≤ 0x7FFF)) }
         ensures err { IfErr result (IsNewFault sizes variables.now) }
     {

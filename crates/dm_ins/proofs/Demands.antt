@@ -89,7 +89,8 @@ extended_low : (n : ℕ) → n < 2 ^ 8 → sign_extended n % 256 ≡ n
 extended_low n h = elim (cases_high n) [ inl e ↦ rw e (omega arith) | inr e ↦ rw e (omega arith) ]
   where
     cases_high : (n : ℕ) → (sign_extended n ≡ n) ⊎ (sign_extended n ≡ n + 65280)
-    cases_high n = elim (nat_lt n 128) as (λ b. (cond b n (n + 65280) ≡ n) ⊎ (cond b n (n + 65280) ≡ n + 65280)) [ true ↦ inl refl | false ↦ inr refl ]
+    cases_high n = elim (nat_lt n 128) as (λ b. (cond b n (n + 65280) ≡ n) ⊎
+        (cond b n (n + 65280) ≡ n + 65280)) [ true ↦ inl refl | false ↦ inr refl ]
 
 -- ---- what fills a template asks for the template's bytes
 
@@ -104,7 +105,8 @@ signed_at : (n : ℕ) → n < 2 ^ 8 → as_signed (sign_extended n) ≡ Some (as
 signed_at n h = rw (extended_low n h) (rw (eq-eqb (sign_extended n) (sign_extended n) refl) refl)
 
 module _ (m : Fields) (register_fits : m.register < 8) (rm_fits : m.rm < 8) where
-  place_asked : (w : Width) (a : Option Address) (o : Operand) → o ≡ at_place w m.rm a → demand_of (is.RegisterOrMemory w) o ≡ Some (asks_place (named_place m.rm a))
+  place_asked : (w : Width) (a : Option Address) (o : Operand) → o ≡ at_place w m.rm a →
+      demand_of (is.RegisterOrMemory w) o ≡ Some (asks_place (named_place m.rm a))
   unfolding demand_of
   place_asked Byte None o e = rw (e, byte_number_at m.rm rm_fits) refl
   place_asked Word None o e = rw (e, word_number_at m.rm rm_fits) refl
@@ -112,25 +114,124 @@ module _ (m : Fields) (register_fits : m.register < 8) (rm_fits : m.rm < 8) wher
 
   pub operand_asks : (k : OperandKind) (o : Operand) (d : List ℕ) → Fills k m o d → Asked k m o d
   unfolding demand_of
-  operand_asks is.Nothing o d h = record { demand = asks_data data_is.Nothing; is_demand = rw h.0 refl; register = refl; place = refl; tail = sym h.1 }
-  operand_asks (is.RegisterOrMemory w) o d h = record { demand = asks_place (named_place m.rm m.memory); is_demand = place_asked w m.memory o h.0; register = refl; place = refl; tail = sym h.1 }
-  operand_asks (is.Register w) o d h = record { demand = asks_register m.register; is_demand = rw (h.0, numbered_at w m.register register_fits) refl; register = refl; place = refl; tail = sym h.1 }
-  operand_asks is.Memory o d h = record { demand = asks_place (place.Memory h.0); is_demand = rw h.2 refl; register = refl; place = rw h.1 refl; tail = sym h.3 }
-  operand_asks is.ByteValue o d h = record { demand = asks_data (data_is.Byte h.0); is_demand = rw h.2 refl; register = refl; place = refl; tail = sym h.3 }
-  operand_asks is.WordValue o d h = record { demand = asks_data (data_is.Word h.0); is_demand = rw h.2 refl; register = refl; place = refl; tail = sym h.3 }
-  operand_asks is.SignedValue o d h = record { demand = asks_data (data_is.Byte h.0); is_demand = rw h.2 (signed_at h.0 h.1); register = refl; place = refl; tail = sym h.3 }
-  operand_asks is.Short o d h = record { demand = asks_data (data_is.Byte h.0); is_demand = rw h.2 (signed_at h.0 h.1); register = refl; place = refl; tail = sym h.3 }
-  operand_asks is.Near o d h = record { demand = asks_data (data_is.Word h.0); is_demand = rw h.2 refl; register = refl; place = refl; tail = sym h.3 }
-  operand_asks (is.Direct w) o d h = record { demand = asks_data (data_is.Word h.0); is_demand = rw h.2 (rw (same_itself w) refl); register = refl; place = refl; tail = sym h.3 }
-  operand_asks is.Far o d h = record { demand = asks_data (data_is.Words h.0 h.1); is_demand = rw h.4 refl; register = refl; place = refl; tail = sym h.5 }
+  operand_asks is.Nothing o d h = record {
+    demand = asks_data data_is.Nothing;
+    is_demand = rw h.0 refl;
+    register = refl;
+    place = refl;
+    tail = sym h.1;
+  }
+  operand_asks (is.RegisterOrMemory w) o d h = record {
+    demand = asks_place (named_place m.rm m.memory);
+    is_demand = place_asked w m.memory o h.0;
+    register = refl;
+    place = refl;
+    tail = sym h.1;
+  }
+  operand_asks (is.Register w) o d h = record {
+    demand = asks_register m.register;
+    is_demand = rw (h.0, numbered_at w m.register register_fits) refl;
+    register = refl;
+    place = refl;
+    tail = sym h.1;
+  }
+  operand_asks is.Memory o d h = record {
+    demand = asks_place (place.Memory h.0);
+    is_demand = rw h.2 refl;
+    register = refl;
+    place = rw h.1 refl;
+    tail = sym h.3;
+  }
+  operand_asks is.ByteValue o d h = record {
+    demand = asks_data (data_is.Byte h.0);
+    is_demand = rw h.2 refl;
+    register = refl;
+    place = refl;
+    tail = sym h.3;
+  }
+  operand_asks is.WordValue o d h = record {
+    demand = asks_data (data_is.Word h.0);
+    is_demand = rw h.2 refl;
+    register = refl;
+    place = refl;
+    tail = sym h.3;
+  }
+  operand_asks is.SignedValue o d h = record {
+    demand = asks_data (data_is.Byte h.0);
+    is_demand = rw h.2 (signed_at h.0 h.1);
+    register = refl;
+    place = refl;
+    tail = sym h.3;
+  }
+  operand_asks is.Short o d h = record {
+    demand = asks_data (data_is.Byte h.0);
+    is_demand = rw h.2 (signed_at h.0 h.1);
+    register = refl;
+    place = refl;
+    tail = sym h.3;
+  }
+  operand_asks is.Near o d h = record {
+    demand = asks_data (data_is.Word h.0);
+    is_demand = rw h.2 refl;
+    register = refl;
+    place = refl;
+    tail = sym h.3;
+  }
+  operand_asks (is.Direct w) o d h = record {
+    demand = asks_data (data_is.Word h.0);
+    is_demand = rw h.2 (rw (same_itself w) refl);
+    register = refl;
+    place = refl;
+    tail = sym h.3;
+  }
+  operand_asks is.Far o d h = record {
+    demand = asks_data (data_is.Words h.0 h.1);
+    is_demand = rw h.4 refl;
+    register = refl;
+    place = refl;
+    tail = sym h.5;
+  }
   operand_asks (is.Escape r) o d h =
       let high : (8 * (r % 8) + m.register) / 8 ≡ r % 8 = omega arith in
       let low : (8 * (r % 8) + m.register) % 8 ≡ m.register = omega arith in
-      record { demand = asks_register m.register; is_demand = rw h.0 (rw (high, low) (rw (eq-eqb (r % 8) (r % 8) refl) refl)); register = refl; place = refl; tail = sym h.1 }
-  operand_asks (is.Byte r) o d h = record { demand = asks_data data_is.Nothing; is_demand = rw h.0 (rw (eq-eqb (byte_register_number r) (byte_register_number r) refl) refl); register = refl; place = refl; tail = sym h.1 }
-  operand_asks (is.Word r) o d h = record { demand = asks_data data_is.Nothing; is_demand = rw h.0 (rw (eq-eqb (word_number r) (word_number r) refl) refl); register = refl; place = refl; tail = sym h.1 }
-  operand_asks (is.TheSegment r) o d h = record { demand = asks_data data_is.Nothing; is_demand = rw h.0 (rw (eq-eqb (segment_number r) (segment_number r) refl) refl); register = refl; place = refl; tail = sym h.1 }
-  operand_asks is.One o d h = record { demand = asks_data data_is.Nothing; is_demand = rw h.0 refl; register = refl; place = refl; tail = sym h.1 }
+      record {
+        demand = asks_register m.register;
+        is_demand = rw h.0 (rw (
+          high,
+          low,
+        ) (rw (eq-eqb (r % 8) (r % 8) refl) refl));
+        register = refl;
+        place = refl;
+        tail = sym h.1;
+      }
+  operand_asks (is.Byte r) o d h = record {
+    demand = asks_data data_is.Nothing;
+    is_demand = rw h.0 (rw (eq-eqb (byte_register_number r) (byte_register_number r) refl) refl);
+    register = refl;
+    place = refl;
+    tail = sym h.1;
+  }
+  operand_asks (is.Word r) o d h = record {
+    demand = asks_data data_is.Nothing;
+    is_demand = rw h.0 (rw (eq-eqb (word_number r) (word_number r) refl) refl);
+    register = refl;
+    place = refl;
+    tail = sym h.1;
+  }
+  operand_asks (is.TheSegment r) o d h = record {
+    demand = asks_data data_is.Nothing;
+    is_demand = rw h.0 (rw (eq-eqb (segment_number r) (segment_number r) refl) refl);
+    register = refl;
+    place = refl;
+    tail = sym h.1;
+  }
+  operand_asks is.One o d h = record {
+    demand = asks_data data_is.Nothing;
+    is_demand = rw h.0 refl;
+    register = refl;
+    place = refl;
+    tail = sym h.1;
+  }
 
 -- ---- the shortest fields
 
@@ -142,10 +243,15 @@ displaced_byte : (r rm n : ℕ) → n < 2 ^ 8 → with_displacement r rm (sign_e
 displaced_byte r rm n h = rw (extended_low n h) (rw (eq-eqb (sign_extended n) (sign_extended n) refl) refl)
 
 displaced_word : (r rm n : ℕ) → AtMost (with_displacement r rm n) ((128 + (8 * r + rm)) ∷ word_bytes n)
-displaced_word r rm n = elim (eqb_tells (sign_extended (n % 256)) n) [ inl t ↦ rw t.0 (inr (omega arith)) | inr f ↦ rw f.0 (inl refl) ]
+displaced_word r rm n = elim (eqb_tells (sign_extended (n % 256)) n) [
+  | inl t ↦ rw t.0 (inr (omega arith))
+  | inr f ↦
+      rw f.0 (inl refl)
+]
 
 -- behind a base with the number rm
-base_least : (r rm n : ℕ) (d : List ℕ) → rm < 8 → 1 < length d → AtMost (with_displacement r rm n) d → AtMost (memory_bytes r (based rm n)) d
+base_least : (r rm n : ℕ) (d : List ℕ) → rm < 8 → 1 < length d → AtMost (with_displacement r rm n) d →
+    AtMost (memory_bytes r (based rm n)) d
 base_least r rm n d lt long h =
     let b = base_at rm lt in
     rw (b.1, b.0) (elim (eqb_tells rm 6) [
@@ -153,7 +259,8 @@ base_least r rm n d lt long h =
       | inr f ↦ rw f.0 (elim (eqb_tells n 0) [ inl t ↦ rw t.0 (inr long) | inr f ↦ rw f.0 h ])
     ])
 
-memory_least : (r rm mode : ℕ) (a : Option Address) (d : List ℕ) → rm < 8 → SpellsMemory a mode rm d → AtMost (fields_bytes r (named_place rm a)) ((64 * mode + 8 * r + rm) ∷ d)
+memory_least : (r rm mode : ℕ) (a : Option Address) (d : List ℕ) → rm < 8 → SpellsMemory a mode rm d →
+    AtMost (fields_bytes r (named_place rm a)) ((64 * mode + 8 * r + rm) ∷ d)
 unfolding fields_bytes
 memory_least r rm mode a d lt (inl h) =
     let e : 8 * r + 6 ≡ 64 * mode + 8 * r + rm = omega (arith, h.0, h.1) in
@@ -164,7 +271,8 @@ memory_least r rm mode a d lt (inr (inl h)) =
     rw (h.2, h.3) (inl (rw (b.1, b.0) (rw (ne_eqb rm 6 h.1) (ap (λ (k : ℕ). k ∷ []) e))))
 memory_least r rm mode a d lt (inr (inr (inl h))) =
     let e : 64 + (8 * r + rm) ≡ 64 * mode + 8 * r + rm = omega (arith, h.0) in
-    rw (h.3, h.4) (base_least r rm (sign_extended h.1) _ lt (omega arith) (inl (displaced_byte r rm h.1 h.2 ∙ ap (λ (k : ℕ). k ∷ h.1 ∷ []) e)))
+    rw (h.3, h.4) (base_least r rm (sign_extended h.1) _ lt (omega arith) (inl (displaced_byte r rm h.1 h.2
+    ∙ ap (λ (k : ℕ). k ∷ h.1 ∷ []) e)))
 memory_least r rm mode a d lt (inr (inr (inr (inl h)))) =
     let e : 64 * mode + 8 * r + rm ≡ 128 + (8 * r + rm) = omega (arith, h.0) in
     rw (h.3, h.4, e) (base_least r rm h.1 _ lt (omega arith) (displaced_word r rm h.1))
@@ -172,5 +280,6 @@ memory_least r rm mode a d lt (inr (inr (inr (inr h)))) =
     let e : 192 + (8 * r + rm) ≡ 64 * mode + 8 * r + rm = omega (arith, h.0) in
     rw (h.1, h.2) (inl (ap (λ (k : ℕ). k ∷ []) e))
 
-pub fields_least : (m : Fields) (d : List ℕ) → SpellsFields m d → AtMost (fields_bytes m.register (named_place m.rm m.memory)) d
+pub fields_least : (m : Fields) (d : List ℕ) → SpellsFields m d →
+    AtMost (fields_bytes m.register (named_place m.rm m.memory)) d
 fields_least m d h = rw h.parts (memory_least m.register m.rm h.mode m.memory h.displacement h.rm_fits h.spells_memory)

@@ -34,7 +34,8 @@ repeat_after_lock : (r : Repeat) → nat_cmp (repeat_byte r) 0xF0 ≡ Greater
 repeat_after_lock NotEqual = refl
 repeat_after_lock Equal = refl
 
-pub three_by : (s : Option SegmentRegister) (l : Bool) (r : Option Repeat) → length (map prefix_byte (segment_list s ++ lock_list l ++ repeat_list r)) ≤ 3
+pub three_by : (s : Option SegmentRegister) (l : Bool) (r : Option Repeat) →
+    length (map prefix_byte (segment_list s ++ lock_list l ++ repeat_list r)) ≤ 3
 three_by None false None = omega arith
 three_by None false (Some r) = omega arith
 three_by None true None = omega arith
@@ -44,45 +45,93 @@ three_by (Some s) false (Some r) = omega arith
 three_by (Some s) true None = omega arith
 three_by (Some s) true (Some r) = omega arith
 
-pub prefixes_least : (xs : List Prefix) → length xs ≤ 4 → before (map prefix_byte xs) (map prefix_byte (prefix_list (kept no_prefix xs))) ≡ false
+pub prefixes_least : (xs : List Prefix) → length xs ≤ 4 →
+    before (map prefix_byte xs) (map prefix_byte (prefix_list (kept no_prefix xs))) ≡ false
 prefixes_least ([]) few = not_before_itself ([])
 prefixes_least ((prefix.Segment s0) ∷ []) few = not_before_itself ((segment_byte s0) ∷ [])
 prefixes_least (prefix.Lock ∷ []) few = not_before_itself ((0xF0) ∷ [])
 prefixes_least ((prefix.Repeat r0) ∷ []) few = not_before_itself ((repeat_byte r0) ∷ [])
-prefixes_least ((prefix.Segment s0) ∷ (prefix.Segment s1) ∷ []) few = not_shorter ((segment_byte s1) ∷ []) ((segment_byte s0) ∷ (segment_byte s1) ∷ []) (omega arith)
+prefixes_least ((prefix.Segment s0) ∷ (prefix.Segment s1) ∷ []) few = not_shorter ((segment_byte s1)
+    ∷ []) ((segment_byte s0) ∷ (segment_byte s1) ∷ []) (omega arith)
 prefixes_least ((prefix.Segment s0) ∷ prefix.Lock ∷ []) few = not_before_itself ((segment_byte s0) ∷ (0xF0) ∷ [])
-prefixes_least ((prefix.Segment s0) ∷ (prefix.Repeat r1) ∷ []) few = not_before_itself ((segment_byte s0) ∷ (repeat_byte r1) ∷ [])
-prefixes_least (prefix.Lock ∷ (prefix.Segment s1) ∷ []) few = greater_first (0xF0) (segment_byte s1) ((segment_byte s1) ∷ []) ((0xF0) ∷ []) (lock_after_segment s1) refl
+prefixes_least ((prefix.Segment s0) ∷ (prefix.Repeat r1) ∷ []) few = not_before_itself ((segment_byte s0)
+    ∷ (repeat_byte r1) ∷ [])
+prefixes_least (prefix.Lock ∷ (prefix.Segment s1) ∷ []) few = greater_first (0xF0) (segment_byte s1) ((segment_byte s1)
+    ∷ []) ((0xF0) ∷ []) (lock_after_segment s1) refl
 prefixes_least (prefix.Lock ∷ prefix.Lock ∷ []) few = not_shorter ((0xF0) ∷ []) ((0xF0) ∷ (0xF0) ∷ []) (omega arith)
 prefixes_least (prefix.Lock ∷ (prefix.Repeat r1) ∷ []) few = not_before_itself ((0xF0) ∷ (repeat_byte r1) ∷ [])
-prefixes_least ((prefix.Repeat r0) ∷ (prefix.Segment s1) ∷ []) few = greater_first (repeat_byte r0) (segment_byte s1) ((segment_byte s1) ∷ []) ((repeat_byte r0) ∷ []) (repeat_after_segment r0 s1) refl
-prefixes_least ((prefix.Repeat r0) ∷ prefix.Lock ∷ []) few = greater_first (repeat_byte r0) (0xF0) ((0xF0) ∷ []) ((repeat_byte r0) ∷ []) (repeat_after_lock r0) refl
-prefixes_least ((prefix.Repeat r0) ∷ (prefix.Repeat r1) ∷ []) few = not_shorter ((repeat_byte r1) ∷ []) ((repeat_byte r0) ∷ (repeat_byte r1) ∷ []) (omega arith)
-prefixes_least ((prefix.Segment s0) ∷ (prefix.Segment s1) ∷ (prefix.Segment s2) ∷ []) few = not_shorter ((segment_byte s2) ∷ []) ((segment_byte s0) ∷ (segment_byte s1) ∷ (segment_byte s2) ∷ []) (omega arith)
-prefixes_least ((prefix.Segment s0) ∷ (prefix.Segment s1) ∷ prefix.Lock ∷ []) few = not_shorter ((segment_byte s1) ∷ (0xF0) ∷ []) ((segment_byte s0) ∷ (segment_byte s1) ∷ (0xF0) ∷ []) (omega arith)
-prefixes_least ((prefix.Segment s0) ∷ (prefix.Segment s1) ∷ (prefix.Repeat r2) ∷ []) few = not_shorter ((segment_byte s1) ∷ (repeat_byte r2) ∷ []) ((segment_byte s0) ∷ (segment_byte s1) ∷ (repeat_byte r2) ∷ []) (omega arith)
-prefixes_least ((prefix.Segment s0) ∷ prefix.Lock ∷ (prefix.Segment s2) ∷ []) few = not_shorter ((segment_byte s2) ∷ (0xF0) ∷ []) ((segment_byte s0) ∷ (0xF0) ∷ (segment_byte s2) ∷ []) (omega arith)
-prefixes_least ((prefix.Segment s0) ∷ prefix.Lock ∷ prefix.Lock ∷ []) few = not_shorter ((segment_byte s0) ∷ (0xF0) ∷ []) ((segment_byte s0) ∷ (0xF0) ∷ (0xF0) ∷ []) (omega arith)
-prefixes_least ((prefix.Segment s0) ∷ prefix.Lock ∷ (prefix.Repeat r2) ∷ []) few = not_before_itself ((segment_byte s0) ∷ (0xF0) ∷ (repeat_byte r2) ∷ [])
-prefixes_least ((prefix.Segment s0) ∷ (prefix.Repeat r1) ∷ (prefix.Segment s2) ∷ []) few = not_shorter ((segment_byte s2) ∷ (repeat_byte r1) ∷ []) ((segment_byte s0) ∷ (repeat_byte r1) ∷ (segment_byte s2) ∷ []) (omega arith)
-prefixes_least ((prefix.Segment s0) ∷ (prefix.Repeat r1) ∷ prefix.Lock ∷ []) few = same_first (segment_byte s0) ((repeat_byte r1) ∷ (0xF0) ∷ []) ((0xF0) ∷ (repeat_byte r1) ∷ []) (greater_first (repeat_byte r1) (0xF0) ((0xF0) ∷ []) ((repeat_byte r1) ∷ []) (repeat_after_lock r1) refl)
-prefixes_least ((prefix.Segment s0) ∷ (prefix.Repeat r1) ∷ (prefix.Repeat r2) ∷ []) few = not_shorter ((segment_byte s0) ∷ (repeat_byte r2) ∷ []) ((segment_byte s0) ∷ (repeat_byte r1) ∷ (repeat_byte r2) ∷ []) (omega arith)
-prefixes_least (prefix.Lock ∷ (prefix.Segment s1) ∷ (prefix.Segment s2) ∷ []) few = not_shorter ((segment_byte s2) ∷ (0xF0) ∷ []) ((0xF0) ∷ (segment_byte s1) ∷ (segment_byte s2) ∷ []) (omega arith)
-prefixes_least (prefix.Lock ∷ (prefix.Segment s1) ∷ prefix.Lock ∷ []) few = not_shorter ((segment_byte s1) ∷ (0xF0) ∷ []) ((0xF0) ∷ (segment_byte s1) ∷ (0xF0) ∷ []) (omega arith)
-prefixes_least (prefix.Lock ∷ (prefix.Segment s1) ∷ (prefix.Repeat r2) ∷ []) few = greater_first (0xF0) (segment_byte s1) ((segment_byte s1) ∷ (repeat_byte r2) ∷ []) ((0xF0) ∷ (repeat_byte r2) ∷ []) (lock_after_segment s1) refl
-prefixes_least (prefix.Lock ∷ prefix.Lock ∷ (prefix.Segment s2) ∷ []) few = not_shorter ((segment_byte s2) ∷ (0xF0) ∷ []) ((0xF0) ∷ (0xF0) ∷ (segment_byte s2) ∷ []) (omega arith)
-prefixes_least (prefix.Lock ∷ prefix.Lock ∷ prefix.Lock ∷ []) few = not_shorter ((0xF0) ∷ []) ((0xF0) ∷ (0xF0) ∷ (0xF0) ∷ []) (omega arith)
-prefixes_least (prefix.Lock ∷ prefix.Lock ∷ (prefix.Repeat r2) ∷ []) few = not_shorter ((0xF0) ∷ (repeat_byte r2) ∷ []) ((0xF0) ∷ (0xF0) ∷ (repeat_byte r2) ∷ []) (omega arith)
-prefixes_least (prefix.Lock ∷ (prefix.Repeat r1) ∷ (prefix.Segment s2) ∷ []) few = greater_first (0xF0) (segment_byte s2) ((repeat_byte r1) ∷ (segment_byte s2) ∷ []) ((0xF0) ∷ (repeat_byte r1) ∷ []) (lock_after_segment s2) refl
-prefixes_least (prefix.Lock ∷ (prefix.Repeat r1) ∷ prefix.Lock ∷ []) few = not_shorter ((0xF0) ∷ (repeat_byte r1) ∷ []) ((0xF0) ∷ (repeat_byte r1) ∷ (0xF0) ∷ []) (omega arith)
-prefixes_least (prefix.Lock ∷ (prefix.Repeat r1) ∷ (prefix.Repeat r2) ∷ []) few = not_shorter ((0xF0) ∷ (repeat_byte r2) ∷ []) ((0xF0) ∷ (repeat_byte r1) ∷ (repeat_byte r2) ∷ []) (omega arith)
-prefixes_least ((prefix.Repeat r0) ∷ (prefix.Segment s1) ∷ (prefix.Segment s2) ∷ []) few = not_shorter ((segment_byte s2) ∷ (repeat_byte r0) ∷ []) ((repeat_byte r0) ∷ (segment_byte s1) ∷ (segment_byte s2) ∷ []) (omega arith)
-prefixes_least ((prefix.Repeat r0) ∷ (prefix.Segment s1) ∷ prefix.Lock ∷ []) few = greater_first (repeat_byte r0) (segment_byte s1) ((segment_byte s1) ∷ (0xF0) ∷ []) ((0xF0) ∷ (repeat_byte r0) ∷ []) (repeat_after_segment r0 s1) refl
-prefixes_least ((prefix.Repeat r0) ∷ (prefix.Segment s1) ∷ (prefix.Repeat r2) ∷ []) few = not_shorter ((segment_byte s1) ∷ (repeat_byte r2) ∷ []) ((repeat_byte r0) ∷ (segment_byte s1) ∷ (repeat_byte r2) ∷ []) (omega arith)
-prefixes_least ((prefix.Repeat r0) ∷ prefix.Lock ∷ (prefix.Segment s2) ∷ []) few = greater_first (repeat_byte r0) (segment_byte s2) ((0xF0) ∷ (segment_byte s2) ∷ []) ((0xF0) ∷ (repeat_byte r0) ∷ []) (repeat_after_segment r0 s2) refl
-prefixes_least ((prefix.Repeat r0) ∷ prefix.Lock ∷ prefix.Lock ∷ []) few = not_shorter ((0xF0) ∷ (repeat_byte r0) ∷ []) ((repeat_byte r0) ∷ (0xF0) ∷ (0xF0) ∷ []) (omega arith)
-prefixes_least ((prefix.Repeat r0) ∷ prefix.Lock ∷ (prefix.Repeat r2) ∷ []) few = not_shorter ((0xF0) ∷ (repeat_byte r2) ∷ []) ((repeat_byte r0) ∷ (0xF0) ∷ (repeat_byte r2) ∷ []) (omega arith)
-prefixes_least ((prefix.Repeat r0) ∷ (prefix.Repeat r1) ∷ (prefix.Segment s2) ∷ []) few = not_shorter ((segment_byte s2) ∷ (repeat_byte r1) ∷ []) ((repeat_byte r0) ∷ (repeat_byte r1) ∷ (segment_byte s2) ∷ []) (omega arith)
-prefixes_least ((prefix.Repeat r0) ∷ (prefix.Repeat r1) ∷ prefix.Lock ∷ []) few = not_shorter ((0xF0) ∷ (repeat_byte r1) ∷ []) ((repeat_byte r0) ∷ (repeat_byte r1) ∷ (0xF0) ∷ []) (omega arith)
-prefixes_least ((prefix.Repeat r0) ∷ (prefix.Repeat r1) ∷ (prefix.Repeat r2) ∷ []) few = not_shorter ((repeat_byte r2) ∷ []) ((repeat_byte r0) ∷ (repeat_byte r1) ∷ (repeat_byte r2) ∷ []) (omega arith)
-prefixes_least (x ∷ y ∷ z ∷ w ∷ xs) few = let p = kept no_prefix (x ∷ y ∷ z ∷ w ∷ xs) in let n = three_by p.segment p.lock p.repeat in not_shorter (map prefix_byte (prefix_list p)) (map prefix_byte (x ∷ y ∷ z ∷ w ∷ xs)) (omega arith)
+prefixes_least ((prefix.Repeat r0) ∷ (prefix.Segment s1) ∷ []) few =
+    greater_first (repeat_byte r0) (segment_byte s1) ((segment_byte s1) ∷ []) ((repeat_byte r0)
+    ∷ []) (repeat_after_segment r0 s1) refl
+prefixes_least ((prefix.Repeat r0) ∷ prefix.Lock ∷ []) few = greater_first (repeat_byte r0) (0xF0) ((0xF0)
+    ∷ []) ((repeat_byte r0) ∷ []) (repeat_after_lock r0) refl
+prefixes_least ((prefix.Repeat r0) ∷ (prefix.Repeat r1) ∷ []) few = not_shorter ((repeat_byte r1)
+    ∷ []) ((repeat_byte r0) ∷ (repeat_byte r1) ∷ []) (omega arith)
+prefixes_least ((prefix.Segment s0) ∷ (prefix.Segment s1) ∷ (prefix.Segment s2) ∷ []) few =
+    not_shorter ((segment_byte s2) ∷ []) ((segment_byte s0) ∷ (segment_byte s1) ∷ (segment_byte s2) ∷ []) (omega arith)
+prefixes_least ((prefix.Segment s0) ∷ (prefix.Segment s1) ∷ prefix.Lock ∷ []) few =
+    not_shorter ((segment_byte s1) ∷ (0xF0) ∷ []) ((segment_byte s0) ∷ (segment_byte s1) ∷ (0xF0) ∷ []) (omega arith)
+prefixes_least ((prefix.Segment s0) ∷ (prefix.Segment s1) ∷ (prefix.Repeat r2) ∷ []) few =
+    not_shorter ((segment_byte s1) ∷ (repeat_byte r2) ∷ []) ((segment_byte s0) ∷ (segment_byte s1) ∷ (repeat_byte r2)
+    ∷ []) (omega arith)
+prefixes_least ((prefix.Segment s0) ∷ prefix.Lock ∷ (prefix.Segment s2) ∷ []) few =
+    not_shorter ((segment_byte s2) ∷ (0xF0) ∷ []) ((segment_byte s0) ∷ (0xF0) ∷ (segment_byte s2) ∷ []) (omega arith)
+prefixes_least ((prefix.Segment s0) ∷ prefix.Lock ∷ prefix.Lock ∷ []) few =
+    not_shorter ((segment_byte s0) ∷ (0xF0) ∷ []) ((segment_byte s0) ∷ (0xF0) ∷ (0xF0) ∷ []) (omega arith)
+prefixes_least ((prefix.Segment s0) ∷ prefix.Lock ∷ (prefix.Repeat r2) ∷ []) few =
+    not_before_itself ((segment_byte s0) ∷ (0xF0) ∷ (repeat_byte r2) ∷ [])
+prefixes_least ((prefix.Segment s0) ∷ (prefix.Repeat r1) ∷ (prefix.Segment s2) ∷ []) few =
+    not_shorter ((segment_byte s2) ∷ (repeat_byte r1) ∷ []) ((segment_byte s0) ∷ (repeat_byte r1) ∷ (segment_byte s2)
+    ∷ []) (omega arith)
+prefixes_least ((prefix.Segment s0) ∷ (prefix.Repeat r1) ∷ prefix.Lock ∷ []) few =
+    same_first (segment_byte s0) ((repeat_byte r1) ∷ (0xF0) ∷ []) ((0xF0) ∷ (repeat_byte r1)
+    ∷ []) (greater_first (repeat_byte r1) (0xF0) ((0xF0) ∷ []) ((repeat_byte r1) ∷ []) (repeat_after_lock r1) refl)
+prefixes_least ((prefix.Segment s0) ∷ (prefix.Repeat r1) ∷ (prefix.Repeat r2) ∷ []) few =
+    not_shorter ((segment_byte s0) ∷ (repeat_byte r2) ∷ []) ((segment_byte s0) ∷ (repeat_byte r1) ∷ (repeat_byte r2)
+    ∷ []) (omega arith)
+prefixes_least (prefix.Lock ∷ (prefix.Segment s1) ∷ (prefix.Segment s2) ∷ []) few =
+    not_shorter ((segment_byte s2) ∷ (0xF0) ∷ []) ((0xF0) ∷ (segment_byte s1) ∷ (segment_byte s2) ∷ []) (omega arith)
+prefixes_least (prefix.Lock ∷ (prefix.Segment s1) ∷ prefix.Lock ∷ []) few =
+    not_shorter ((segment_byte s1) ∷ (0xF0) ∷ []) ((0xF0) ∷ (segment_byte s1) ∷ (0xF0) ∷ []) (omega arith)
+prefixes_least (prefix.Lock ∷ (prefix.Segment s1) ∷ (prefix.Repeat r2) ∷ []) few =
+    greater_first (0xF0) (segment_byte s1) ((segment_byte s1) ∷ (repeat_byte r2) ∷ []) ((0xF0) ∷ (repeat_byte r2)
+    ∷ []) (lock_after_segment s1) refl
+prefixes_least (prefix.Lock ∷ prefix.Lock ∷ (prefix.Segment s2) ∷ []) few =
+    not_shorter ((segment_byte s2) ∷ (0xF0) ∷ []) ((0xF0) ∷ (0xF0) ∷ (segment_byte s2) ∷ []) (omega arith)
+prefixes_least (prefix.Lock ∷ prefix.Lock ∷ prefix.Lock ∷ []) few = not_shorter ((0xF0) ∷ []) ((0xF0) ∷ (0xF0) ∷ (0xF0)
+    ∷ []) (omega arith)
+prefixes_least (prefix.Lock ∷ prefix.Lock ∷ (prefix.Repeat r2) ∷ []) few =
+    not_shorter ((0xF0) ∷ (repeat_byte r2) ∷ []) ((0xF0) ∷ (0xF0) ∷ (repeat_byte r2) ∷ []) (omega arith)
+prefixes_least (prefix.Lock ∷ (prefix.Repeat r1) ∷ (prefix.Segment s2) ∷ []) few =
+    greater_first (0xF0) (segment_byte s2) ((repeat_byte r1) ∷ (segment_byte s2) ∷ []) ((0xF0) ∷ (repeat_byte r1)
+    ∷ []) (lock_after_segment s2) refl
+prefixes_least (prefix.Lock ∷ (prefix.Repeat r1) ∷ prefix.Lock ∷ []) few =
+    not_shorter ((0xF0) ∷ (repeat_byte r1) ∷ []) ((0xF0) ∷ (repeat_byte r1) ∷ (0xF0) ∷ []) (omega arith)
+prefixes_least (prefix.Lock ∷ (prefix.Repeat r1) ∷ (prefix.Repeat r2) ∷ []) few =
+    not_shorter ((0xF0) ∷ (repeat_byte r2) ∷ []) ((0xF0) ∷ (repeat_byte r1) ∷ (repeat_byte r2) ∷ []) (omega arith)
+prefixes_least ((prefix.Repeat r0) ∷ (prefix.Segment s1) ∷ (prefix.Segment s2) ∷ []) few =
+    not_shorter ((segment_byte s2) ∷ (repeat_byte r0) ∷ []) ((repeat_byte r0) ∷ (segment_byte s1) ∷ (segment_byte s2)
+    ∷ []) (omega arith)
+prefixes_least ((prefix.Repeat r0) ∷ (prefix.Segment s1) ∷ prefix.Lock ∷ []) few =
+    greater_first (repeat_byte r0) (segment_byte s1) ((segment_byte s1) ∷ (0xF0) ∷ []) ((0xF0) ∷ (repeat_byte r0)
+    ∷ []) (repeat_after_segment r0 s1) refl
+prefixes_least ((prefix.Repeat r0) ∷ (prefix.Segment s1) ∷ (prefix.Repeat r2) ∷ []) few =
+    not_shorter ((segment_byte s1) ∷ (repeat_byte r2) ∷ []) ((repeat_byte r0) ∷ (segment_byte s1) ∷ (repeat_byte r2)
+    ∷ []) (omega arith)
+prefixes_least ((prefix.Repeat r0) ∷ prefix.Lock ∷ (prefix.Segment s2) ∷ []) few =
+    greater_first (repeat_byte r0) (segment_byte s2) ((0xF0) ∷ (segment_byte s2) ∷ []) ((0xF0) ∷ (repeat_byte r0)
+    ∷ []) (repeat_after_segment r0 s2) refl
+prefixes_least ((prefix.Repeat r0) ∷ prefix.Lock ∷ prefix.Lock ∷ []) few =
+    not_shorter ((0xF0) ∷ (repeat_byte r0) ∷ []) ((repeat_byte r0) ∷ (0xF0) ∷ (0xF0) ∷ []) (omega arith)
+prefixes_least ((prefix.Repeat r0) ∷ prefix.Lock ∷ (prefix.Repeat r2) ∷ []) few =
+    not_shorter ((0xF0) ∷ (repeat_byte r2) ∷ []) ((repeat_byte r0) ∷ (0xF0) ∷ (repeat_byte r2) ∷ []) (omega arith)
+prefixes_least ((prefix.Repeat r0) ∷ (prefix.Repeat r1) ∷ (prefix.Segment s2) ∷ []) few =
+    not_shorter ((segment_byte s2) ∷ (repeat_byte r1) ∷ []) ((repeat_byte r0) ∷ (repeat_byte r1) ∷ (segment_byte s2)
+    ∷ []) (omega arith)
+prefixes_least ((prefix.Repeat r0) ∷ (prefix.Repeat r1) ∷ prefix.Lock ∷ []) few =
+    not_shorter ((0xF0) ∷ (repeat_byte r1) ∷ []) ((repeat_byte r0) ∷ (repeat_byte r1) ∷ (0xF0) ∷ []) (omega arith)
+prefixes_least ((prefix.Repeat r0) ∷ (prefix.Repeat r1) ∷ (prefix.Repeat r2) ∷ []) few =
+    not_shorter ((repeat_byte r2) ∷ []) ((repeat_byte r0) ∷ (repeat_byte r1) ∷ (repeat_byte r2) ∷ []) (omega arith)
+prefixes_least (x ∷ y ∷ z ∷ w ∷ xs) few = let p = kept no_prefix (x ∷ y ∷ z ∷ w ∷ xs) in let n =
+    three_by p.segment p.lock p.repeat in not_shorter (map prefix_byte (prefix_list p)) (map prefix_byte (x ∷ y ∷ z ∷ w
+    ∷ xs)) (omega arith)

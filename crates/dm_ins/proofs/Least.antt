@@ -26,10 +26,12 @@ neither true b = false
 neither false b = if b then false else true
 
 abbrev pub regular_fields : Template → Bool
-regular_fields r = exactly_one (asks_for_register r.first) (asks_for_register r.second) && exactly_one (asks_for_place r.first) (asks_for_place r.second)
+regular_fields r = exactly_one (asks_for_register r.first) (asks_for_register r.second) &&
+    exactly_one (asks_for_place r.first) (asks_for_place r.second)
 
 abbrev pub no_demand : Template → Bool
-no_demand r = neither (asks_for_register r.first) (asks_for_register r.second) && neither (asks_for_place r.first) (asks_for_place r.second)
+no_demand r = neither (asks_for_register r.first) (asks_for_register r.second) &&
+    neither (asks_for_place r.first) (asks_for_place r.second)
 
 abbrev pub regular : OpcodeEntry → Bool
 regular (Plain p) = cond (has_fields p) (regular_fields p) (no_demand p)
@@ -38,7 +40,8 @@ regular _ = true
 
 abbrev pub regular_member : Option Template → Bool
 regular_member None = true
-regular_member (Some r) = neither (asks_for_register r.first) (asks_for_register r.second) && exactly_one (asks_for_place r.first) (asks_for_place r.second)
+regular_member (Some r) = neither (asks_for_register r.first) (asks_for_register r.second) &&
+    exactly_one (asks_for_place r.first) (asks_for_place r.second)
 
 pub entry_regular : (b : ℕ) → regular (entry_of b) ≡ true
 unfolding entry_of
@@ -46,7 +49,8 @@ entry_regular b = passes regular Unlisted refl entries b refl
 
 pub group_regular : (g r : ℕ) → regular_member (member_of g r) ≡ true
 unfolding member_of
-group_regular g r = passes regular_member None refl (get_or groups g []) r (passes (list_all regular_member) [] refl groups g refl)
+group_regular g r = passes regular_member None refl (get_or groups g []) r
+    (passes (list_all regular_member) [] refl groups g refl)
 
 -- ---- demands of a template
 
@@ -67,9 +71,12 @@ record Chosen (e : OpcodeEntry) (b : ℕ) (m : Fields) (r : Template) (behind : 
   is_choice : choice_at e b g ≡ Some choice
   is_template : choice.template ≡ r
   is_opcode : choice.opcode ≡ b
-  least : AtMost (behind_bytes (either choice.register (either (asked (asks_for_register r.first) m.register) (asked (asks_for_register r.second) m.register))) (either (asked (asks_for_place r.first) (named_place m.rm m.memory)) (asked (asks_for_place r.second) (named_place m.rm m.memory))) choice.second) behind
+  least : AtMost (behind_bytes (either choice.register (either (asked (asks_for_register r.first) m.register)
+      (asked (asks_for_register r.second) m.register))) (either (asked (asks_for_place r.first)
+      (named_place m.rm m.memory)) (asked (asks_for_place r.second) (named_place m.rm m.memory))) choice.second) behind
 
-plain_chosen : (f : Bool) (p : Template) (b : ℕ) (m : Fields) (behind : List ℕ) → cond f (regular_fields p) (no_demand p) ≡ true → MaySpellFields f m behind → Chosen (Plain p) b m p behind
+plain_chosen : (f : Bool) (p : Template) (b : ℕ) (m : Fields) (behind : List ℕ) →
+    cond f (regular_fields p) (no_demand p) ≡ true → MaySpellFields f m behind → Chosen (Plain p) b m p behind
 plain_chosen true p b m behind t h =
     let u = both_true _ _ t in
     record {
@@ -78,7 +85,11 @@ plain_chosen true p b m behind t h =
       is_choice = refl;
       is_template = refl;
       is_opcode = refl;
-      least = rw (one_of (asks_for_register p.first) (asks_for_register p.second) m.register u.0, one_of (asks_for_place p.first) (asks_for_place p.second) (named_place m.rm m.memory) u.1) (fields_least m behind h);
+      least = rw (
+        one_of (asks_for_register p.first) (asks_for_register p.second) m.register u.0,
+        one_of (asks_for_place p.first) (asks_for_place p.second) (named_place m.rm m.memory) u.1,
+      )
+          (fields_least m behind h);
     }
 plain_chosen false p b m behind t h =
     let u = both_true _ _ t in
@@ -91,9 +102,11 @@ plain_chosen false p b m behind t h =
       least = rw (none_of (asks_for_register p.first) (asks_for_register p.second) m.register u.0) (inl (sym h.1));
     }
 
-chosen : (e : OpcodeEntry) (b : ℕ) (m : Fields) (r : Template) (behind : List ℕ) → regular e ≡ true → HasTemplate e m behind r → Chosen e b m r behind
+chosen : (e : OpcodeEntry) (b : ℕ) (m : Fields) (r : Template) (behind : List ℕ) → regular e ≡ true →
+    HasTemplate e m behind r → Chosen e b m r behind
 chosen Unlisted b m r behind t h = absurd h
-chosen (Plain p) b m r behind t h = subst (λ q. Chosen (Plain p) b m q behind) (sym h.0) (plain_chosen (has_fields p) p b m behind t h.1)
+chosen (Plain p) b m r behind t h = subst (λ q. Chosen (Plain p) b m q behind) (sym h.0)
+    (plain_chosen (has_fields p) p b m behind t h.1)
 chosen (Group g) b m r behind t h =
     let v = both_true _ _ (ap regular_member (sym h.0) ∙ group_regular g m.register) in
     record {
@@ -102,7 +115,8 @@ chosen (Group g) b m r behind t h =
       is_choice = rw h.0 refl;
       is_template = refl;
       is_opcode = refl;
-      least = rw (one_of (asks_for_place r.first) (asks_for_place r.second) (named_place m.rm m.memory) v.1) (fields_least m behind h.1);
+      least = rw (one_of (asks_for_place r.first) (asks_for_place r.second) (named_place m.rm m.memory) v.1)
+          (fields_least m behind h.1);
     }
 chosen (Second c p) b m r behind t h =
     let u = both_true _ _ t in
@@ -132,7 +146,8 @@ pub record ActionLeast (a : Action) (bytes : List ℕ) : Type 0 where
   pub is_bytes : bytes_of choice a.first a.second ≡ Some c
   pub least : AtMost c bytes
 
-pub template_fits : (e : OpcodeEntry) (m : Fields) (d : List ℕ) (r : Template) → HasTemplate e m d r → (m.register < 8) × (m.rm < 8)
+pub template_fits : (e : OpcodeEntry) (m : Fields) (d : List ℕ) (r : Template) → HasTemplate e m d r →
+    (m.register < 8) × (m.rm < 8)
 template_fits Unlisted m d r h = absurd h
 template_fits (Plain p) m d r h = by (has_fields p) h.1
   where
@@ -146,10 +161,12 @@ pub action_least : (a : Action) (bytes : List ℕ) → SpellsAction a bytes → 
 unfolding bytes_of
 action_least a bytes h =
     let fits = template_fits (entry_of h.first_byte) h.fields h.behind h.template h.has_template in
-    let ch = chosen (entry_of h.first_byte) h.first_byte h.fields h.template h.behind (entry_regular h.first_byte) h.has_template in
+    let ch = chosen (entry_of h.first_byte) h.first_byte h.fields h.template h.behind (entry_regular h.first_byte)
+    h.has_template in
     let p = operand_asks h.fields fits.0 fits.1 h.template.first a.first h.first_part h.first in
     let q = operand_asks h.fields fits.0 fits.1 h.template.second a.second h.second_part h.second in
-    let middle = behind_bytes (either ch.choice.register (either p.demand.register q.demand.register)) (either p.demand.place q.demand.place) ch.choice.second in
+    let middle = behind_bytes (either ch.choice.register (either p.demand.register q.demand.register))
+    (either p.demand.place q.demand.place) ch.choice.second in
     let least : AtMost middle h.behind = rw (p.register, q.register, p.place, q.place) ch.least in
     record {
       b = h.first_byte;

@@ -35,7 +35,8 @@ member_fits : (n g : ℕ) (r : Template) → member_of n g ≡ Some r → g < 8
 unfolding member_of
 member_fits n g r e = elim (cases_lt g 8) [
   | inl lt ↦ lt
-  | inr le ↦ absurd (let f = groups_few n in let past : length (get_or groups n []) ≤ g = omega arith in some_none (get_or (get_or groups n []) g None) r (get_or_past (get_or groups n []) g None past) e)
+  | inr le ↦ absurd (let f = groups_few n in let past : length (get_or groups n []) ≤ g = omega arith in
+      some_none (get_or (get_or groups n []) g None) r (get_or_past (get_or groups n []) g None past) e)
 ]
 
 pub choice_fits : (e : OpcodeEntry) (b g : ℕ) (x : Choice) → choice_at e b g ≡ Some x → g < 8
@@ -70,35 +71,63 @@ has_later false k ks b g h = h
 same_is : (m : Mnemonic) (p q : Template) → p ≡ q → is_of m q ≡ true → is_of m p ≡ true
 same_is m p q e t = ap (is_of m) e ∙ t
 
-in_members : (m : Mnemonic) (b from i g : ℕ) (rs : List (Option Template)) (p : Template) → g ≡ from + i → get_or rs i None ≡ Some p → is_of m p ≡ true → Has (member_keys m b from rs) b g
+in_members : (m : Mnemonic) (b from i g : ℕ) (rs : List (Option Template)) (p : Template) → g ≡ from + i →
+    get_or rs i None ≡ Some p → is_of m p ≡ true → Has (member_keys m b from rs) b g
 in_members m b from i g [] p e h t = absurd cc
 in_members m b from zero g (None ∷ rs) p e h t = absurd cc
 in_members m b from (suc i) g (None ∷ rs) p e h t = in_members m b (from + 1) i g rs p (omega arith) h t
-in_members m b from zero g (Some q ∷ rs) p e h t = has_first (is_of m q) (key b from) (member_keys m b (from + 1) rs) b g (same_is m q p (is_some q p h) t) (ap (key b) (let f : from ≡ g = omega arith in f))
-in_members m b from (suc i) g (Some q ∷ rs) p e h t = has_later (is_of m q) (key b from) (member_keys m b (from + 1) rs) b g (in_members m b (from + 1) i g rs p (omega arith) h t)
+in_members m b from zero g (Some q ∷ rs) p e h t =
+    has_first (is_of m q) (key b from) (member_keys m b (from + 1) rs) b g (same_is m q p (is_some q p h) t)
+    (ap (key b) (let f : from ≡ g = omega arith in f))
+in_members m b from (suc i) g (Some q ∷ rs) p e h t =
+    has_later (is_of m q) (key b from) (member_keys m b (from + 1) rs) b g (in_members m b (from + 1) i g rs p
+    (omega arith) h t)
 
-alone : (m : Mnemonic) (b g : ℕ) (p : Template) (x y : Choice) → y ≡ x → y.template ≡ p → eqb g 0 ≡ true → is_of m x.template ≡ true → Has (onto (is_of m p) (key b 0) []) b g
+alone : (m : Mnemonic) (b g : ℕ) (p : Template) (x y : Choice) → y ≡ x → y.template ≡ p → eqb g 0 ≡ true →
+    is_of m x.template ≡ true → Has (onto (is_of m p) (key b 0) []) b g
 alone m b g p x y e f z t =
-    has_first (is_of m p) (key b 0) [] b g (same_is m p x.template (sym f ∙ ap (λ (c : Choice). c.template) e) t) (ap (key b) (sym (eqb-true g 0 z)))
+    has_first (is_of m p) (key b 0) [] b g (same_is m p x.template (sym f ∙ ap (λ (c : Choice). c.template) e) t)
+    (ap (key b) (sym (eqb-true g 0 z)))
 
-in_entry : (m : Mnemonic) (b g : ℕ) (e : OpcodeEntry) (x : Choice) → choice_at e b g ≡ Some x → is_of m x.template ≡ true → Has (entry_keys m b e) b g
+in_entry : (m : Mnemonic) (b g : ℕ) (e : OpcodeEntry) (x : Choice) → choice_at e b g ≡ Some x →
+    is_of m x.template ≡ true → Has (entry_keys m b e) b g
 unfolding member_of
 in_entry m b g Unlisted x h t = absurd cc
-in_entry m b g (Plain p) x h t = let c = chosen_true (eqb g 0) (record { opcode = b; template = p; register = None; second = None }) x h in alone m b g p x _ c.1 refl c.0 t
+in_entry m b g (Plain p) x h t = let c = chosen_true (eqb g 0) (record {
+  opcode = b;
+  template = p;
+  register = None;
+  second = None;
+}) x h in alone m b g p x _ c.1 refl c.0 t
 in_entry m b g (Group n) x h t =
-    let r = bind_some (member_of n g) (λ (p : Template). Some (record { opcode = b; template = p; register = Some g; second = None })) x h in
+    let r = bind_some (member_of n g) (λ (p : Template). Some (record {
+      opcode = b;
+      template = p;
+      register = Some g;
+      second = None;
+    })) x h in
     let y : Choice = record { opcode = b; template = r.0; register = Some g; second = None } in
-    in_members m b 0 g g (get_or groups n []) r.0 (omega arith) r.1 (same_is m r.0 x.template (ap (λ (c : Choice). c.template) (is_some y x r.2)) t)
-in_entry m b g (Second c p) x h t = let d = chosen_true (eqb g 0) (record { opcode = b; template = p; register = None; second = Some c }) x h in alone m b g p x _ d.1 refl d.0 t
+    in_members m b 0 g g (get_or groups n []) r.0 (omega arith) r.1 (same_is m r.0 x.template
+    (ap (λ (c : Choice). c.template) (is_some y x r.2)) t)
+in_entry m b g (Second c p) x h t = let d = chosen_true (eqb g 0) (record {
+  opcode = b;
+  template = p;
+  register = None;
+  second = Some c;
+}) x h in alone m b g p x _ d.1 refl d.0 t
 
-in_entries : (m : Mnemonic) (from i b g : ℕ) (es : List OpcodeEntry) (x : Choice) → b ≡ from + i → choice_at (get_or es i Unlisted) b g ≡ Some x → is_of m x.template ≡ true → Has (keys_from m from es) b g
+in_entries : (m : Mnemonic) (from i b g : ℕ) (es : List OpcodeEntry) (x : Choice) → b ≡ from + i →
+    choice_at (get_or es i Unlisted) b g ≡ Some x → is_of m x.template ≡ true → Has (keys_from m from es) b g
 in_entries m from i b g [] x e h t = absurd cc
 in_entries m from zero b g (y ∷ es) x e h t =
     let f : b ≡ from = omega arith in
-    has_front (entry_keys m from y) (keys_from m (from + 1) es) b g (subst (λ (k : ℕ). Has (entry_keys m k y) b g) f (in_entry m b g y x h t))
-in_entries m from (suc i) b g (y ∷ es) x e h t = has_back (entry_keys m from y) (keys_from m (from + 1) es) b g (in_entries m (from + 1) i b g es x (omega arith) h t)
+    has_front (entry_keys m from y) (keys_from m (from + 1) es) b g (subst (λ (k : ℕ). Has (entry_keys m k y) b g) f
+    (in_entry m b g y x h t))
+in_entries m from (suc i) b g (y ∷ es) x e h t = has_back (entry_keys m from y) (keys_from m (from + 1) es) b g
+    (in_entries m (from + 1) i b g es x (omega arith) h t)
 
-has_all : (m : Mnemonic) (b g : ℕ) (x : Choice) → choice_at (entry_of b) b g ≡ Some x → x.template.mnemonic ≡ m → Has (keyed m) b g
+has_all : (m : Mnemonic) (b g : ℕ) (x : Choice) → choice_at (entry_of b) b g ≡ Some x → x.template.mnemonic ≡ m →
+    Has (keyed m) b g
 unfolding entry_of keyed
 has_all m b g x h e = in_entries m 0 b b g entries x (omega arith) h (true_same the_type x.template.mnemonic m e)
 
@@ -111,10 +140,15 @@ pub record Stands (ks : List Key) (b g : ℕ) : Type 0 where
 stands : (ks : List Key) (b g : ℕ) → Has ks b g → Stands ks b g
 stands [] b g h = absurd h
 stands (k ∷ ks) b g (inl e) = record { place = 0; within = omega arith; is = e }
-stands (k ∷ ks) b g (inr h) = let s = stands ks b g h in let lt = s.within in record { place = suc s.place; within = omega arith; is = s.is }
+stands (k ∷ ks) b g (inr h) = let s = stands ks b g h in let lt = s.within in record {
+  place = suc s.place;
+  within = omega arith;
+  is = s.is;
+}
 
 -- no template of a mnemonic is left out
-pub none_left_out : (m : Mnemonic) (b g : ℕ) (x : Choice) → choice_at (entry_of b) b g ≡ Some x → x.template.mnemonic ≡ m → Stands (keyed m) b g
+pub none_left_out : (m : Mnemonic) (b g : ℕ) (x : Choice) → choice_at (entry_of b) b g ≡ Some x →
+    x.template.mnemonic ≡ m → Stands (keyed m) b g
 none_left_out m b g x h e = stands (keyed m) b g (has_all m b g x h e)
 
 -- ---- lists whose keys all have a reg field of three bits

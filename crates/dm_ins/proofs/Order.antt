@@ -22,13 +22,15 @@ less Less e = refl
 less Equal e = absurd cc
 less Greater e = absurd cc
 
-by_tests : (s t : Bool) (m n : ℕ) (r : Ordering) → nat_lt m n ≡ s → nat_lt n m ≡ t → cond s true (cond t false (is_lt r)) ≡ true → (m < n) ⊎ ((m ≡ n) × (r ≡ Less))
+by_tests : (s t : Bool) (m n : ℕ) (r : Ordering) → nat_lt m n ≡ s → nat_lt n m ≡ t →
+    cond s true (cond t false (is_lt r)) ≡ true → (m < n) ⊎ ((m ≡ n) × (r ≡ Less))
 by_tests true t m n r p q e = inl (ltb-true m n p)
 by_tests false true m n r p q e = absurd cc
 by_tests false false m n r p q e = inr (omega (arith, ltb-false m n p, ltb-false n m q), less r e)
 
 before_is : (a b : List ℕ) → before a b ≡ true → Before a b
-before_is a b e = by_tests (nat_lt (length a) (length b)) (nat_lt (length b) (length a)) (length a) (length b) (slice_cmp nat_cmp a b) refl refl e
+before_is a b e = by_tests (nat_lt (length a) (length b)) (nat_lt (length b) (length a)) (length a) (length b)
+    (slice_cmp nat_cmp a b) refl refl e
 
 before_so : (a b : List ℕ) → Before a b → before a b ≡ true
 before_so a b (inl lt) = rw (lt-ltb (length a) (length b) lt) refl
@@ -45,7 +47,8 @@ Before-trans a b c (inr p) (inr q) = inr (p.0 ∙ q.0, nat_list_cmp_total.trans 
 
 Before-irrefl : (a : List ℕ) → Before a a → ⊥
 Before-irrefl a (inl p) = omega arith
-Before-irrefl a (inr p) = let e = nat_list_cmp_total.antisymm a a in let f : Less ≡ Greater = sym p.1 ∙ e ∙ ap ordering_reverse p.1 in cc
+Before-irrefl a (inr p) = let e = nat_list_cmp_total.antisymm a a in let f : Less ≡ Greater =
+    sym p.1 ∙ e ∙ ap ordering_reverse p.1 in cc
 
 not_so : (b : Bool) → (b ≡ true → ⊥) → b ≡ false
 not_so true f = absurd (f refl)
@@ -59,7 +62,8 @@ not_before_itself a = not_so (before a a) (λ e. Before-irrefl a (before_is a a 
 
 -- what isn't before a isn't before what is before a
 not_before : (c a b : List ℕ) → before c a ≡ false → before b a ≡ true → before c b ≡ false
-not_before c a b p q = not_so (before c b) (λ e. so_not (before c a) p (before_so c a (Before-trans c b a (before_is c b e) (before_is b a q))))
+not_before c a b p q = not_so (before c b) (λ e. so_not (before c a) p
+    (before_so c a (Before-trans c b a (before_is c b e) (before_is b a q))))
 
 choice_one : (x y : Choice) → Some x ≡ Some y → x ≡ y
 choice_one x y e = cc
@@ -85,7 +89,8 @@ module _ (ks : List Key) (a : Action) (n : ℕ) where
   same : (c d : List ℕ) → Under ks n a c → Under ks n a d → c ≡ d
   same c d p q = one_candidate (key_at ks n).opcode (key_at ks n).register a c d p q
 
-  kept_best : (s : Bool) (old new : List ℕ) → before new old ≡ s → Best n ks a (Some old) → Under ks n a new → Best (n + 1) ks a (cond s (Some new) (Some old))
+  kept_best : (s : Bool) (old new : List ℕ) → before new old ≡ s → Best n ks a (Some old) → Under ks n a new →
+      Best (n + 1) ks a (cond s (Some new) (Some old))
   kept_best true old new e best h = record {
     found = ((key_at ks n).opcode, (key_at ks n).register, h);
     least = λ i c lt x. elim (last_or_before i n lt) [
@@ -102,10 +107,15 @@ module _ (ks : List Key) (a : Action) (n : ℕ) where
   }
 
   -- with one template more
-  pub best_more : (o new : Option (List ℕ)) → Best n ks a o → IfSome new (λ v. Under ks n a v) → IfNone new ((c : List ℕ) → Under ks n a c → ⊥) → Best (n + 1) ks a (better_of o new)
+  pub best_more : (o new : Option (List ℕ)) → Best n ks a o → IfSome new (λ v. Under ks n a v) →
+      IfNone new ((c : List ℕ) → Under ks n a c → ⊥) → Best (n + 1) ks a (better_of o new)
   best_more None None best some none = record {
     found = tt;
-    least = λ i c lt x. elim (last_or_before i n lt) [ inl below ↦ best.least i c below x | inr is ↦ absurd (none c (here i c is x)) ];
+    least = λ i c lt x. elim (last_or_before i n lt) [
+      | inl below ↦ best.least i c below x
+      | inr is ↦
+          absurd (none c (here i c is x))
+    ];
   }
   best_more None (Some new) best some none = record {
     found = ((key_at ks n).opcode, (key_at ks n).register, some);
@@ -116,7 +126,11 @@ module _ (ks : List Key) (a : Action) (n : ℕ) where
   }
   best_more (Some old) None best some none = record {
     found = best.found;
-    least = λ i c lt x. elim (last_or_before i n lt) [ inl below ↦ best.least i c below x | inr is ↦ absurd (none c (here i c is x)) ];
+    least = λ i c lt x. elim (last_or_before i n lt) [
+      | inl below ↦ best.least i c below x
+      | inr is ↦
+          absurd (none c (here i c is x))
+    ];
   }
   best_more (Some old) (Some new) best some none = kept_best (before new old) old new refl best some
 
@@ -126,7 +140,11 @@ best_at m n ks a o e best = subst (λ (k : ℕ). Best k ks a o) e best
 -- ---- lists one behind the other
 
 pub not_longer : (a b : List ℕ) → before b a ≡ false → length a ≤ length b
-not_longer a b e = elim (cases_lt (length b) (length a)) [ inl lt ↦ absurd (so_not (before b a) e (before_so b a (inl lt))) | inr le ↦ le ]
+not_longer a b e = elim (cases_lt (length b) (length a)) [
+  | inl lt ↦
+      absurd (so_not (before b a) e (before_so b a (inl lt)))
+  | inr le ↦ le
+]
 
 pub not_shorter : (a b : List ℕ) → length a < length b → before b a ≡ false
 not_shorter a b lt = not_so (before b a) (λ e. by (before_is b a e))
@@ -135,11 +153,13 @@ not_shorter a b lt = not_so (before b a) (λ e. by (before_is b a e))
     by (inl x) = omega arith
     by (inr x) = omega (arith, x.0)
 
-cmp_append : (p q s t : List ℕ) → length p ≡ length q → slice_cmp nat_cmp (p ++ s) (q ++ t) ≡ ordering_then (slice_cmp nat_cmp p q) (slice_cmp nat_cmp s t)
+cmp_append : (p q s t : List ℕ) → length p ≡ length q → slice_cmp nat_cmp (p ++ s) (q ++ t)
+    ≡ ordering_then (slice_cmp nat_cmp p q) (slice_cmp nat_cmp s t)
 cmp_append [] [] s t e = refl
 cmp_append [] (y ∷ q) s t e = absurd (omega arith)
 cmp_append (x ∷ p) [] s t e = absurd (omega arith)
-cmp_append (x ∷ p) (y ∷ q) s t e = ap (ordering_then (nat_cmp x y)) (cmp_append p q s t (omega arith)) ∙ then_assoc (nat_cmp x y) (slice_cmp nat_cmp p q) (slice_cmp nat_cmp s t)
+cmp_append (x ∷ p) (y ∷ q) s t e = ap (ordering_then (nat_cmp x y)) (cmp_append p q s t (omega arith))
+    ∙ then_assoc (nat_cmp x y) (slice_cmp nat_cmp p q) (slice_cmp nat_cmp s t)
   where
     then_assoc : (r u v : Ordering) → ordering_then r (ordering_then u v) ≡ ordering_then (ordering_then r u) v
     then_assoc Less u v = refl
@@ -157,8 +177,22 @@ not_before_append p q s t e f = not_so _ (λ g. by (before_is (p ++ s) (q ++ t) 
     by : Before (p ++ s) (q ++ t) → ⊥
     by (inl lt) = omega (arith, length-append p s, length-append q t, not_longer q p e, not_longer t s f)
     by (inr x) =
-        let m : length p ≡ length q = omega (arith, x.0, length-append p s, length-append q t, not_longer q p e, not_longer t s f) in
-        let n : length s ≡ length t = omega (arith, x.0, length-append p s, length-append q t, not_longer q p e, not_longer t s f) in
+        let m : length p ≡ length q = omega (
+          arith,
+          x.0,
+          length-append p s,
+          length-append q t,
+          not_longer q p e,
+          not_longer t s f,
+        ) in
+        let n : length s ≡ length t = omega (
+          arith,
+          x.0,
+          length-append p s,
+          length-append q t,
+          not_longer q p e,
+          not_longer t s f,
+        ) in
         elim (then_less (slice_cmp nat_cmp p q) (slice_cmp nat_cmp s t) (sym (cmp_append p q s t m) ∙ x.1)) [
           | inl l ↦ so_not (before p q) e (before_so p q (inr (m, l)))
           | inr l ↦ so_not (before s t) f (before_so s t (inr (n, l)))
@@ -167,9 +201,11 @@ not_before_append p q s t e f = not_so _ (λ g. by (before_is (p ++ s) (q ++ t) 
 pub same_first : (x : ℕ) (p q : List ℕ) → before p q ≡ false → before (x ∷ p) (x ∷ q) ≡ false
 same_first x p q e = not_before_append (x ∷ []) (x ∷ []) p q (not_before_itself (x ∷ [])) e
 
-pub greater_first : (x y : ℕ) (p q : List ℕ) → nat_cmp x y ≡ Greater → length p ≡ length q → before (x ∷ p) (y ∷ q) ≡ false
+pub greater_first : (x y : ℕ) (p q : List ℕ) → nat_cmp x y ≡ Greater → length p ≡ length q →
+    before (x ∷ p) (y ∷ q) ≡ false
 greater_first x y p q e n = not_so _ (λ g. by (before_is (x ∷ p) (y ∷ q) g))
   where
     by : Before (x ∷ p) (y ∷ q) → ⊥
     by (inl lt) = omega arith
-    by (inr z) = let f : ordering_then (nat_cmp x y) (slice_cmp nat_cmp p q) ≡ Less = z.1 in let h : Greater ≡ Less = sym (ap (λ r. ordering_then r (slice_cmp nat_cmp p q)) e) ∙ f in cc
+    by (inr z) = let f : ordering_then (nat_cmp x y) (slice_cmp nat_cmp p q) ≡ Less = z.1 in let h : Greater ≡ Less =
+        sym (ap (λ r. ordering_then r (slice_cmp nat_cmp p q)) e) ∙ f in cc

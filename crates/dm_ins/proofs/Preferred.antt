@@ -41,7 +41,8 @@ neither_less Equal p q = refl
 neither_less Greater p q = absurd cc
 
 -- the test of `before`, where neither list is shorter
-tested : (s t : Bool) (r : Ordering) → cond s true (cond t false (is_lt r)) ≡ false → cond t true (cond s false (is_lt (ordering_reverse r))) ≡ false → is_eq r ≡ true
+tested : (s t : Bool) (r : Ordering) → cond s true (cond t false (is_lt r)) ≡ false →
+    cond t true (cond s false (is_lt (ordering_reverse r))) ≡ false → is_eq r ≡ true
 tested true t r p q = absurd cc
 tested false true r p q = absurd cc
 tested false false r p q = neither_less r p q
@@ -49,17 +50,22 @@ tested false false r p q = neither_less r p q
 neither_before : (a b : List ℕ) → before a b ≡ false → before b a ≡ false → a ≡ b
 neither_before a b p q =
     let back : slice_cmp nat_cmp b a ≡ ordering_reverse (slice_cmp nat_cmp a b) = nat_list_cmp_total.antisymm b a in
-    let e : is_eq (slice_cmp nat_cmp a b) ≡ true = tested (nat_lt (length a) (length b)) (nat_lt (length b) (length a)) (slice_cmp nat_cmp a b) p (rw back at q) in
+    let e : is_eq (slice_cmp nat_cmp a b) ≡ true = tested (nat_lt (length a) (length b)) (nat_lt (length b) (length a))
+    (slice_cmp nat_cmp a b) p (rw back at q) in
     (bytes_eq-Decides a b).0 (sym (is_eq-slice_cmp a b) ∙ e)
 
 -- what spells an instruction spells another one of the same prefixes and action
-carried : (p q : Prefixes) (a b : Action) (bytes : List ℕ) → p ≡ q → a ≡ b → SpellsPrefixed p a bytes → SpellsPrefixed q b bytes
-carried p q a b bytes e f s = subst (λ (x : Action). SpellsPrefixed q x bytes) f (subst (λ (x : Prefixes). SpellsPrefixed x a bytes) e s)
+carried : (p q : Prefixes) (a b : Action) (bytes : List ℕ) → p ≡ q → a ≡ b → SpellsPrefixed p a bytes →
+    SpellsPrefixed q b bytes
+carried p q a b bytes e f s = subst (λ (x : Action). SpellsPrefixed q x bytes) f
+    (subst (λ (x : Prefixes). SpellsPrefixed x a bytes) e s)
 
 -- instructions of the same prefixes and action have the same preferred bytes
-pub preferred_same : (i j : Ins) (x y : List ℕ) → i.prefixes ≡ j.prefixes → i.action ≡ j.action → IsPreferred i x → IsPreferred j y → x ≡ y
+pub preferred_same : (i j : Ins) (x y : List ℕ) → i.prefixes ≡ j.prefixes → i.action ≡ j.action → IsPreferred i x →
+    IsPreferred j y → x ≡ y
 preferred_same i j x y e f p q =
-    neither_before x y (q.least x (carried i.prefixes j.prefixes i.action j.action x e f p.spells)) (p.least y (carried j.prefixes i.prefixes j.action i.action y (sym e) (sym f) q.spells))
+    neither_before x y (q.least x (carried i.prefixes j.prefixes i.action j.action x e f p.spells))
+    (p.least y (carried j.prefixes i.prefixes j.action i.action y (sym e) (sym f) q.spells))
 
 -- ---- there is one
 
@@ -79,15 +85,18 @@ so_not : (b : Bool) → b ≡ false → b ≡ true → ⊥
 so_not b p q = cc
 
 -- a candidate is the one of this choice
-of_choice : (b g : ℕ) (a : Action) (x : Choice) (c : List ℕ) → choice_at (entry_of b) b g ≡ Some x → (k : CandidateAt b g a c) → k.choice ≡ x
+of_choice : (b g : ℕ) (a : Action) (x : Choice) (c : List ℕ) → choice_at (entry_of b) b g ≡ Some x →
+    (k : CandidateAt b g a c) → k.choice ≡ x
 of_choice b g a x c e k = some_choice k.choice x (sym k.is_choice ∙ e)
 
 module _ (b g : ℕ) (a : Action) (first : OperandFits a.first) (second : OperandFits a.second) where
-  of_bytes : (x : Choice) → choice_at (entry_of b) b g ≡ Some x → x.template.mnemonic ≡ a.mnemonic → (o : Option (List ℕ)) → bytes_of x a.first a.second ≡ o → Tried b g a
+  of_bytes : (x : Choice) → choice_at (entry_of b) b g ≡ Some x → x.template.mnemonic ≡ a.mnemonic →
+      (o : Option (List ℕ)) → bytes_of x a.first a.second ≡ o → Tried b g a
   of_bytes x e m None h = record {
     bytes = None;
     found = tt;
-    none = λ c k. some_none (bytes_of x a.first a.second) c h (ap (λ (y : Choice). bytes_of y a.first a.second) (sym (of_choice b g a x c e k)) ∙ k.is_bytes);
+    none = λ c k. some_none (bytes_of x a.first a.second) c h (ap (λ (y : Choice). bytes_of y a.first a.second)
+        (sym (of_choice b g a x c e k)) ∙ k.is_bytes);
   }
   of_bytes x e m (Some v) h = record {
     bytes = Some v;
@@ -95,16 +104,24 @@ module _ (b g : ℕ) (a : Action) (first : OperandFits a.first) (second : Operan
     none = tt;
   }
 
-  of_mnemonic : (x : Choice) → choice_at (entry_of b) b g ≡ Some x → (s : Bool) → sameb the_type x.template.mnemonic a.mnemonic ≡ s → Tried b g a
-  of_mnemonic x e true h = of_bytes x e (same_true the_type tt x.template.mnemonic a.mnemonic h) (bytes_of x a.first a.second) refl
+  of_mnemonic : (x : Choice) → choice_at (entry_of b) b g ≡ Some x → (s : Bool) →
+      sameb the_type x.template.mnemonic a.mnemonic ≡ s → Tried b g a
+  of_mnemonic x e true h = of_bytes x e (same_true the_type tt x.template.mnemonic a.mnemonic h)
+      (bytes_of x a.first a.second) refl
   of_mnemonic x e false h = record {
     bytes = None;
     found = tt;
-    none = λ c k. so_not (sameb the_type x.template.mnemonic a.mnemonic) h (true_same the_type x.template.mnemonic a.mnemonic (ap (λ (y : Choice). y.template.mnemonic) (sym (of_choice b g a x c e k)) ∙ k.mnemonic));
+    none = λ c k. so_not (sameb the_type x.template.mnemonic a.mnemonic) h
+        (true_same the_type x.template.mnemonic a.mnemonic (ap (λ (y : Choice). y.template.mnemonic)
+        (sym (of_choice b g a x c e k)) ∙ k.mnemonic));
   }
 
   of_template : (o : Option Choice) → choice_at (entry_of b) b g ≡ o → Tried b g a
-  of_template None h = record { bytes = None; found = tt; none = λ c k. some_none (choice_at (entry_of b) b g) k.choice h k.is_choice }
+  of_template None h = record {
+    bytes = None;
+    found = tt;
+    none = λ c k. some_none (choice_at (entry_of b) b g) k.choice h k.is_choice;
+  }
   of_template (Some x) h = of_mnemonic x h (sameb the_type x.template.mnemonic a.mnemonic) refl
 
   tried : Tried b g a
@@ -119,7 +136,11 @@ has_best zero ks a first second = record { bytes = None; best = best_none ks a }
 has_best (suc n) ks a first second =
     let y = has_best n ks a first second in
     let t = tried (key_at ks n).opcode (key_at ks n).register a first second in
-    record { bytes = better_of y.bytes t.bytes; best = best_at (n + 1) (suc n) ks a (better_of y.bytes t.bytes) (omega arith) (best_more ks a n y.bytes t.bytes y.best t.found t.none) }
+    record {
+      bytes = better_of y.bytes t.bytes;
+      best = best_at (n + 1) (suc n) ks a (better_of y.bytes t.bytes) (omega arith) (best_more ks a n y.bytes t.bytes
+          y.best t.found t.none);
+    }
 
 -- an instruction of these parts, and its preferred bytes
 pub record HasPreferred (p : Prefixes) (a : Action) : Type 0 where
@@ -130,7 +151,8 @@ pub record HasPreferred (p : Prefixes) (a : Action) : Type 0 where
   pub preferred : IsPreferred ins bytes
 
 pub has_preferred : (p : Prefixes) (a : Action) (bytes : List ℕ) → SpellsAction a bytes → HasPreferred p a
-has_preferred p a bytes s = let f = action_fits a bytes s in by (has_best (length (keyed a.mnemonic)) (keyed a.mnemonic) a f.0 f.1)
+has_preferred p a bytes s = let f = action_fits a bytes s in
+    by (has_best (length (keyed a.mnemonic)) (keyed a.mnemonic) a f.0 f.1)
   where
     by_best : (o : Option (List ℕ)) → IsLeast a o → HasPreferred p a
     by_best None best = absurd (none_best a bytes best s)
@@ -188,7 +210,12 @@ part_short is.One m o d h = rw h.1 (omega arith)
 action_short : (a : Action) (d : List ℕ) → SpellsAction a d → length d ≤ 12
 action_short a d s =
     rw (s.parts, length-append, length-append)
-    (omega (arith, template_short (entry_of s.first_byte) s.fields s.behind s.template s.has_template, part_short s.template.first s.fields a.first s.first_part s.first, part_short s.template.second s.fields a.second s.second_part s.second))
+    (omega (
+      arith,
+      template_short (entry_of s.first_byte) s.fields s.behind s.template s.has_template,
+      part_short s.template.first s.fields a.first s.first_part s.first,
+      part_short s.template.second s.fields a.second s.second_part s.second,
+    ))
 
 -- four prefixes at most, and twelve bytes
 pub spelled_short : (i : Ins) (bytes : List ℕ) → Spells i bytes → length bytes ≤ 16

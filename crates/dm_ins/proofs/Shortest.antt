@@ -35,7 +35,11 @@ abbrev MemoryFits : Option Address → Type 0
 MemoryFits o = IfSome o (λ a. a.displacement < 2 ^ 16)
 
 extended_fits : (n : ℕ) → n < 2 ^ 8 → sign_extended n < 2 ^ 16
-extended_fits n h = elim (cases_lt n 128) [ inl lt ↦ rw (lt-ltb n 128 lt) (omega arith) | inr le ↦ rw (le-ltb n 128 le) (omega arith) ]
+extended_fits n h = elim (cases_lt n 128) [
+  | inl lt ↦ rw (lt-ltb n 128 lt) (omega arith)
+  | inr le ↦
+      rw (le-ltb n 128 le) (omega arith)
+]
 
 memory_fits : (a : Option Address) (mode rm : ℕ) (d : List ℕ) → SpellsMemory a mode rm d → MemoryFits a
 memory_fits a mode rm d (inl h) = rw h.4 h.3
@@ -62,7 +66,8 @@ at_place_fits : (w : Width) (n : ℕ) (a : Option Address) → MemoryFits a → 
 at_place_fits w n None f = register_fits w n
 at_place_fits w n (Some a) f = f
 
-operand_fits : (k : OperandKind) (m : Fields) (o : Operand) (d : List ℕ) → m.register < 8 → MemoryFits m.memory → Fills k m o d → OperandFits o
+operand_fits : (k : OperandKind) (m : Fields) (o : Operand) (d : List ℕ) → m.register < 8 → MemoryFits m.memory →
+    Fills k m o d → OperandFits o
 operand_fits is.Nothing m o d lt f h = rw h.0 tt
 operand_fits (is.RegisterOrMemory w) m o d lt f h = rw h.0 (at_place_fits w m.rm m.memory f)
 operand_fits (is.Register w) m o d lt f h = rw h.0 (register_fits w m.register)
@@ -84,12 +89,15 @@ operand_fits is.One m o d lt f h = rw h.0 tt
 pub action_fits : (a : Action) (d : List ℕ) → SpellsAction a d → OperandFits a.first × OperandFits a.second
 action_fits a d h =
     let r = template_fits (entry_of h.first_byte) h.fields h.behind h.template h.has_template in
-    let f = fields_fit (entry_of h.first_byte) h.fields h.behind h.template h.has_template in
-    (operand_fits h.template.first h.fields a.first h.first_part r.0 f h.first, operand_fits h.template.second h.fields a.second h.second_part r.0 f h.second)
+    let f = fields_fit (entry_of h.first_byte) h.fields h.behind h.template h.has_template in (
+      operand_fits h.template.first h.fields a.first h.first_part r.0 f h.first,
+      operand_fits h.template.second h.fields a.second h.second_part r.0 f h.second,
+    )
 
 -- ---- the least spelling
 
-kept_by : (s : Option SegmentRegister) (l : Bool) (r : Option Repeat) → kept no_prefix (segment_list s ++ lock_list l ++ repeat_list r) ≡ record { segment = s; lock = l; repeat = r }
+kept_by : (s : Option SegmentRegister) (l : Bool) (r : Option Repeat) → kept no_prefix (segment_list s ++ lock_list l
+    ++ repeat_list r) ≡ record { segment = s; lock = l; repeat = r }
 kept_by None false None = refl
 kept_by None false (Some r) = refl
 kept_by None true None = refl
@@ -99,7 +107,8 @@ kept_by (Some s) false (Some r) = refl
 kept_by (Some s) true None = refl
 kept_by (Some s) true (Some r) = refl
 
-few_by : (s : Option SegmentRegister) (l : Bool) (r : Option Repeat) → length (segment_list s ++ lock_list l ++ repeat_list r) ≤ 4
+few_by : (s : Option SegmentRegister) (l : Bool) (r : Option Repeat) → length (segment_list s ++ lock_list l
+    ++ repeat_list r) ≤ 4
 few_by None false None = omega arith
 few_by None false (Some r) = omega arith
 few_by None true None = omega arith
@@ -126,11 +135,19 @@ candidate_of a d s =
       g = l.g;
       bytes = l.c;
       least = l.least;
-      is_candidate = record { choice = l.choice; is_choice = l.is_choice; mnemonic = l.mnemonic; is_bytes = l.is_bytes; first_fits = f.0; second_fits = f.1 };
+      is_candidate = record {
+        choice = l.choice;
+        is_choice = l.is_choice;
+        mnemonic = l.mnemonic;
+        is_bytes = l.is_bytes;
+        first_fits = f.0;
+        second_fits = f.1;
+      };
     }
 
 -- the least bytes are no more than those of any template
-covers : (a : Action) (o : Option (List ℕ)) (b g : ℕ) (c : List ℕ) → IsLeast a o → CandidateAt b g a c → IsSomeAnd o (λ v. before c v ≡ false)
+covers : (a : Action) (o : Option (List ℕ)) (b g : ℕ) (c : List ℕ) → IsLeast a o → CandidateAt b g a c →
+    IsSomeAnd o (λ v. before c v ≡ false)
 covers a o b g c best h =
     let s = none_left_out a.mnemonic b g h.choice h.is_choice h.mnemonic in
     best.least s.place c s.within (subst (λ (k : Key). CandidateAt k.opcode k.register a c) (sym s.is) h)
@@ -144,15 +161,20 @@ candidate_not_before a c d best s =
     by x f (inl e) = rw (← e) f
     by x f (inr lt) = not_shorter c d (omega (arith, not_longer c x f))
 
-pub encode_least : (p : Prefixes) (a : Action) (c b : List ℕ) → IsLeast a (Some c) → SpellsPrefixed p a b → before b (map prefix_byte (prefix_list p) ++ c) ≡ false
+pub encode_least : (p : Prefixes) (a : Action) (c b : List ℕ) → IsLeast a (Some c) → SpellsPrefixed p a b →
+    before b (map prefix_byte (prefix_list p) ++ c) ≡ false
 encode_least p a c b best s =
-    let q : before (map prefix_byte s.prefixes) (map prefix_byte (prefix_list p)) ≡ false = rw s.keeps (prefixes_least s.prefixes s.few) in
-    rw s.parts (not_before_append (map prefix_byte s.prefixes) (map prefix_byte (prefix_list p)) s.rest c q (candidate_not_before a c s.rest best s.action))
+    let q : before (map prefix_byte s.prefixes) (map prefix_byte (prefix_list p)) ≡ false =
+    rw s.keeps (prefixes_least s.prefixes s.few) in
+    rw s.parts (not_before_append (map prefix_byte s.prefixes) (map prefix_byte (prefix_list p)) s.rest c q
+    (candidate_not_before a c s.rest best s.action))
 
 pub best_spells : (a : Action) (c : List ℕ) → IsLeast a (Some c) → SpellsAction a c
-best_spells a c best = let h = best.found.2 in action_sound best.found.0 best.found.1 a c (choice_fits (entry_of best.found.0) best.found.0 best.found.1 h.choice h.is_choice) h
+best_spells a c best = let h = best.found.2 in action_sound best.found.0 best.found.1 a c
+    (choice_fits (entry_of best.found.0) best.found.0 best.found.1 h.choice h.is_choice) h
 
-pub encode_spells : (p : Prefixes) (a : Action) (c : List ℕ) → IsLeast a (Some c) → SpellsPrefixed p a (map prefix_byte (prefix_list p) ++ c)
+pub encode_spells : (p : Prefixes) (a : Action) (c : List ℕ) → IsLeast a (Some c) →
+    SpellsPrefixed p a (map prefix_byte (prefix_list p) ++ c)
 encode_spells p a c best = record {
   prefixes = prefix_list p;
   rest = c;

@@ -93,11 +93,13 @@ place_memory : (n : ℕ) (o : Option Address) (a : Address) → Some (place.Memo
 place_memory n None a e = absurd cc
 place_memory n (Some b) a e = cc
 
-place_register : (n : ℕ) (o : Option Address) (k : ℕ) → Some (place.Register k) ≡ Some (named_place n o) → (o ≡ None) × (n ≡ k)
+place_register : (n : ℕ) (o : Option Address) (k : ℕ) → Some (place.Register k) ≡ Some (named_place n o) → (o ≡ None) ×
+    (n ≡ k)
 place_register n None k e = (refl, cc)
 place_register n (Some b) k e = absurd cc
 
-signed_is : (n : ℕ) (e : Demand) → as_signed n ≡ Some e → (n ≡ sign_extended (n % 256)) × (data_bytes e.tail ≡ n % 256 ∷ [])
+signed_is : (n : ℕ) (e : Demand) → as_signed n ≡ Some e → (n ≡ sign_extended (n % 256)) ×
+    (data_bytes e.tail ≡ n % 256 ∷ [])
 signed_is n e h =
     let c = chosen_true (eqb (sign_extended (n % 256)) n) (asks_data (data_is.Byte (n % 256))) e h in
     (sym (eqb-true (sign_extended (n % 256)) n c.0), ap (λ (x : Demand). data_bytes x.tail) (sym c.1))
@@ -105,17 +107,26 @@ signed_is n e h =
 tail_is : (x e : Demand) → x ≡ e → data_bytes e.tail ≡ data_bytes x.tail
 tail_is x e h = ap (λ (y : Demand). data_bytes y.tail) (sym h)
 
-direct_kind : (w v : Width) (a : Address) (e : Demand) → cond (same_width w v) (cond (is_direct a.base) (Some (asks_data (data_is.Word a.displacement))) None) None ≡ Some e → (w ≡ v) × (a ≡ direct a.displacement) × (data_bytes e.tail ≡ word_bytes a.displacement)
+direct_kind : (w v : Width) (a : Address) (e : Demand) →
+    cond (same_width w v) (cond (is_direct a.base) (Some (asks_data (data_is.Word a.displacement))) None) None
+    ≡ Some e → (w ≡ v) × (a ≡ direct a.displacement) × (data_bytes e.tail ≡ word_bytes a.displacement)
 direct_kind w v a e h = by (same_width w v) (is_direct a.base) refl refl h
   where
-    by : (s t : Bool) → same_width w v ≡ s → is_direct a.base ≡ t → cond s (cond t (Some (asks_data (data_is.Word a.displacement))) None) None ≡ Some e → (w ≡ v) × (a ≡ direct a.displacement) × (data_bytes e.tail ≡ word_bytes a.displacement)
-    by true true p q h = (same_is w v p, direct_is a q, tail_is _ e (is_some (asks_data (data_is.Word a.displacement)) e h))
+    by : (s t : Bool) → same_width w v ≡ s → is_direct a.base ≡ t →
+        cond s (cond t (Some (asks_data (data_is.Word a.displacement))) None) None ≡ Some e → (w ≡ v) ×
+        (a ≡ direct a.displacement) × (data_bytes e.tail ≡ word_bytes a.displacement)
+    by true true p q h = (
+      same_is w v p,
+      direct_is a q,
+      tail_is _ e (is_some (asks_data (data_is.Word a.displacement)) e h),
+    )
     by true false p q h = absurd cc
     by false t p q h = absurd cc
 
 module _ (m : Fields) (e : Demand) where
   abbrev pub Goal : OperandKind → Operand → Type 0
-  Goal k o = OperandFits o → demand_of k o ≡ Some e → e.register ≡ asked (asks_for_register k) m.register → e.place ≡ asked (asks_for_place k) (named_place m.rm m.memory) → Fills k m o (data_bytes e.tail)
+  Goal k o = OperandFits o → demand_of k o ≡ Some e → e.register ≡ asked (asks_for_register k) m.register →
+      e.place ≡ asked (asks_for_place k) (named_place m.rm m.memory) → Fills k m o (data_bytes e.tail)
 
   pub operand_fills : (k : OperandKind) (o : Operand) → Goal k o
   unfolding demand_of
@@ -150,19 +161,32 @@ module _ (m : Fields) (e : Demand) where
       let q = place_memory m.rm m.memory a (ap (λ (x : Demand). x.place) c.1 ∙ p) in
       (a, q, rw (← same_is Word v c.0) refl, tail_is _ e c.1)
   operand_fills is.Memory _ f h r p = absurd cc
-  operand_fills is.ByteValue (operand.ByteValue n) f h r p = (n, f, refl, tail_is _ e (is_some (asks_data (data_is.Byte n)) e h))
+  operand_fills is.ByteValue (operand.ByteValue n) f h r p =
+      (n, f, refl, tail_is _ e (is_some (asks_data (data_is.Byte n)) e h))
   operand_fills is.ByteValue _ f h r p = absurd cc
-  operand_fills is.WordValue (operand.WordValue n) f h r p = (n, f, refl, tail_is _ e (is_some (asks_data (data_is.Word n)) e h))
+  operand_fills is.WordValue (operand.WordValue n) f h r p =
+      (n, f, refl, tail_is _ e (is_some (asks_data (data_is.Word n)) e h))
   operand_fills is.WordValue _ f h r p = absurd cc
-  operand_fills is.SignedValue (operand.WordValue n) f h r p = let s = signed_is n e h in (n % 256, omega arith, ap operand.WordValue s.0, s.1)
+  operand_fills is.SignedValue (operand.WordValue n) f h r p = let s = signed_is n e h in
+      (n % 256, omega arith, ap operand.WordValue s.0, s.1)
   operand_fills is.SignedValue _ f h r p = absurd cc
-  operand_fills is.Short (operand.Target n) f h r p = let s = signed_is n e h in (n % 256, omega arith, ap operand.Target s.0, s.1)
+  operand_fills is.Short (operand.Target n) f h r p = let s = signed_is n e h in
+      (n % 256, omega arith, ap operand.Target s.0, s.1)
   operand_fills is.Short _ f h r p = absurd cc
-  operand_fills is.Near (operand.Target n) f h r p = (n, f, refl, tail_is _ e (is_some (asks_data (data_is.Word n)) e h))
+  operand_fills is.Near (operand.Target n) f h r p =
+      (n, f, refl, tail_is _ e (is_some (asks_data (data_is.Word n)) e h))
   operand_fills is.Near _ f h r p = absurd cc
-  operand_fills (is.Direct w) (operand.Memory v a) f h r p = let c = direct_kind w v a e h in (a.displacement, f, rw (← c.0) (ap (operand.Memory w) c.1), c.2)
+  operand_fills (is.Direct w) (operand.Memory v a) f h r p = let c = direct_kind w v a e h in
+      (a.displacement, f, rw (← c.0) (ap (operand.Memory w) c.1), c.2)
   operand_fills (is.Direct w) _ f h r p = absurd cc
-  operand_fills is.Far (operand.FarTarget n s) f h r p = (n, s, f.0, f.1, refl, tail_is _ e (is_some (asks_data (data_is.Words n s)) e h))
+  operand_fills is.Far (operand.FarTarget n s) f h r p = (
+    n,
+    s,
+    f.0,
+    f.1,
+    refl,
+    tail_is _ e (is_some (asks_data (data_is.Words n s)) e h),
+  )
   operand_fills is.Far _ f h r p = absurd cc
   operand_fills (is.Escape k) (operand.ByteValue n) f h r p =
       let c = chosen_true (eqb (n / 8) (k % 8)) (asks_register (n % 8)) e h in
@@ -172,51 +196,101 @@ module _ (m : Fields) (e : Demand) where
       (ap operand.ByteValue u, tail_is _ e c.1)
   operand_fills (is.Escape k) _ f h r p = absurd cc
   operand_fills (is.Byte k) (operand.ByteRegister s) f h r p =
-      let c = chosen_true (eqb (byte_register_number k) (byte_register_number s)) (asks_data data_is.Nothing) e h in
-      (ap operand.ByteRegister (sym (byte_back s) ∙ ap (λ n. get_or byte_registers n Al) (sym (eqb-true _ _ c.0)) ∙ byte_back k), tail_is _ e c.1)
+      let c = chosen_true (eqb (byte_register_number k) (byte_register_number s)) (asks_data data_is.Nothing) e h in (
+        ap operand.ByteRegister (sym (byte_back s) ∙ ap (λ n. get_or byte_registers n Al) (sym (eqb-true _ _ c.0))
+            ∙ byte_back k),
+        tail_is _ e c.1,
+      )
   operand_fills (is.Byte k) _ f h r p = absurd cc
   operand_fills (is.Word k) (operand.WordRegister s) f h r p =
-      let c = chosen_true (eqb (word_number k) (word_number s)) (asks_data data_is.Nothing) e h in
-      (ap operand.WordRegister (sym (word_back s) ∙ ap (λ n. get_or word_registers n Ax) (sym (eqb-true _ _ c.0)) ∙ word_back k), tail_is _ e c.1)
+      let c = chosen_true (eqb (word_number k) (word_number s)) (asks_data data_is.Nothing) e h in (
+        ap operand.WordRegister (sym (word_back s) ∙ ap (λ n. get_or word_registers n Ax) (sym (eqb-true _ _ c.0))
+            ∙ word_back k),
+        tail_is _ e c.1,
+      )
   operand_fills (is.Word k) _ f h r p = absurd cc
   operand_fills (is.TheSegment k) (operand.SegmentRegister s) f h r p =
-      let c = chosen_true (eqb (segment_number k) (segment_number s)) (asks_data data_is.Nothing) e h in
-      (ap operand.SegmentRegister (sym (segment_back s) ∙ ap (λ n. get_or segments n Es) (sym (eqb-true _ _ c.0)) ∙ segment_back k), tail_is _ e c.1)
+      let c = chosen_true (eqb (segment_number k) (segment_number s)) (asks_data data_is.Nothing) e h in (
+        ap operand.SegmentRegister (sym (segment_back s) ∙ ap (λ n. get_or segments n Es) (sym (eqb-true _ _ c.0))
+            ∙ segment_back k),
+        tail_is _ e c.1,
+      )
   operand_fills (is.TheSegment k) _ f h r p = absurd cc
   operand_fills is.One operand.One f h r p = (refl, tail_is _ e (is_some (asks_data data_is.Nothing) e h))
   operand_fills is.One _ f h r p = absurd cc
 
 -- ---- fields
 
-displaced_spells : (r rm n : ℕ) → n < 2 ^ 16 → (mode : ℕ) × (d : List ℕ) × (with_displacement r rm n ≡ (64 * mode + 8 * r + rm) ∷ d)
+displaced_spells : (r rm n : ℕ) → n < 2 ^ 16 → (mode : ℕ) × (d : List ℕ) ×
+    (with_displacement r rm n ≡ (64 * mode + 8 * r + rm) ∷ d)
     × (((mode ≡ 1) × (k : ℕ) × (k < 2 ^ 8) × (n ≡ sign_extended k) × (d ≡ k ∷ [])) ⊎ ((mode ≡ 2) × (d ≡ word_bytes n)))
 displaced_spells r rm n lt =
     let e1 : 64 + (8 * r + rm) ≡ 64 * 1 + 8 * r + rm = omega arith in
     let e2 : 128 + (8 * r + rm) ≡ 64 * 2 + 8 * r + rm = omega arith in
     elim (eqb_tells (sign_extended (n % 256)) n) [
-      | inl t ↦ (1, n % 256 ∷ [], rw t.0 (ap (λ (k : ℕ). k ∷ n % 256 ∷ []) e1), inl (refl, n % 256, omega arith, sym t.1, refl))
+      | inl t ↦ (
+        1,
+        n % 256 ∷ [],
+        rw t.0 (ap (λ (k : ℕ). k ∷ n % 256 ∷ []) e1),
+        inl (
+          refl,
+          n % 256,
+          omega arith,
+          sym t.1,
+          refl,
+        ),
+      )
       | inr f ↦ (2, word_bytes n, rw f.0 (ap (λ (k : ℕ). k ∷ word_bytes n) e2), inr (refl, refl))
     ]
 
 abbrev with_memory : ℕ → ℕ → Address → Fields
 with_memory r rm a = record { register = r; rm = rm; memory = Some a }
 
-displaced_fields : (r rm n : ℕ) → r < 8 → rm < 8 → n < 2 ^ 16 → SpellsFields (with_memory r rm (based rm n)) (with_displacement r rm n)
+displaced_fields : (r rm n : ℕ) → r < 8 → rm < 8 → n < 2 ^ 16 →
+    SpellsFields (with_memory r rm (based rm n)) (with_displacement r rm n)
 displaced_fields r rm n rlt rmlt lt =
     let h = displaced_spells r rm n lt in
     elim h.3 [
-      | inl s ↦ record { mode = h.0; displacement = h.1; register_fits = rlt; rm_fits = rmlt; parts = h.2; spells_memory = inr (inr (inl (s.0, s.1, s.2, ap (λ (k : ℕ). Some (based rm k)) s.3, s.4))) }
-      | inr s ↦ record { mode = h.0; displacement = h.1; register_fits = rlt; rm_fits = rmlt; parts = h.2; spells_memory = inr (inr (inr (inl (s.0, n, lt, refl, s.1)))) }
+      | inl s ↦ record {
+        mode = h.0;
+        displacement = h.1;
+        register_fits = rlt;
+        rm_fits = rmlt;
+        parts = h.2;
+        spells_memory = inr (inr (inl (s.0, s.1, s.2, ap (λ (k : ℕ). Some (based rm k)) s.3, s.4)));
+      }
+      | inr s ↦ record {
+        mode = h.0;
+        displacement = h.1;
+        register_fits = rlt;
+        rm_fits = rmlt;
+        parts = h.2;
+        spells_memory = inr (inr (inr (inl (s.0, n, lt, refl, s.1))));
+      }
     ]
 
-based_fields : (r rm n : ℕ) → r < 8 → rm < 8 → n < 2 ^ 16 → SpellsFields (with_memory r rm (based rm n)) (memory_bytes r (based rm n))
+based_fields : (r rm n : ℕ) → r < 8 → rm < 8 → n < 2 ^ 16 → SpellsFields (with_memory r rm (based rm n))
+    (memory_bytes r (based rm n))
 based_fields r rm n rlt rmlt lt =
     let b = base_at rm rmlt in
     let e0 : 8 * r + rm ≡ 64 * 0 + 8 * r + rm = omega arith in
     rw (b.1, b.0) (elim (eqb_tells rm 6) [
-      | inl t ↦ rw t.0 (subst (λ k. SpellsFields (with_memory r rm (based rm n)) (with_displacement r k n)) t.1 (displaced_fields r rm n rlt rmlt lt))
+      | inl t ↦ rw t.0 (subst (λ k. SpellsFields (with_memory r rm (based rm n)) (with_displacement r k n)) t.1
+          (displaced_fields r rm n rlt rmlt lt))
       | inr f ↦ rw f.0 (elim (eqb_tells n 0) [
-        | inl z ↦ rw z.0 (record { mode = 0; displacement = []; register_fits = rlt; rm_fits = rmlt; parts = ap (λ (k : ℕ). k ∷ []) e0; spells_memory = inr (inl (refl, f.1, ap (λ (k : ℕ). Some (based rm k)) z.1, refl)) })
+        | inl z ↦ rw z.0 (record {
+          mode = 0;
+          displacement = [];
+          register_fits = rlt;
+          rm_fits = rmlt;
+          parts = ap (λ (k : ℕ). k ∷ []) e0;
+          spells_memory = inr (inl (
+            refl,
+            f.1,
+            ap (λ (k : ℕ). Some (based rm k)) z.1,
+            refl,
+          ));
+        })
         | inr g ↦ rw g.0 (displaced_fields r rm n rlt rmlt lt)
       ])
     ])
@@ -224,10 +298,18 @@ based_fields r rm n rlt rmlt lt =
 abbrev at_base : Base → ℕ → Address
 at_base b n = record { base = b; displacement = n }
 
-address_fields : (r : ℕ) (b : Base) (n : ℕ) → r < 8 → n < 2 ^ 16 → SpellsFields (with_memory r (rm_of b) (at_base b n)) (memory_bytes r (at_base b n))
+address_fields : (r : ℕ) (b : Base) (n : ℕ) → r < 8 → n < 2 ^ 16 →
+    SpellsFields (with_memory r (rm_of b) (at_base b n)) (memory_bytes r (at_base b n))
 address_fields r Direct n rlt lt =
     let e : 8 * r + 6 ≡ 64 * 0 + 8 * r + 6 = omega arith in
-    record { mode = 0; displacement = word_bytes n; register_fits = rlt; rm_fits = omega arith; parts = ap (λ (k : ℕ). k ∷ word_bytes n) e; spells_memory = inl (refl, refl, n, lt, refl, refl) }
+    record {
+      mode = 0;
+      displacement = word_bytes n;
+      register_fits = rlt;
+      rm_fits = omega arith;
+      parts = ap (λ (k : ℕ). k ∷ word_bytes n) e;
+      spells_memory = inl (refl, refl, n, lt, refl, refl);
+    }
 address_fields r BxSi n rlt lt = based_fields r 0 n rlt (omega arith) lt
 address_fields r BxDi n rlt lt = based_fields r 1 n rlt (omega arith) lt
 address_fields r BpSi n rlt lt = based_fields r 2 n rlt (omega arith) lt
@@ -245,14 +327,23 @@ abbrev pub PlaceIs : RegisterOrMemory → Type 0
 PlaceIs (place.Register n) = n < 8
 PlaceIs (place.Memory a) = a.displacement < 2 ^ 16
 
-pub fields_spell : (r : ℕ) (p : RegisterOrMemory) → r < 8 → PlaceIs p → SpellsFields (fields_from r p) (fields_bytes r p)
+pub fields_spell : (r : ℕ) (p : RegisterOrMemory) → r < 8 → PlaceIs p →
+    SpellsFields (fields_from r p) (fields_bytes r p)
 unfolding fields_bytes
 fields_spell r (place.Register n) rlt h =
     let e : 192 + (8 * r + n) ≡ 64 * 3 + 8 * r + n = omega arith in
-    record { mode = 3; displacement = []; register_fits = rlt; rm_fits = h; parts = ap (λ (k : ℕ). k ∷ []) e; spells_memory = inr (inr (inr (inr (refl, refl, refl)))) }
+    record {
+      mode = 3;
+      displacement = [];
+      register_fits = rlt;
+      rm_fits = h;
+      parts = ap (λ (k : ℕ). k ∷ []) e;
+      spells_memory = inr (inr (inr (inr (refl, refl, refl))));
+    }
 fields_spell r (place.Memory a) rlt h = address_fields r a.base a.displacement rlt h
 
-pub named_from : (r : ℕ) (p : RegisterOrMemory) → (named_place (fields_from r p).rm (fields_from r p).memory ≡ p) × ((fields_from r p).register ≡ r)
+pub named_from : (r : ℕ) (p : RegisterOrMemory) → (named_place (fields_from r p).rm (fields_from r p).memory ≡ p) ×
+    ((fields_from r p).register ≡ r)
 named_from r (place.Register n) = (refl, refl)
 named_from r (place.Memory a) = (refl, refl)
 
@@ -287,54 +378,106 @@ pub record Shaped (k : OperandKind) (e : Demand) : Type 0 where
   pub place : e.place ≡ asked (asks_for_place k) at
 
 module _ (e : Demand) where
-  by_data : (k : OperandKind) (x : Demand) → x ≡ e → x.register ≡ asked (asks_for_register k) 0 → x.place ≡ asked (asks_for_place k) (place.Register 0) → Shaped k e
-  by_data k x h r p = subst (λ y. Shaped k y) h (record { number = 0; number_fits = omega arith; at = place.Register 0; at_fits = omega arith; register = r; place = p })
+  by_data : (k : OperandKind) (x : Demand) → x ≡ e → x.register ≡ asked (asks_for_register k) 0 →
+      x.place ≡ asked (asks_for_place k) (place.Register 0) → Shaped k e
+  by_data k x h r p = subst (λ y. Shaped k y) h (record {
+    number = 0;
+    number_fits = omega arith;
+    at = place.Register 0;
+    at_fits = omega arith;
+    register = r;
+    place = p;
+  })
 
-  by_number : (k : OperandKind) (n : ℕ) → n < 8 → asks_register n ≡ e → asks_for_register k ≡ true → asks_for_place k ≡ false → Shaped k e
-  by_number k n lt h a b = subst (λ y. Shaped k y) h (record { number = n; number_fits = lt; at = place.Register 0; at_fits = omega arith; register = rw a refl; place = rw b refl })
+  by_number : (k : OperandKind) (n : ℕ) → n < 8 → asks_register n ≡ e → asks_for_register k ≡ true →
+      asks_for_place k ≡ false → Shaped k e
+  by_number k n lt h a b = subst (λ y. Shaped k y) h (record {
+    number = n;
+    number_fits = lt;
+    at = place.Register 0;
+    at_fits = omega arith;
+    register = rw a refl;
+    place = rw b refl;
+  })
 
-  by_place : (k : OperandKind) (q : RegisterOrMemory) → PlaceIs q → asks_place q ≡ e → asks_for_register k ≡ false → asks_for_place k ≡ true → Shaped k e
-  by_place k q fits h a b = subst (λ y. Shaped k y) h (record { number = 0; number_fits = omega arith; at = q; at_fits = fits; register = rw a refl; place = rw b refl })
+  by_place : (k : OperandKind) (q : RegisterOrMemory) → PlaceIs q → asks_place q ≡ e → asks_for_register k ≡ false →
+      asks_for_place k ≡ true → Shaped k e
+  by_place k q fits h a b = subst (λ y. Shaped k y) h (record {
+    number = 0;
+    number_fits = omega arith;
+    at = q;
+    at_fits = fits;
+    register = rw a refl;
+    place = rw b refl;
+  })
 
   pub demand_shape : (k : OperandKind) (o : Operand) → OperandFits o → demand_of k o ≡ Some e → Shaped k e
   unfolding demand_of
   demand_shape is.Nothing operand.Nothing f h = by_data is.Nothing _ (is_some (asks_data data_is.Nothing) e h) refl refl
   demand_shape is.Nothing _ f h = absurd cc
-  demand_shape (is.RegisterOrMemory w) (operand.Memory v a) f h = let c = chosen_true (same_width w v) (asks_place (place.Memory a)) e h in by_place (is.RegisterOrMemory w) (place.Memory a) f c.1 refl refl
-  demand_shape (is.RegisterOrMemory Byte) (operand.ByteRegister s) f h = by_place (is.RegisterOrMemory Byte) (place.Register (byte_register_number s)) (byte_below s) (is_some (asks_place (place.Register (byte_register_number s))) e h) refl refl
-  demand_shape (is.RegisterOrMemory Word) (operand.WordRegister s) f h = by_place (is.RegisterOrMemory Word) (place.Register (word_number s)) (word_below s) (is_some (asks_place (place.Register (word_number s))) e h) refl refl
+  demand_shape (is.RegisterOrMemory w) (operand.Memory v a) f h = let c =
+      chosen_true (same_width w v) (asks_place (place.Memory a)) e h in
+      by_place (is.RegisterOrMemory w) (place.Memory a) f c.1 refl refl
+  demand_shape (is.RegisterOrMemory Byte) (operand.ByteRegister s) f h =
+      by_place (is.RegisterOrMemory Byte) (place.Register (byte_register_number s)) (byte_below s)
+      (is_some (asks_place (place.Register (byte_register_number s))) e h) refl refl
+  demand_shape (is.RegisterOrMemory Word) (operand.WordRegister s) f h =
+      by_place (is.RegisterOrMemory Word) (place.Register (word_number s)) (word_below s)
+      (is_some (asks_place (place.Register (word_number s))) e h) refl refl
   demand_shape (is.RegisterOrMemory Byte) _ f h = absurd cc
   demand_shape (is.RegisterOrMemory Word) _ f h = absurd cc
-  demand_shape (is.Register Byte) (operand.ByteRegister s) f h = by_number (is.Register Byte) (byte_register_number s) (byte_below s) (is_some (asks_register (byte_register_number s)) e h) refl refl
-  demand_shape (is.Register Word) (operand.WordRegister s) f h = by_number (is.Register Word) (word_number s) (word_below s) (is_some (asks_register (word_number s)) e h) refl refl
+  demand_shape (is.Register Byte) (operand.ByteRegister s) f h =
+      by_number (is.Register Byte) (byte_register_number s) (byte_below s)
+      (is_some (asks_register (byte_register_number s)) e h) refl refl
+  demand_shape (is.Register Word) (operand.WordRegister s) f h =
+      by_number (is.Register Word) (word_number s) (word_below s) (is_some (asks_register (word_number s)) e h) refl
+      refl
   demand_shape (is.Register Byte) _ f h = absurd cc
   demand_shape (is.Register Word) _ f h = absurd cc
-  demand_shape is.Memory (operand.Memory v a) f h = let c = chosen_true (same_width Word v) (asks_place (place.Memory a)) e h in by_place is.Memory (place.Memory a) f c.1 refl refl
+  demand_shape is.Memory (operand.Memory v a) f h = let c =
+      chosen_true (same_width Word v) (asks_place (place.Memory a)) e h in
+      by_place is.Memory (place.Memory a) f c.1 refl refl
   demand_shape is.Memory _ f h = absurd cc
-  demand_shape is.ByteValue (operand.ByteValue n) f h = by_data is.ByteValue _ (is_some (asks_data (data_is.Byte n)) e h) refl refl
+  demand_shape is.ByteValue (operand.ByteValue n) f h =
+      by_data is.ByteValue _ (is_some (asks_data (data_is.Byte n)) e h) refl refl
   demand_shape is.ByteValue _ f h = absurd cc
-  demand_shape is.WordValue (operand.WordValue n) f h = by_data is.WordValue _ (is_some (asks_data (data_is.Word n)) e h) refl refl
+  demand_shape is.WordValue (operand.WordValue n) f h =
+      by_data is.WordValue _ (is_some (asks_data (data_is.Word n)) e h) refl refl
   demand_shape is.WordValue _ f h = absurd cc
-  demand_shape is.SignedValue (operand.WordValue n) f h = let c = chosen_true (eqb (sign_extended (n % 256)) n) (asks_data (data_is.Byte (n % 256))) e h in by_data is.SignedValue _ c.1 refl refl
+  demand_shape is.SignedValue (operand.WordValue n) f h = let c =
+      chosen_true (eqb (sign_extended (n % 256)) n) (asks_data (data_is.Byte (n % 256))) e h in
+      by_data is.SignedValue _ c.1 refl refl
   demand_shape is.SignedValue _ f h = absurd cc
-  demand_shape is.Short (operand.Target n) f h = let c = chosen_true (eqb (sign_extended (n % 256)) n) (asks_data (data_is.Byte (n % 256))) e h in by_data is.Short _ c.1 refl refl
+  demand_shape is.Short (operand.Target n) f h = let c =
+      chosen_true (eqb (sign_extended (n % 256)) n) (asks_data (data_is.Byte (n % 256))) e h in
+      by_data is.Short _ c.1 refl refl
   demand_shape is.Short _ f h = absurd cc
   demand_shape is.Near (operand.Target n) f h = by_data is.Near _ (is_some (asks_data (data_is.Word n)) e h) refl refl
   demand_shape is.Near _ f h = absurd cc
   demand_shape (is.Direct w) (operand.Memory v a) f h =
-      let c = chosen_some (same_width w v) (cond (is_direct a.base) (Some (asks_data (data_is.Word a.displacement))) None) e h in
+      let c = chosen_some (same_width w v) (cond (is_direct a.base) (Some (asks_data (data_is.Word a.displacement)))
+      None) e h in
       let d = chosen_true (is_direct a.base) (asks_data (data_is.Word a.displacement)) e c in
       by_data (is.Direct w) _ d.1 refl refl
   demand_shape (is.Direct w) _ f h = absurd cc
-  demand_shape is.Far (operand.FarTarget n s) f h = by_data is.Far _ (is_some (asks_data (data_is.Words n s)) e h) refl refl
+  demand_shape is.Far (operand.FarTarget n s) f h =
+      by_data is.Far _ (is_some (asks_data (data_is.Words n s)) e h) refl refl
   demand_shape is.Far _ f h = absurd cc
-  demand_shape (is.Escape k) (operand.ByteValue n) f h = let c = chosen_true (eqb (n / 8) (k % 8)) (asks_register (n % 8)) e h in by_number (is.Escape k) (n % 8) (omega arith) c.1 refl refl
+  demand_shape (is.Escape k) (operand.ByteValue n) f h = let c =
+      chosen_true (eqb (n / 8) (k % 8)) (asks_register (n % 8)) e h in
+      by_number (is.Escape k) (n % 8) (omega arith) c.1 refl refl
   demand_shape (is.Escape k) _ f h = absurd cc
-  demand_shape (is.Byte k) (operand.ByteRegister s) f h = let c = chosen_true (eqb (byte_register_number k) (byte_register_number s)) (asks_data data_is.Nothing) e h in by_data (is.Byte k) _ c.1 refl refl
+  demand_shape (is.Byte k) (operand.ByteRegister s) f h = let c =
+      chosen_true (eqb (byte_register_number k) (byte_register_number s)) (asks_data data_is.Nothing) e h in
+      by_data (is.Byte k) _ c.1 refl refl
   demand_shape (is.Byte k) _ f h = absurd cc
-  demand_shape (is.Word k) (operand.WordRegister s) f h = let c = chosen_true (eqb (word_number k) (word_number s)) (asks_data data_is.Nothing) e h in by_data (is.Word k) _ c.1 refl refl
+  demand_shape (is.Word k) (operand.WordRegister s) f h = let c =
+      chosen_true (eqb (word_number k) (word_number s)) (asks_data data_is.Nothing) e h in
+      by_data (is.Word k) _ c.1 refl refl
   demand_shape (is.Word k) _ f h = absurd cc
-  demand_shape (is.TheSegment k) (operand.SegmentRegister s) f h = let c = chosen_true (eqb (segment_number k) (segment_number s)) (asks_data data_is.Nothing) e h in by_data (is.TheSegment k) _ c.1 refl refl
+  demand_shape (is.TheSegment k) (operand.SegmentRegister s) f h = let c =
+      chosen_true (eqb (segment_number k) (segment_number s)) (asks_data data_is.Nothing) e h in
+      by_data (is.TheSegment k) _ c.1 refl refl
   demand_shape (is.TheSegment k) _ f h = absurd cc
   demand_shape is.One operand.One f h = by_data is.One _ (is_some (asks_data data_is.Nothing) e h) refl refl
   demand_shape is.One _ f h = absurd cc

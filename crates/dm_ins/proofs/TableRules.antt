@@ -12,7 +12,8 @@ both_true true false e = absurd cc
 both_true false b e = absurd cc
 
 -- what passes at each element and at the default passes at each place
-pub passes : {X : Type 0} (p : X → Bool) (d : X) → p d ≡ true → (xs : List X) (k : ℕ) → list_all p xs ≡ true → p (get_or xs k d) ≡ true
+pub passes : {X : Type 0} (p : X → Bool) (d : X) → p d ≡ true → (xs : List X) (k : ℕ) → list_all p xs ≡ true →
+    p (get_or xs k d) ≡ true
 passes p d h [] k e = h
 passes p d h (x ∷ xs) zero e = (both_true (p x) (list_all p xs) e).0
 passes p d h (x ∷ xs) (suc k) e = passes p d h xs k (both_true (p x) (list_all p xs) e).1

@@ -126,7 +126,8 @@ Fills is.SignedValue m o d = (n : ℕ) × (n < 2 ^ 8) × (o ≡ operand.WordValu
 Fills is.Short m o d = (n : ℕ) × (n < 2 ^ 8) × (o ≡ operand.Target (sign_extended n)) × (d ≡ n ∷ [])
 Fills is.Near m o d = (n : ℕ) × (n < 2 ^ 16) × (o ≡ operand.Target n) × (d ≡ word_bytes n)
 Fills (is.Direct w) m o d = (n : ℕ) × (n < 2 ^ 16) × (o ≡ operand.Memory w (direct n)) × (d ≡ word_bytes n)
-Fills is.Far m o d = (n s : ℕ) × (n < 2 ^ 16) × (s < 2 ^ 16) × (o ≡ operand.FarTarget n s) × (d ≡ word_bytes n ++ word_bytes s)
+Fills is.Far m o d = (n s : ℕ) × (n < 2 ^ 16) × (s < 2 ^ 16) × (o ≡ operand.FarTarget n s) ×
+    (d ≡ word_bytes n ++ word_bytes s)
 Fills (is.Escape r) m o d = (o ≡ operand.ByteValue (8 * (r % 8) + m.register)) × (d ≡ [])
 Fills (is.Byte r) m o d = (o ≡ operand.ByteRegister r) × (d ≡ [])
 Fills (is.Word r) m o d = (o ≡ operand.WordRegister r) × (d ≡ [])

@@ -123,12 +123,14 @@ arithmetics = op.Add ∷ op.Or ∷ op.Adc ∷ op.Sbb ∷ op.And ∷ op.Sub ∷ o
 
 -- the mnemonics of the conditional jumps, in the order of their first bytes 70h to 7Fh; 16 templates
 abbrev pub conditions : List Mnemonic
-conditions = op.Jo ∷ op.Jno ∷ op.Jb ∷ op.Jae ∷ op.Jz ∷ op.Jnz ∷ op.Jbe ∷ op.Ja ∷ op.Js ∷ op.Jns ∷ op.Jp ∷ op.Jnp ∷ op.Jl ∷ op.Jge ∷ op.Jle ∷ op.Jg ∷ []
+conditions = op.Jo ∷ op.Jno ∷ op.Jb ∷ op.Jae ∷ op.Jz ∷ op.Jnz ∷ op.Jbe ∷ op.Ja ∷ op.Js ∷ op.Jns ∷ op.Jp ∷ op.Jnp ∷ op.Jl
+    ∷ op.Jge ∷ op.Jle ∷ op.Jg ∷ []
 
 -- the entries of an arithmetic mnemonic with six first bytes, one after the other: E and G, G and E, accumulator and
 -- immediate
 abbrev pub six : Mnemonic → List OpcodeEntry
-six m = two_operands m Eb Gb ∷ two_operands m Ew Gw ∷ two_operands m Gb Eb ∷ two_operands m Gw Ew ∷ two_operands m AL Ib ∷ two_operands m AX Iw ∷ []
+six m = two_operands m Eb Gb ∷ two_operands m Ew Gw ∷ two_operands m Gb Eb ∷ two_operands m Gw Ew ∷ two_operands m AL Ib
+    ∷ two_operands m AX Iw ∷ []
 
 -- an entry for each word register, in the order of their numbers
 abbrev pub each_word : (WordRegister → OpcodeEntry) → List OpcodeEntry
@@ -142,12 +144,14 @@ immediate a b = (map (λ m. Some (template m a b)) arithmetics)
 -- a group of shifts and rotates by 1 or by CL, D0h to D3h, with operands of the kinds a and b; 4 groups, 28 templates
 -- (/6 is not listed)
 abbrev pub shifts : OperandKind → OperandKind → List (Option Template)
-shifts a b = (map (λ m. Some (template m a b)) (op.Rol ∷ op.Ror ∷ op.Rcl ∷ op.Rcr ∷ op.Shl ∷ op.Shr ∷ []) ++ None ∷ Some (template op.Sar a b) ∷ [])
+shifts a b = (map (λ m. Some (template m a b)) (op.Rol ∷ op.Ror ∷ op.Rcl ∷ op.Rcr ∷ op.Shl ∷ op.Shr ∷ []) ++ None
+    ∷ Some (template op.Sar a b) ∷ [])
 
 -- a group of TEST, NOT, NEG, MUL, IMUL, DIV and IDIV, F6h and F7h, with an operand of the kind e, and an immediate i
 -- for TEST; 2 groups, 14 templates (/1 is not listed)
 abbrev pub unary : OperandKind → OperandKind → List (Option Template)
-unary e i = (Some (template op.Test e i) ∷ None ∷ map (λ m. Some (template m e is.Nothing)) (op.Not ∷ op.Neg ∷ op.Mul ∷ op.Imul ∷ op.Div ∷ op.Idiv ∷ []))
+unary e i = (Some (template op.Test e i) ∷ None ∷ map (λ m. Some (template m e is.Nothing)) (op.Not ∷ op.Neg ∷ op.Mul
+    ∷ op.Imul ∷ op.Div ∷ op.Idiv ∷ []))
 
 -- a group with a template for the reg field 0 alone: POP 8Fh, MOV C6h and C7h
 abbrev pub zeroth : Template → List (Option Template)
@@ -185,35 +189,45 @@ entries =
     ++ map (λ c. one_operand c Db) conditions
     -- 80
     ++ Group 0 ∷ Group 1 ∷ Group 2 ∷ Group 3 ∷ []
-    ++ two_operands op.Test Eb Gb ∷ two_operands op.Test Ew Gw ∷ two_operands op.Xchg Eb Gb ∷ two_operands op.Xchg Ew Gw ∷ []
-    ++ two_operands op.Mov Eb Gb ∷ two_operands op.Mov Ew Gw ∷ two_operands op.Mov Gb Eb ∷ two_operands op.Mov Gw Ew ∷ []
+    ++ two_operands op.Test Eb Gb ∷ two_operands op.Test Ew Gw ∷ two_operands op.Xchg Eb Gb ∷ two_operands op.Xchg Ew Gw
+    ∷ []
+    ++ two_operands op.Mov Eb Gb ∷ two_operands op.Mov Ew Gw ∷ two_operands op.Mov Gb Eb ∷ two_operands op.Mov Gw Ew
+    ∷ []
     ++ Group 4 ∷ []
     ++ two_operands op.Lea Gw M ∷ []
     ++ Group 5 ∷ []
     ++ Group 6 ∷ []
     -- 90
     ++ each_word (λ r. two_operands op.Xchg AX (is.Word r))
-    ++ bare op.Cbw ∷ bare op.Cwd ∷ one_operand op.CallFar Ap ∷ bare op.Wait ∷ bare op.Pushf ∷ bare op.Popf ∷ bare op.Sahf ∷ bare op.Lahf ∷ []
+    ++ bare op.Cbw ∷ bare op.Cwd ∷ one_operand op.CallFar Ap ∷ bare op.Wait ∷ bare op.Pushf ∷ bare op.Popf
+    ∷ bare op.Sahf ∷ bare op.Lahf ∷ []
     -- A0
-    ++ two_operands op.Mov AL Ob ∷ two_operands op.Mov AX Ow ∷ two_operands op.Mov Ob AL ∷ two_operands op.Mov Ow AX ∷ []
+    ++ two_operands op.Mov AL Ob ∷ two_operands op.Mov AX Ow ∷ two_operands op.Mov Ob AL ∷ two_operands op.Mov Ow AX
+    ∷ []
     ++ pair op.Movsb op.Movsw ++ pair op.Cmpsb op.Cmpsw
     ++ two_operands op.Test AL Ib ∷ two_operands op.Test AX Iw ∷ []
     ++ pair op.Stosb op.Stosw ++ pair op.Lodsb op.Lodsw ++ pair op.Scasb op.Scasw
     -- B0
-    ++ map (λ r. two_operands op.Mov (is.Byte r) Ib) byte_registers ++ each_word (λ r. two_operands op.Mov (is.Word r) Iw)
+    ++ map (λ r. two_operands op.Mov (is.Byte r) Ib) byte_registers
+    ++ each_word (λ r. two_operands op.Mov (is.Word r) Iw)
     -- C0
-    ++ Unlisted ∷ Unlisted ∷ one_operand op.Ret Iw ∷ bare op.Ret ∷ two_operands op.Les Gw M ∷ two_operands op.Lds Gw M ∷ []
+    ++ Unlisted ∷ Unlisted ∷ one_operand op.Ret Iw ∷ bare op.Ret ∷ two_operands op.Les Gw M ∷ two_operands op.Lds Gw M
+    ∷ []
     ++ Group 7 ∷ Group 8 ∷ []
-    ++ Unlisted ∷ Unlisted ∷ one_operand op.Retf Iw ∷ bare op.Retf ∷ bare op.Int3 ∷ one_operand op.Int Ib ∷ bare op.Into ∷ bare op.Iret ∷ []
+    ++ Unlisted ∷ Unlisted ∷ one_operand op.Retf Iw ∷ bare op.Retf ∷ bare op.Int3 ∷ one_operand op.Int Ib ∷ bare op.Into
+    ∷ bare op.Iret ∷ []
     -- D0
     ++ Group 9 ∷ Group 10 ∷ Group 11 ∷ Group 12 ∷ []
-    ++ Second 0x0A (template op.Aam is.Nothing is.Nothing) ∷ Second 0x0A (template op.Aad is.Nothing is.Nothing) ∷ Unlisted ∷ bare op.Xlat ∷ []
+    ++ Second 0x0A (template op.Aam is.Nothing is.Nothing) ∷ Second 0x0A (template op.Aad is.Nothing is.Nothing)
+    ∷ Unlisted ∷ bare op.Xlat ∷ []
     ++ map (λ n. two_operands op.Esc (is.Escape n) Ew) (0 ∷ 1 ∷ 2 ∷ 3 ∷ 4 ∷ 5 ∷ 6 ∷ 7 ∷ [])
     -- E0
     ++ one_operand op.Loopne Db ∷ one_operand op.Loope Db ∷ one_operand op.Loop Db ∷ one_operand op.Jcxz Db ∷ []
-    ++ two_operands op.Input AL Ib ∷ two_operands op.Input AX Ib ∷ two_operands op.Output Ib AL ∷ two_operands op.Output Ib AX ∷ []
+    ++ two_operands op.Input AL Ib ∷ two_operands op.Input AX Ib ∷ two_operands op.Output Ib AL
+    ∷ two_operands op.Output Ib AX ∷ []
     ++ one_operand op.Call Dw ∷ one_operand op.Jmp Dw ∷ one_operand op.JmpFar Ap ∷ one_operand op.JmpShort Db ∷ []
-    ++ two_operands op.Input AL DX ∷ two_operands op.Input AX DX ∷ two_operands op.Output DX AL ∷ two_operands op.Output DX AX ∷ []
+    ++ two_operands op.Input AL DX ∷ two_operands op.Input AX DX ∷ two_operands op.Output DX AL
+    ∷ two_operands op.Output DX AX ∷ []
     -- F0
     ++ Unlisted ∷ Unlisted ∷ Unlisted ∷ Unlisted ∷ bare op.Hlt ∷ bare op.Cmc ∷ Group 13 ∷ Group 14 ∷ []
     ++ bare op.Clc ∷ bare op.Stc ∷ bare op.Cli ∷ bare op.Sti ∷ bare op.Cld ∷ bare op.Std ∷ []
@@ -229,13 +243,19 @@ entry_of b = slice_index_or entries b Unlisted
 abbrev pub groups : List (List (Option Template))
 groups =
     immediate Eb Ib ∷ immediate Ew Iw ∷ immediate Eb Ib ∷ immediate Ew Is
-    ∷ (Some (template op.Mov Ew (S Es)) ∷ Some (template op.Mov Ew (S Cs)) ∷ Some (template op.Mov Ew (S Ss)) ∷ Some (template op.Mov Ew (S Ds)) ∷ None ∷ None ∷ None ∷ None ∷ [])
-    ∷ (Some (template op.Mov (S Es) Ew) ∷ None ∷ Some (template op.Mov (S Ss) Ew) ∷ Some (template op.Mov (S Ds) Ew) ∷ None ∷ None ∷ None ∷ None ∷ [])
+    ∷ (Some (template op.Mov Ew (S Es)) ∷ Some (template op.Mov Ew (S Cs)) ∷ Some (template op.Mov Ew (S Ss))
+    ∷ Some (template op.Mov Ew (S Ds)) ∷ None ∷ None ∷ None ∷ None ∷ [])
+    ∷ (Some (template op.Mov (S Es) Ew) ∷ None ∷ Some (template op.Mov (S Ss) Ew) ∷ Some (template op.Mov (S Ds) Ew)
+    ∷ None ∷ None ∷ None ∷ None ∷ [])
     ∷ zeroth (template op.Pop Ew is.Nothing) ∷ zeroth (template op.Mov Eb Ib) ∷ zeroth (template op.Mov Ew Iw)
     ∷ shifts Eb One ∷ shifts Ew One ∷ shifts Eb CL ∷ shifts Ew CL
     ∷ unary Eb Ib ∷ unary Ew Iw
-    ∷ (Some (template op.Inc Eb is.Nothing) ∷ Some (template op.Dec Eb is.Nothing) ∷ None ∷ None ∷ None ∷ None ∷ None ∷ None ∷ [])
-    ∷ (Some (template op.Inc Ew is.Nothing) ∷ Some (template op.Dec Ew is.Nothing) ∷ Some (template op.Call Ew is.Nothing) ∷ Some (template op.CallFar M is.Nothing) ∷ Some (template op.Jmp Ew is.Nothing) ∷ Some (template op.JmpFar M is.Nothing) ∷ Some (template op.Push Ew is.Nothing) ∷ None ∷ [])
+    ∷ (Some (template op.Inc Eb is.Nothing) ∷ Some (template op.Dec Eb is.Nothing) ∷ None ∷ None ∷ None ∷ None ∷ None
+    ∷ None ∷ [])
+    ∷ (Some (template op.Inc Ew is.Nothing) ∷ Some (template op.Dec Ew is.Nothing)
+    ∷ Some (template op.Call Ew is.Nothing) ∷ Some (template op.CallFar M is.Nothing)
+    ∷ Some (template op.Jmp Ew is.Nothing) ∷ Some (template op.JmpFar M is.Nothing)
+    ∷ Some (template op.Push Ew is.Nothing) ∷ None ∷ [])
     ∷ []
 
 -- the template of the group g that the reg field r chooses, None if it has none there

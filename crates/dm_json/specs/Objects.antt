@@ -64,8 +64,10 @@ address_members name first second segment offset =
 -- where in its code the program performed a step, as `at`, `cs` and `ip`; `before` is whether that is the return
 -- address of a call
 abbrev pub site_members : Site → List ℕ
-site_members (At segment offset) = address_members (codes "at") (codes "cs") (codes "ip") segment offset ++ bool_member (codes "before") false
-site_members (Before segment offset) = address_members (codes "at") (codes "cs") (codes "ip") segment offset ++ bool_member (codes "before") true
+site_members (At segment offset) = address_members (codes "at") (codes "cs") (codes "ip") segment offset
+    ++ bool_member (codes "before") false
+site_members (Before segment offset) = address_members (codes "at") (codes "cs") (codes "ip") segment offset
+    ++ bool_member (codes "before") true
 
 -- the byte that an instruction touches, as `address`, `segment` and `offset`
 abbrev pub byte_members : ℕ → ℕ → List ℕ
@@ -78,7 +80,8 @@ abbrev pub number_members : Call → List ℕ
 number_members DivideError = number_member (codes "interrupt") 0
 number_members Terminate = number_member (codes "interrupt") 0x20
 number_members (Dos number) = number_member (codes "interrupt") 0x21 ++ number_member (codes "function") number
-number_members (ExpandedMemory number) = number_member (codes "interrupt") 0x67 ++ number_member (codes "function") number
+number_members (ExpandedMemory number) = number_member (codes "interrupt") 0x67
+    ++ number_member (codes "function") number
 number_members Multiplex = number_member (codes "interrupt") 0x2F
 number_members (ExtendedMemory number) = number_member (codes "function") number
 number_members (Interrupt number) = number_member (codes "interrupt") number
@@ -130,20 +133,24 @@ kind_word (NotResized asked) = codes "not_resized"
 -- an object with the signature, owner and size of an arena header, as the member of this name
 abbrev pub contents_member : List ℕ → Contents → List ℕ
 contents_member name c =
-    member_text name ++ codes "{\"signature\":" ++ decimal c.signature ++ number_member (codes "owner") c.owner ++ number_member (codes "size") c.size ++ codes "}"
+    member_text name ++ codes "{\"signature\":" ++ decimal c.signature ++ number_member (codes "owner") c.owner
+    ++ number_member (codes "size") c.size ++ codes "}"
 
 -- a handle, a window or a segment, and what more there is of what a program has allocated
 abbrev pub kept_members : Kept → List ℕ
-kept_members (kept.Handle handle pages saved) = number_member (codes "handle") handle ++ number_member (codes "pages") pages ++ bool_member (codes "saved") saved
+kept_members (kept.Handle handle pages saved) = number_member (codes "handle") handle
+    ++ number_member (codes "pages") pages ++ bool_member (codes "saved") saved
 kept_members (kept.Window window) = number_member (codes "window") window
-kept_members (kept.Block handle kib locked) = number_member (codes "handle") handle ++ number_member (codes "kib") kib ++ bool_member (codes "locked") locked
+kept_members (kept.Block handle kib locked) = number_member (codes "handle") handle ++ number_member (codes "kib") kib
+    ++ bool_member (codes "locked") locked
 kept_members (kept.Upper at) = number_member (codes "block") at
 kept_members kept.Area = []
 kept_members kept.Line = []
 
 -- what a finding is about: segments of headers and blocks, handles, counts and codes
 abbrev pub detail_members : Finding → List ℕ
-detail_members (Overwritten at old new) = number_member (codes "header") at ++ contents_member (codes "old") old ++ contents_member (codes "new") new
+detail_members (Overwritten at old new) = number_member (codes "header") at ++ contents_member (codes "old") old
+    ++ contents_member (codes "new") new
 detail_members (MappedAway at) = number_member (codes "header") at
 detail_members (Destroyed at) = number_member (codes "header") at
 detail_members Whole = []
@@ -152,7 +159,8 @@ detail_members (Refused code) = number_member (codes "code") code
 detail_members (NotAllocated code) = number_member (codes "code") code
 detail_members DivisionError = []
 detail_members NotServed = []
-detail_members (Short asked largest) = number_member (codes "code") 8 ++ number_member (codes "wanted") asked ++ number_member (codes "available") largest
+detail_members (Short asked largest) = number_member (codes "code") 8 ++ number_member (codes "wanted") asked
+    ++ number_member (codes "available") largest
 detail_members (Left k) = kept_members k
 detail_members (Held k) = kept_members k
 detail_members (FreeRead block segment offset) = number_member (codes "block") block ++ byte_members segment offset
@@ -179,13 +187,15 @@ origin_name _ = codes "freed_by"
 -- an object with the step that did it, and where in its code the program performed it; nothing if it is not known
 abbrev pub origin_member : Finding → Option Origin → List ℕ
 origin_member f None = []
-origin_member f (Some o) = member_text (origin_name f) ++ codes "{\"step\":" ++ decimal o.step ++ site_members o.site ++ codes "}"
+origin_member f (Some o) = member_text (origin_name f) ++ codes "{\"step\":" ++ decimal o.step ++ site_members o.site
+    ++ codes "}"
 
 -- what was found and where: its kind, the step's number, the process, where in its code the program performed it, the
 -- call or instruction, what the finding is about, which step allocated or freed that, and the words of the report
 unfoldable pub found_members : Found → List ℕ
 found_members f =
-    string_member (codes "kind") (kind_word f.finding) ++ number_member (codes "step") f.step ++ number_member (codes "process") f.process ++ site_members f.site ++ act_members f.act
+    string_member (codes "kind") (kind_word f.finding) ++ number_member (codes "step") f.step
+    ++ number_member (codes "process") f.process ++ site_members f.site ++ act_members f.act
     ++ detail_members f.finding ++ origin_member f.finding f.origin ++ string_member (codes "text") (told_text f)
 
 -- ---- lines
@@ -204,7 +214,8 @@ found_object f = opening (kind_text (is_error f.finding)) ++ found_members f ++ 
 
 -- the line about the repetitions of a finding: how many they are, and the step of the last
 unfoldable pub repeated_object : Listed → List ℕ
-repeated_object l = opening (codes "again") ++ found_members l.found ++ number_member (codes "more") l.more ++ number_member (codes "last") l.last ++ object_end
+repeated_object l = opening (codes "again") ++ found_members l.found ++ number_member (codes "more") l.more
+    ++ number_member (codes "last") l.last ++ object_end
 
 -- the line about the repetitions of a finding that the report lists; none if there are none
 abbrev pub again_object : Listed → List ℕ
@@ -223,14 +234,16 @@ not_listed_object n = if n == 0 then [] else left_out_object n
 unfoldable pub summary_objects : Reported → List ℕ
 summary_objects r =
     flat_map again_object r.listed ++ not_listed_object r.not_listed
-    ++ opening (codes "summary") ++ number_member (codes "errors") r.errors ++ number_member (codes "notes") r.notes ++ object_end
+    ++ opening (codes "summary") ++ number_member (codes "errors") r.errors ++ number_member (codes "notes") r.notes
+    ++ object_end
 
 -- ---- stops
 
 -- the two bytes at CS:IP, as two numbers
 abbrev pub code_member : Memory → Cpu → List ℕ
 code_member m c =
-    member_text (codes "bytes") ++ codes "[" ++ decimal (peek m (linear m.a20 c.cs c.ip)) ++ codes "," ++ decimal (peek m (linear m.a20 c.cs (up c.ip 1))) ++ codes "]"
+    member_text (codes "bytes") ++ codes "[" ++ decimal (peek m (linear m.a20 c.cs c.ip)) ++ codes ","
+    ++ decimal (peek m (linear m.a20 c.cs (up c.ip 1))) ++ codes "]"
 
 -- the call that the next step would perform; nothing for an instruction
 abbrev pub next_members : Option Call → List ℕ
@@ -246,7 +259,8 @@ what_members _ m c = next_members (call_of c)
 -- the line about a run that stopped before the program ended: why, where in its code the program would have gone on,
 -- and what the next step would perform
 unfoldable pub stopped_object : Stop → Memory → Cpu → List ℕ
-stopped_object why m c = opening (codes "stopped") ++ string_member (codes "reason") (reason_text why) ++ site_members (site_of m c) ++ what_members why m c ++ object_end
+stopped_object why m c = opening (codes "stopped") ++ string_member (codes "reason") (reason_text why)
+    ++ site_members (site_of m c) ++ what_members why m c ++ object_end
 
 -- the line about the end of a run, by the memory and the registers then: the program's exit code, or why it stopped
 abbrev pub end_object : Stop → Memory → Cpu → List ℕ

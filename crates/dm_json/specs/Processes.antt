@@ -13,7 +13,8 @@ last_member (Some last) = number_member (codes "last") last
 -- the line about a process: the segment of its prefix, its name, its parent's prefix, and its first and last step
 unfoldable pub process_object : Process → List ℕ
 process_object p =
-    opening (codes "process") ++ number_member (codes "process") p.prefix ++ string_member (codes "name") (name_text p) ++ number_member (codes "parent") p.parent
+    opening (codes "process") ++ number_member (codes "process") p.prefix ++ string_member (codes "name") (name_text p)
+    ++ number_member (codes "parent") p.parent
     ++ number_member (codes "first") p.first ++ last_member p.last ++ object_end
 
 -- a line for each of the processes of a run, in their order; none if there was one process alone

@@ -128,7 +128,8 @@ fn put_address_members(
     segment: u16,
     offset: u16,
 ) -> Result<(), AllocError>
-    ensures { OnOk result (out.new.items ≡ out.old.items ++ address_members name.now first.now second.now segment offset) }
+    ensures { OnOk result (out.new.items ≡ out.old.items
+        ++ address_members name.now first.now second.now segment offset) }
 {
     let mut text = Vec::new(alloc);
     put_address(&mut text, segment, offset)?;
@@ -146,7 +147,8 @@ fn put_place_members(
     before: bool,
 ) -> Result<(), AllocError>
     ensures { OnOk result (out.new.items ≡ out.old.items
-        ++ (address_members (codes "at") (codes "cs") (codes "ip") segment offset ++ bool_member (codes "before") before)) }
+        ++ (address_members (codes "at") (codes "cs") (codes "ip") segment offset
+        ++ bool_member (codes "before") before)) }
 {
     put_address_members(out, alloc, b"at", b"cs", b"ip", segment, offset)?;
     put_bool_member(out, b"before", before)

@@ -79,7 +79,8 @@ fn put_overwritten_members(
     new: Contents,
 ) -> Result<(), AllocError>
     ensures { OnOk result (out.new.items ≡ out.old.items
-        ++ (number_member (codes "header") at ++ contents_member (codes "old") old ++ contents_member (codes "new") new)) }
+        ++ (number_member (codes "header") at ++ contents_member (codes "old") old
+        ++ contents_member (codes "new") new)) }
 {
     put_number_member(out, b"header", at as u64)?;
     put_contents_member(out, b"old", old)?;
@@ -90,7 +91,8 @@ fn put_overwritten_members(
 /// available.
 fn put_short_members(out: &mut Vec<u8>, asked: u16, largest: u16) -> Result<(), AllocError>
     ensures { OnOk result (out.new.items ≡ out.old.items
-        ++ (number_member (codes "code") 8 ++ number_member (codes "wanted") asked ++ number_member (codes "available") largest)) }
+        ++ (number_member (codes "code") 8 ++ number_member (codes "wanted") asked
+        ++ number_member (codes "available") largest)) }
 {
     put_number_member(out, b"code", 8)?;
     put_two(out, b"wanted", asked, b"available", largest)
@@ -104,7 +106,8 @@ fn put_block_members(
     locked: bool,
 ) -> Result<(), AllocError>
     ensures { OnOk result (out.new.items ≡ out.old.items
-        ++ (number_member (codes "handle") handle ++ number_member (codes "kib") kib ++ bool_member (codes "locked") locked)) }
+        ++ (number_member (codes "handle") handle ++ number_member (codes "kib") kib
+        ++ bool_member (codes "locked") locked)) }
 {
     put_two(out, b"handle", handle, b"kib", kib)?;
     put_bool_member(out, b"locked", locked)
@@ -118,7 +121,8 @@ fn put_handle_members(
     saved: bool,
 ) -> Result<(), AllocError>
     ensures { OnOk result (out.new.items ≡ out.old.items
-        ++ (number_member (codes "handle") handle ++ number_member (codes "pages") pages ++ bool_member (codes "saved") saved)) }
+        ++ (number_member (codes "handle") handle ++ number_member (codes "pages") pages
+        ++ bool_member (codes "saved") saved)) }
 {
     put_two(out, b"handle", handle, b"pages", pages)?;
     put_bool_member(out, b"saved", saved)
@@ -191,7 +195,8 @@ fn put_instruction_member(
     ins: &Ins,
     next: u16,
 ) -> Result<(), AllocError>
-    ensures { OnOk result (out.new.items ≡ out.old.items ++ string_member (codes "instruction") (text_of ins.now next)) }
+    ensures { OnOk result (out.new.items ≡ out.old.items ++ string_member (codes "instruction")
+        (text_of ins.now next)) }
 {
     let mut text = Vec::new(alloc);
     put_instruction(&mut text, ins, next)?;
@@ -427,7 +432,8 @@ fn put_stopped_object(
 
 /// Appends the line about the end of the program, with its exit code.
 fn put_exited_object(out: &mut Vec<u8>, code: u8) -> Result<(), AllocError>
-    ensures { OnOk result (out.new.items ≡ out.old.items ++ (opening (codes "exited") ++ number_member (codes "code") code ++ object_end)) }
+    ensures { OnOk result (out.new.items ≡ out.old.items ++ (opening (codes "exited")
+        ++ number_member (codes "code") code ++ object_end)) }
 {
     put_opening(out, b"exited")?;
     put_number_member(out, b"code", code as u64)?;

@@ -77,7 +77,8 @@ unfolding single
 items_of [] = refl
 items_of (b ∷ bs) = ap (joined_to (Plus b ∷ [])) (items_of bs)
 
-data_read : (b : ℕ) (bs : List ℕ) → statement_of (t.DataBytes ∷ t.Number b ∷ more_tokens bs) ≡ Some (data_statement (b ∷ bs))
+data_read : (b : ℕ) (bs : List ℕ) → statement_of (t.DataBytes ∷ t.Number b ∷ more_tokens bs)
+    ≡ Some (data_statement (b ∷ bs))
 data_read b bs = rw (parts_of b bs, items_of (b ∷ bs)) refl
 
 within : (n : ℕ) → n ≤ 255 → nat_lt 255 n ≡ false
@@ -88,5 +89,6 @@ unfolding line_statement pieces_of
 data_is_read b bs comment h c l =
     rw (within (length (data_text b bs ++ comment)) l)
     (ap (λ (z : List ℕ). tokens_of (z ++ comment) >>= statement_of) (data_bytes b bs)
-    ∙ ap (λ (o : Option (List Token)). o >>= statement_of) (pieces_are_read (pieces_of b bs) comment (more_parted bs) (tt, (tt, (h.0, more_fit bs h.1))) c ∙ data_again b bs)
+    ∙ ap (λ (o : Option (List Token)). o >>= statement_of) (pieces_are_read (pieces_of b bs) comment (more_parted bs)
+    (tt, (tt, (h.0, more_fit bs h.1))) c ∙ data_again b bs)
     ∙ data_read b bs)

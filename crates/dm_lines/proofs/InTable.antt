@@ -33,7 +33,8 @@ names_no_memory _ = true
 
 -- the first operand is there where the second one is, and memory is not the second where operands are exchanged
 unfoldable template_is_written : Template → Bool
-template_is_written r = (if names_nothing r.first then names_nothing r.second else true) && (if exchanges r.mnemonic then names_no_memory r.second else true)
+template_is_written r = (if names_nothing r.first then names_nothing r.second else true) &&
+    (if exchanges r.mnemonic then names_no_memory r.second else true)
 
 all_are_written : templates_all template_is_written ≡ true
 unfolding templates_all entry_all if_template template_is_written names_nothing names_no_memory
@@ -54,7 +55,8 @@ place_is_some w n (Some a) = refl
 never : {P : Type 0} (b : Bool) → b ≡ false → b ≡ true → P
 never b e f = absurd cc
 
-nothing_is_named : (k : OperandKind) (m : Fields) (o : Operand) (d : List ℕ) → Fills k m o d → is_nothing o ≡ true → names_nothing k ≡ true
+nothing_is_named : (k : OperandKind) (m : Fields) (o : Operand) (d : List ℕ) → Fills k m o d → is_nothing o ≡ true →
+    names_nothing k ≡ true
 unfolding names_nothing is_nothing
 nothing_is_named is.Nothing m o d f h = refl
 nothing_is_named (is.RegisterOrMemory w) m o d f h = never (is_nothing o) (rw f.0 (place_is_some w m.rm m.memory)) h
@@ -73,7 +75,8 @@ nothing_is_named (is.Word r) m o d f h = never (is_nothing o) (rw f.0 refl) h
 nothing_is_named (is.TheSegment r) m o d f h = never (is_nothing o) (rw f.0 refl) h
 nothing_is_named is.One m o d f h = never (is_nothing o) (rw f.0 refl) h
 
-named_nothing : (k : OperandKind) (m : Fields) (o : Operand) (d : List ℕ) → Fills k m o d → names_nothing k ≡ true → o ≡ operand.Nothing
+named_nothing : (k : OperandKind) (m : Fields) (o : Operand) (d : List ℕ) → Fills k m o d → names_nothing k ≡ true →
+    o ≡ operand.Nothing
 unfolding names_nothing
 named_nothing is.Nothing m o d f h = f.0
 named_nothing (is.RegisterOrMemory w) m o d f h = absurd cc
@@ -96,7 +99,8 @@ register_term : (a : Action) (next : ℕ) (w : Width) (n : ℕ) → is_memory (o
 register_term a next Byte n = refl
 register_term a next Word n = refl
 
-named_no_memory : (a : Action) (next : ℕ) (k : OperandKind) (m : Fields) (o : Operand) (d : List ℕ) → Fills k m o d → names_no_memory k ≡ true → is_memory (own_term a next o) ≡ false
+named_no_memory : (a : Action) (next : ℕ) (k : OperandKind) (m : Fields) (o : Operand) (d : List ℕ) → Fills k m o d →
+    names_no_memory k ≡ true → is_memory (own_term a next o) ≡ false
 unfolding names_no_memory
 named_no_memory a next is.Nothing m o d f h = rw f.0 refl
 named_no_memory a next (is.RegisterOrMemory w) m o d f h = absurd cc
@@ -128,8 +132,14 @@ where_false false d f = refl
 pub can_be_written : (a : Action) (x : List ℕ) (next : ℕ) → SpellsAction a x → CanBeWritten a next
 unfolding template_is_written
 can_be_written a x next s =
-    let t = both_true _ _ (of_template template_is_written s.first_byte s.fields s.behind s.template all_are_written s.has_template) in
+    let t = both_true _ _ (of_template template_is_written s.first_byte s.fields s.behind s.template all_are_written
+    s.has_template) in
     record {
-      alone = λ h. named_nothing s.template.second s.fields a.second s.second_part s.second (where_true (names_nothing s.template.first) (names_nothing s.template.second) t.0 (nothing_is_named s.template.first s.fields a.first s.first_part s.first h));
-      in_place = where_false (exchanges a.mnemonic) (is_memory (own_term a next a.second)) (λ e. named_no_memory a next s.template.second s.fields a.second s.second_part s.second (where_true (exchanges s.template.mnemonic) (names_no_memory s.template.second) t.1 (subst (λ (m : Mnemonic). exchanges m ≡ true) s.mnemonic e)));
+      alone = λ h. named_nothing s.template.second s.fields a.second s.second_part s.second
+          (where_true (names_nothing s.template.first) (names_nothing s.template.second) t.0
+          (nothing_is_named s.template.first s.fields a.first s.first_part s.first h));
+      in_place = where_false (exchanges a.mnemonic) (is_memory (own_term a next a.second))
+          (λ e. named_no_memory a next s.template.second s.fields a.second s.second_part s.second
+          (where_true (exchanges s.template.mnemonic) (names_no_memory s.template.second) t.1
+          (subst (λ (m : Mnemonic). exchanges m ≡ true) s.mnemonic e)));
     }

@@ -8,11 +8,13 @@ use Rattle.dm_lines.specs.Operands.{onto, is_close, inside, begin, is_comma, par
 
 -- ---- the bracket at the end
 
-onto_choice : (b : Bool) (t : Token) (ts : List Token) → onto t (if b then Some ts else None) ≡ (if b then Some (t ∷ ts) else None)
+onto_choice : (b : Bool) (t : Token) (ts : List Token) → onto t (if b then Some ts else None) ≡ (if b then Some (t ∷ ts)
+    else None)
 onto_choice true t ts = refl
 onto_choice false t ts = refl
 
-pub inside_end : (ts : List Token) (d : Token) (n : ℕ) → length ts ≡ suc n → inside ts ≡ (if is_close (get_or ts n d) then Some (take n ts) else None)
+pub inside_end : (ts : List Token) (d : Token) (n : ℕ) → length ts ≡ suc n → inside ts ≡ (if is_close (get_or ts n d)
+    then Some (take n ts) else None)
 inside_end [] d n e = absurd (omega arith)
 inside_end (t ∷ []) d n e = let z : n ≡ 0 = omega arith in rw z refl
 inside_end (t ∷ u ∷ ts) d zero e = absurd (omega arith)
@@ -20,15 +22,19 @@ inside_end (t ∷ u ∷ ts) d (suc n) e =
     let k : length (u ∷ ts) ≡ suc n = omega arith in
     ap (onto t) (inside_end (u ∷ ts) d n k) ∙ onto_choice (is_close (get_or (u ∷ ts) n d)) t (take n (u ∷ ts))
 
-pub inside_closed : (ts : List Token) (d : Token) (r : Bool) → 0 < length ts → r ≡ is_close (get_or ts (length ts - 1) d) → r ≡ true → Some (take (length ts - 1) ts) ≡ inside ts
+pub inside_closed : (ts : List Token) (d : Token) (r : Bool) → 0 < length ts →
+    r ≡ is_close (get_or ts (length ts - 1) d) → r ≡ true → Some (take (length ts - 1) ts) ≡ inside ts
 inside_closed ts d r h e f =
     let n : length ts ≡ suc (length ts - 1) = omega arith in
-    sym (inside_end ts d (length ts - 1) n ∙ ap (λ (b : Bool). if b then Some (take (length ts - 1) ts) else None) (sym e ∙ f))
+    sym (inside_end ts d (length ts - 1) n ∙ ap (λ (b : Bool). if b then Some (take (length ts - 1) ts) else
+    None) (sym e ∙ f))
 
-pub inside_open : (ts : List Token) (d : Token) (r : Bool) → 0 < length ts → r ≡ is_close (get_or ts (length ts - 1) d) → r ≡ false → None ≡ inside ts
+pub inside_open : (ts : List Token) (d : Token) (r : Bool) → 0 < length ts →
+    r ≡ is_close (get_or ts (length ts - 1) d) → r ≡ false → None ≡ inside ts
 inside_open ts d r h e f =
     let n : length ts ≡ suc (length ts - 1) = omega arith in
-    sym (inside_end ts d (length ts - 1) n ∙ ap (λ (b : Bool). if b then Some (take (length ts - 1) ts) else None) (sym e ∙ f))
+    sym (inside_end ts d (length ts - 1) n ∙ ap (λ (b : Bool). if b then Some (take (length ts - 1) ts) else
+    None) (sym e ∙ f))
 
 -- ---- the first comma
 
@@ -54,14 +60,17 @@ more ts t e = rw e refl
 rest_behind : (ts : List Token) (i : ℕ) → take (length ts - (i + 1)) (drop (i + 1) ts) ≡ drop (suc i) ts
 rest_behind ts i = rw add-one (take_rest ts (suc i))
 
-pub comma_found : (ts : List Token) (i : ℕ) (d : Token) → i < length ts → is_comma (get_or ts i d) ≡ true → parts ts ≡ before (take i ts) (parts (drop i ts)) → parts ts ≡ take i ts ∷ parts (take (length ts - (i + 1)) (drop (i + 1) ts))
+pub comma_found : (ts : List Token) (i : ℕ) (d : Token) → i < length ts → is_comma (get_or ts i d) ≡ true →
+    parts ts ≡ before (take i ts) (parts (drop i ts)) → parts ts ≡ take i ts
+    ∷ parts (take (length ts - (i + 1)) (drop (i + 1) ts))
 comma_found ts i d h e s =
     s ∙ ap (λ (x : List Token). before (take i ts) (parts x)) (drop-cons ts i d h)
     ∙ ap (before (take i ts)) (stop (drop (suc i) ts) (get_or ts i d) e)
     ∙ before_comma (take i ts) (parts (drop (suc i) ts))
     ∙ ap (λ (x : List Token). take i ts ∷ parts x) (sym (rest_behind ts i))
 
-pub comma_later : (ts : List Token) (i : ℕ) (d : Token) → i < length ts → is_comma (get_or ts i d) ≡ false → parts ts ≡ before (take i ts) (parts (drop i ts)) → parts ts ≡ before (take (i + 1) ts) (parts (drop (i + 1) ts))
+pub comma_later : (ts : List Token) (i : ℕ) (d : Token) → i < length ts → is_comma (get_or ts i d) ≡ false →
+    parts ts ≡ before (take i ts) (parts (drop i ts)) → parts ts ≡ before (take (i + 1) ts) (parts (drop (i + 1) ts))
 comma_later ts i d h e s =
     s ∙ ap (λ (x : List Token). before (take i ts) (parts x)) (drop-cons ts i d h)
     ∙ ap (before (take i ts)) (more (drop (suc i) ts) (get_or ts i d) e)
@@ -71,7 +80,8 @@ comma_later ts i d h e s =
 whole : (ts : List Token) (i : ℕ) → i ≡ length ts → before (take i ts) (parts (drop i ts)) ≡ before ts ([] ∷ [])
 whole ts i h = rw (h, take-length ts, drop-length ts) refl
 
-pub no_comma : (ts : List Token) (i : ℕ) → i ≡ length ts → parts ts ≡ before (take i ts) (parts (drop i ts)) → parts ts ≡ ts ∷ []
+pub no_comma : (ts : List Token) (i : ℕ) → i ≡ length ts → parts ts ≡ before (take i ts) (parts (drop i ts)) →
+    parts ts ≡ ts ∷ []
 no_comma ts i h s = s ∙ whole ts i h ∙ before_comma ts []
 
 -- there is always a part
@@ -87,6 +97,8 @@ third p q (t ∷ ts) = by (is_comma t)
     by true = refl
     by false = begun_pair t (parts ts) p q
 
-pub too_many : (ts n m p q : List Token) → 0 < length ts → parts ts ≡ p ∷ parts n → parts n ≡ q ∷ parts m → None ≡ terms_of ts
+pub too_many : (ts n m p q : List Token) → 0 < length ts → parts ts ≡ p ∷ parts n → parts n ≡ q ∷ parts m →
+    None ≡ terms_of ts
 too_many [] n m p q h e f = absurd (omega arith)
-too_many (t ∷ ts) n m p q h e f = sym (ap term_pair e ∙ ap (λ (ps : List (List Token)). term_pair (p ∷ ps)) f ∙ third p q m)
+too_many (t ∷ ts) n m p q h e f = sym (ap term_pair e ∙ ap (λ (ps : List (List Token)). term_pair (p ∷ ps)) f
+    ∙ third p q m)

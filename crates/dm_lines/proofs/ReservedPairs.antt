@@ -22,12 +22,15 @@ token_of o = option_map (λ (pair : Pair). pair.1) o
 abbrev in_pairs : List Pair → List ℕ → Option Pair
 in_pairs pairs w = named (λ (pair : Pair). pair.0) pairs w
 
-chosen : (r : Reserved) (ws : List Reserved) (w : List ℕ) (b : Bool) → token_of (in_pairs (map pair_of ws) w) ≡ option_map meaning_of (named spelling_of ws w) → token_of (if b then Some (pair_of r) else in_pairs (map pair_of ws) w) ≡ option_map meaning_of (if b then Some r else named spelling_of ws w)
+chosen : (r : Reserved) (ws : List Reserved) (w : List ℕ) (b : Bool) → token_of (in_pairs (map pair_of ws) w)
+    ≡ option_map meaning_of (named spelling_of ws w) → token_of (if b then Some (pair_of r) else
+    in_pairs (map pair_of ws) w) ≡ option_map meaning_of (if b then Some r else named spelling_of ws w)
 chosen r ws w true h = refl
 chosen r ws w false h = h
 
 -- is what a search of the words gives
-named_pairs : (ws : List Reserved) (w : List ℕ) → token_of (in_pairs (map pair_of ws) w) ≡ option_map meaning_of (named spelling_of ws w)
+named_pairs : (ws : List Reserved) (w : List ℕ) → token_of (in_pairs (map pair_of ws) w)
+    ≡ option_map meaning_of (named spelling_of ws w)
 named_pairs [] w = refl
 named_pairs (r ∷ ws) w = chosen r ws w (bytes_eq (spelling_of r) w) (named_pairs ws w)
 

@@ -47,49 +47,59 @@ unfolding base_at
 place_read s Direct n = refl
 place_read s BxSi n = by (n == 0) refl
   where
-    by : (z : Bool) → (n == 0) ≡ z → memory_operand s (base_tokens BxSi ++ (if z then [] else t.Plus ∷ t.Number n ∷ [])) ≡ Some (term.Memory s BxSi (Plus n))
+    by : (z : Bool) → (n == 0) ≡ z → memory_operand s (base_tokens BxSi ++ (if z then [] else t.Plus ∷ t.Number n ∷ []))
+        ≡ Some (term.Memory s BxSi (Plus n))
     by true e = ap (λ (k : ℕ). Some (term.Memory s BxSi (Plus k))) (sym (eqb-true n 0 e))
     by false e = refl
 place_read s BxDi n = by (n == 0) refl
   where
-    by : (z : Bool) → (n == 0) ≡ z → memory_operand s (base_tokens BxDi ++ (if z then [] else t.Plus ∷ t.Number n ∷ [])) ≡ Some (term.Memory s BxDi (Plus n))
+    by : (z : Bool) → (n == 0) ≡ z → memory_operand s (base_tokens BxDi ++ (if z then [] else t.Plus ∷ t.Number n ∷ []))
+        ≡ Some (term.Memory s BxDi (Plus n))
     by true e = ap (λ (k : ℕ). Some (term.Memory s BxDi (Plus k))) (sym (eqb-true n 0 e))
     by false e = refl
 place_read s BpSi n = by (n == 0) refl
   where
-    by : (z : Bool) → (n == 0) ≡ z → memory_operand s (base_tokens BpSi ++ (if z then [] else t.Plus ∷ t.Number n ∷ [])) ≡ Some (term.Memory s BpSi (Plus n))
+    by : (z : Bool) → (n == 0) ≡ z → memory_operand s (base_tokens BpSi ++ (if z then [] else t.Plus ∷ t.Number n ∷ []))
+        ≡ Some (term.Memory s BpSi (Plus n))
     by true e = ap (λ (k : ℕ). Some (term.Memory s BpSi (Plus k))) (sym (eqb-true n 0 e))
     by false e = refl
 place_read s BpDi n = by (n == 0) refl
   where
-    by : (z : Bool) → (n == 0) ≡ z → memory_operand s (base_tokens BpDi ++ (if z then [] else t.Plus ∷ t.Number n ∷ [])) ≡ Some (term.Memory s BpDi (Plus n))
+    by : (z : Bool) → (n == 0) ≡ z → memory_operand s (base_tokens BpDi ++ (if z then [] else t.Plus ∷ t.Number n ∷ []))
+        ≡ Some (term.Memory s BpDi (Plus n))
     by true e = ap (λ (k : ℕ). Some (term.Memory s BpDi (Plus k))) (sym (eqb-true n 0 e))
     by false e = refl
 place_read s OnSi n = by (n == 0) refl
   where
-    by : (z : Bool) → (n == 0) ≡ z → memory_operand s (base_tokens OnSi ++ (if z then [] else t.Plus ∷ t.Number n ∷ [])) ≡ Some (term.Memory s OnSi (Plus n))
+    by : (z : Bool) → (n == 0) ≡ z → memory_operand s (base_tokens OnSi ++ (if z then [] else t.Plus ∷ t.Number n ∷ []))
+        ≡ Some (term.Memory s OnSi (Plus n))
     by true e = ap (λ (k : ℕ). Some (term.Memory s OnSi (Plus k))) (sym (eqb-true n 0 e))
     by false e = refl
 place_read s OnDi n = by (n == 0) refl
   where
-    by : (z : Bool) → (n == 0) ≡ z → memory_operand s (base_tokens OnDi ++ (if z then [] else t.Plus ∷ t.Number n ∷ [])) ≡ Some (term.Memory s OnDi (Plus n))
+    by : (z : Bool) → (n == 0) ≡ z → memory_operand s (base_tokens OnDi ++ (if z then [] else t.Plus ∷ t.Number n ∷ []))
+        ≡ Some (term.Memory s OnDi (Plus n))
     by true e = ap (λ (k : ℕ). Some (term.Memory s OnDi (Plus k))) (sym (eqb-true n 0 e))
     by false e = refl
 place_read s OnBp n = by (n == 0) refl
   where
-    by : (z : Bool) → (n == 0) ≡ z → memory_operand s (base_tokens OnBp ++ (if z then [] else t.Plus ∷ t.Number n ∷ [])) ≡ Some (term.Memory s OnBp (Plus n))
+    by : (z : Bool) → (n == 0) ≡ z → memory_operand s (base_tokens OnBp ++ (if z then [] else t.Plus ∷ t.Number n ∷ []))
+        ≡ Some (term.Memory s OnBp (Plus n))
     by true e = ap (λ (k : ℕ). Some (term.Memory s OnBp (Plus k))) (sym (eqb-true n 0 e))
     by false e = refl
 place_read s OnBx n = by (n == 0) refl
   where
-    by : (z : Bool) → (n == 0) ≡ z → memory_operand s (base_tokens OnBx ++ (if z then [] else t.Plus ∷ t.Number n ∷ [])) ≡ Some (term.Memory s OnBx (Plus n))
+    by : (z : Bool) → (n == 0) ≡ z → memory_operand s (base_tokens OnBx ++ (if z then [] else t.Plus ∷ t.Number n ∷ []))
+        ≡ Some (term.Memory s OnBx (Plus n))
     by true e = ap (λ (k : ℕ). Some (term.Memory s OnBx (Plus k))) (sym (eqb-true n 0 e))
     by false e = refl
 
-memory_read : (s : Size) (b : Base) (n : ℕ) → memory_of s (address_tokens b n ++ t.Close ∷ []) ≡ Some (memory_term s b n)
+memory_read : (s : Size) (b : Base) (n : ℕ) → memory_of s (address_tokens b n ++ t.Close ∷ [])
+    ≡ Some (memory_term s b n)
 memory_read s b n = rw (inside_all (address_tokens b n)) (place_read s b n)
 
-sized_read : (s : Size) (b : Base) (n : ℕ) → term_of (size_tokens s ++ t.Open ∷ address_tokens b n ++ t.Close ∷ []) ≡ Some (memory_term s b n)
+sized_read : (s : Size) (b : Base) (n : ℕ) → term_of (size_tokens s ++ t.Open ∷ address_tokens b n ++ t.Close
+    ∷ []) ≡ Some (memory_term s b n)
 unfolding term_of
 sized_read Absent b n = memory_read Absent b n
 sized_read Byte b n = memory_read Byte b n
@@ -102,7 +112,8 @@ unfoldable pub is_nothing : Operand → Bool
 is_nothing operand.Nothing = true
 is_nothing _ = false
 
-term_read : (a : Action) (next : ℕ) (o : Operand) → is_nothing o ≡ false → term_of (operand_tokens a next o) ≡ Some (own_term a next o)
+term_read : (a : Action) (next : ℕ) (o : Operand) → is_nothing o ≡ false → term_of (operand_tokens a next o)
+    ≡ Some (own_term a next o)
 unfolding term_of is_nothing
 term_read a next operand.Nothing h = absurd cc
 term_read a next (operand.ByteRegister r) h = refl
@@ -126,7 +137,8 @@ unfolding no_comma
 parts_alone [] h = refl
 parts_alone (x ∷ xs) h = by (is_comma x) h (parts_alone xs)
   where
-    by : (b : Bool) → (if b then false else no_comma xs) ≡ true → (no_comma xs ≡ true → parts xs ≡ xs ∷ []) → (if b then [] ∷ parts xs else begin x (parts xs)) ≡ (x ∷ xs) ∷ []
+    by : (b : Bool) → (if b then false else no_comma xs) ≡ true → (no_comma xs ≡ true → parts xs ≡ xs ∷ []) →
+        (if b then [] ∷ parts xs else begin x (parts xs)) ≡ (x ∷ xs) ∷ []
     by true e f = absurd cc
     by false e f = ap (begin x) (f e)
 
@@ -135,7 +147,9 @@ unfolding no_comma
 parts_comma [] ys h = refl
 parts_comma (x ∷ xs) ys h = by (is_comma x) h (parts_comma xs ys)
   where
-    by : (b : Bool) → (if b then false else no_comma xs) ≡ true → (no_comma xs ≡ true → parts (xs ++ t.Comma ∷ ys) ≡ xs ∷ parts ys) → (if b then [] ∷ parts (xs ++ t.Comma ∷ ys) else begin x (parts (xs ++ t.Comma ∷ ys))) ≡ (x ∷ xs) ∷ parts ys
+    by : (b : Bool) → (if b then false else no_comma xs) ≡ true → (no_comma xs ≡ true → parts (xs ++ t.Comma ∷ ys) ≡ xs
+        ∷ parts ys) → (if b then [] ∷ parts (xs ++ t.Comma ∷ ys) else begin x (parts (xs ++ t.Comma ∷ ys))) ≡ (x ∷ xs)
+        ∷ parts ys
     by true e f = absurd cc
     by false e f = ap (begin x) (f e)
 
@@ -144,7 +158,8 @@ unfolding no_comma
 no_comma-append [] ys h k = k
 no_comma-append (x ∷ xs) ys h k = by (is_comma x) h (λ e. no_comma-append xs ys e k)
   where
-    by : (b : Bool) → (if b then false else no_comma xs) ≡ true → (no_comma xs ≡ true → no_comma (xs ++ ys) ≡ true) → (if b then false else no_comma (xs ++ ys)) ≡ true
+    by : (b : Bool) → (if b then false else no_comma xs) ≡ true → (no_comma xs ≡ true → no_comma (xs ++ ys) ≡ true) →
+        (if b then false else no_comma (xs ++ ys)) ≡ true
     by true e f = absurd cc
     by false e f = f e
 
@@ -170,7 +185,8 @@ operand_plain : (a : Action) (next : ℕ) (o : Operand) → no_comma (operand_to
 unfolding no_comma
 operand_plain a next (operand.Memory w m) =
     no_comma-append (size_tokens (size_word a w) ++ t.Open ∷ address_tokens m.base m.displacement) (t.Close ∷ [])
-    (no_comma-append (size_tokens (size_word a w)) (t.Open ∷ address_tokens m.base m.displacement) (size_plain (size_word a w)) (address_plain m.base m.displacement)) refl
+    (no_comma-append (size_tokens (size_word a w)) (t.Open ∷ address_tokens m.base m.displacement)
+    (size_plain (size_word a w)) (address_plain m.base m.displacement)) refl
 operand_plain a next _ = refl
 
 -- ---- two operands
@@ -197,29 +213,41 @@ sized_some _ ts = refl
 operand_some : (a : Action) (next : ℕ) (o : Operand) → is_nothing o ≡ false → some (operand_tokens a next o) ≡ true
 unfolding some is_nothing
 operand_some a next operand.Nothing h = absurd cc
-operand_some a next (operand.Memory w m) h = some-append (size_tokens (size_word a w) ++ t.Open ∷ address_tokens m.base m.displacement) (t.Close ∷ []) (sized_some (size_word a w) (address_tokens m.base m.displacement))
+operand_some a next (operand.Memory w m) h = some-append (size_tokens (size_word a w) ++ t.Open
+    ∷ address_tokens m.base m.displacement) (t.Close ∷ []) (sized_some (size_word a w)
+    (address_tokens m.base m.displacement))
 operand_some a next _ h = refl
 
 one_term : (xs : List Token) (x : Term) → term_of xs ≡ Some x → term_pair (xs ∷ []) ≡ Some (x, term.Nothing)
 one_term xs x e = rw e refl
 
-two_terms : (xs ys : List Token) (x y : Term) → term_of xs ≡ Some x → term_of ys ≡ Some y → term_pair (xs ∷ ys ∷ []) ≡ Some (x, y)
+two_terms : (xs ys : List Token) (x y : Term) → term_of xs ≡ Some x → term_of ys ≡ Some y →
+    term_pair (xs ∷ ys ∷ []) ≡ Some (x, y)
 two_terms xs ys x y e f = rw (e, f) refl
 
-alone_read : (a : Action) (next : ℕ) (x : Operand) → is_nothing x ≡ false → terms_of (operand_tokens a next x ++ []) ≡ Some (own_term a next x, term.Nothing)
+alone_read : (a : Action) (next : ℕ) (x : Operand) → is_nothing x ≡ false → terms_of (operand_tokens a next x
+    ++ []) ≡ Some (own_term a next x, term.Nothing)
 alone_read a next x h =
     let xs = operand_tokens a next x in
-    ap terms_of (append-nil xs) ∙ terms_begun xs (operand_some a next x h) ∙ ap term_pair (parts_alone xs (operand_plain a next x)) ∙ one_term xs (own_term a next x) (term_read a next x h)
+    ap terms_of (append-nil xs) ∙ terms_begun xs (operand_some a next x h)
+    ∙ ap term_pair (parts_alone xs (operand_plain a next x))
+    ∙ one_term xs (own_term a next x) (term_read a next x h)
 
-pair_read : (a : Action) (next : ℕ) (x y : Operand) → is_nothing x ≡ false → is_nothing y ≡ false → terms_of (operand_tokens a next x ++ t.Comma ∷ operand_tokens a next y) ≡ Some (own_term a next x, own_term a next y)
+pair_read : (a : Action) (next : ℕ) (x y : Operand) → is_nothing x ≡ false → is_nothing y ≡ false →
+    terms_of (operand_tokens a next x ++ t.Comma ∷ operand_tokens a next y) ≡ Some (
+      own_term a next x,
+      own_term a next y,
+    )
 pair_read a next x y h k =
     let xs = operand_tokens a next x in
     let ys = operand_tokens a next y in
     terms_begun (xs ++ t.Comma ∷ ys) (some-append xs (t.Comma ∷ ys) (operand_some a next x h))
-    ∙ ap term_pair (parts_comma xs ys (operand_plain a next x) ∙ ap (λ (ps : List (List Token)). xs ∷ ps) (parts_alone ys (operand_plain a next y)))
+    ∙ ap term_pair (parts_comma xs ys (operand_plain a next x) ∙ ap (λ (ps : List (List Token)). xs
+    ∷ ps) (parts_alone ys (operand_plain a next y)))
     ∙ two_terms xs ys (own_term a next x) (own_term a next y) (term_read a next x h) (term_read a next y k)
 
-second_read : (a : Action) (next : ℕ) (x y : Operand) → is_nothing x ≡ false → terms_of (operand_tokens a next x ++ second_tokens a next y) ≡ Some (own_term a next x, own_term a next y)
+second_read : (a : Action) (next : ℕ) (x y : Operand) → is_nothing x ≡ false → terms_of (operand_tokens a next x
+    ++ second_tokens a next y) ≡ Some (own_term a next x, own_term a next y)
 unfolding is_nothing
 second_read a next x operand.Nothing h = alone_read a next x h
 second_read a next x y h = pair_read a next x y h refl
@@ -240,10 +268,12 @@ one_word m (t.Short ∷ ts) h = absurd cc
 one_word m (t.Far ∷ ts) h = absurd cc
 one_word m (x ∷ ts) h = refl
 
-word_ends : (p : Prefixes) (m : Mnemonic) (ts : List Token) → plain ts ≡ true → after_prefixes p (t.Mnemonic m ∷ ts) ≡ (terms_of ts >>= λ xs. Some (with_terms p m xs.0 xs.1))
+word_ends : (p : Prefixes) (m : Mnemonic) (ts : List Token) → plain ts ≡ true → after_prefixes p (t.Mnemonic m
+    ∷ ts) ≡ (terms_of ts >>= λ xs. Some (with_terms p m xs.0 xs.1))
 word_ends p m ts h = rw (one_word m ts h) refl
 
-action_read : (p : Prefixes) (m : Mnemonic) (ts : List Token) (x y : Term) → plain ts ≡ true → terms_of ts ≡ Some (x, y) → after_prefixes p (mnemonic_tokens m ++ ts) ≡ Some (with_terms p m x y)
+action_read : (p : Prefixes) (m : Mnemonic) (ts : List Token) (x y : Term) → plain ts ≡ true →
+    terms_of ts ≡ Some (x, y) → after_prefixes p (mnemonic_tokens m ++ ts) ≡ Some (with_terms p m x y)
 action_read p op.CallFar ts x y h e = rw e refl
 action_read p op.JmpFar ts x y h e = rw e refl
 action_read p op.JmpShort ts x y h e = rw e refl
@@ -265,11 +295,14 @@ operand_starts : (a : Action) (next : ℕ) (o : Operand) → plain (operand_toke
 unfolding plain
 operand_starts a next (operand.Memory w m) =
     let xs = size_tokens (size_word a w) ++ t.Open ∷ address_tokens m.base m.displacement in
-    starts-append xs (t.Close ∷ []) (sized_some (size_word a w) (address_tokens m.base m.displacement)) (sized_starts (size_word a w) (address_tokens m.base m.displacement))
+    starts-append xs (t.Close ∷ []) (sized_some (size_word a w) (address_tokens m.base m.displacement))
+    (sized_starts (size_word a w) (address_tokens m.base m.displacement))
 operand_starts a next o = refl
 
-first_starts : (a : Action) (next : ℕ) (x : Operand) (ys : List Token) → is_nothing x ≡ false → plain (operand_tokens a next x ++ ys) ≡ true
-first_starts a next x ys h = starts-append (operand_tokens a next x) ys (operand_some a next x h) (operand_starts a next x)
+first_starts : (a : Action) (next : ℕ) (x : Operand) (ys : List Token) → is_nothing x ≡ false →
+    plain (operand_tokens a next x ++ ys) ≡ true
+first_starts a next x ys h = starts-append (operand_tokens a next x) ys (operand_some a next x h)
+    (operand_starts a next x)
 
 -- an instruction that can be written: the first operand is there where the second one is, and memory is not the second
 -- where operands are exchanged
@@ -295,23 +328,40 @@ record OperandsRead (a : Action) (next : ℕ) (x y : Operand) : Type 0 where
   starts : plain (operands_tokens a next x y) ≡ true
   read : terms_of (operands_tokens a next x y) ≡ Some (own_term a next x, own_term a next y)
 
-operands_read : (a : Action) (next : ℕ) (x y : Operand) → (is_nothing x ≡ true → y ≡ operand.Nothing) → OperandsRead a next x y
+operands_read : (a : Action) (next : ℕ) (x y : Operand) → (is_nothing x ≡ true → y ≡ operand.Nothing) →
+    OperandsRead a next x y
 unfolding is_nothing plain
 operands_read a next operand.Nothing y h = record { starts = refl; read = rw (h refl) refl }
-operands_read a next x y h = record { starts = first_starts a next x (second_tokens a next y) refl; read = second_read a next x y refl }
+operands_read a next x y h = record {
+  starts = first_starts a next x (second_tokens a next y) refl;
+  read = second_read a next x y refl;
+}
 
 own : Prefixes → Action → ℕ → Instruction
-own p a next = record { prefixes = p; mnemonic = a.mnemonic; first = own_term a next a.first; second = own_term a next a.second }
+own p a next = record {
+  prefixes = p;
+  mnemonic = a.mnemonic;
+  first = own_term a next a.first;
+  second = own_term a next a.second;
+}
 
-in_place_read : (p : Prefixes) (a : Action) (next : ℕ) (b : Bool) → b ≡ false → (if b then record { prefixes = p; mnemonic = a.mnemonic; first = own_term a next a.second; second = own_term a next a.first } else own p a next) ≡ own p a next
+in_place_read : (p : Prefixes) (a : Action) (next : ℕ) (b : Bool) → b ≡ false →
+    (if b then record {
+      prefixes = p;
+      mnemonic = a.mnemonic;
+      first = own_term a next a.second;
+      second = own_term a next a.first;
+    } else own p a next) ≡ own p a next
 in_place_read p a next true h = absurd cc
 in_place_read p a next false h = refl
 
-worded_read : (p : Prefixes) (a : Action) (next : ℕ) → CanBeWritten a next → after_prefixes p (mnemonic_tokens a.mnemonic ++ operands_tokens a next a.first a.second) ≡ Some (own p a next)
+worded_read : (p : Prefixes) (a : Action) (next : ℕ) → CanBeWritten a next →
+    after_prefixes p (mnemonic_tokens a.mnemonic ++ operands_tokens a next a.first a.second) ≡ Some (own p a next)
 unfolding own
 worded_read p a next c =
     let o = operands_read a next a.first a.second c.alone in
-    action_read p a.mnemonic (operands_tokens a next a.first a.second) (own_term a next a.first) (own_term a next a.second) o.starts o.read
+    action_read p a.mnemonic (operands_tokens a next a.first a.second) (own_term a next a.first)
+    (own_term a next a.second) o.starts o.read
     ∙ ap Some (in_place_read p a next _ c.in_place)
 
 -- ---- NOP
@@ -328,7 +378,8 @@ accumulator_is (operand.WordRegister Ax) h = refl
 accumulator_is (operand.WordRegister _) h = absurd cc
 accumulator_is _ h = absurd cc
 
-both_accumulators : (x y : Operand) → (if is_accumulator x then is_accumulator y else false) ≡ true → (is_accumulator x ≡ true) × (is_accumulator y ≡ true)
+both_accumulators : (x y : Operand) → (if is_accumulator x then is_accumulator y else false) ≡ true →
+    (is_accumulator x ≡ true) × (is_accumulator y ≡ true)
 both_accumulators x y h = by (is_accumulator x) (is_accumulator y) h
   where
     by : (c d : Bool) → (if c then d else false) ≡ true → (c ≡ true) × (d ≡ true)
@@ -344,10 +395,17 @@ nop_read p a next h =
 
 -- ---- prefixes
 
-line_read : (p : Prefixes) (m : Mnemonic) (ts : List Token) (i : Instruction) → after_prefixes p (t.Mnemonic m ∷ ts) ≡ Some i → statement_of (prefix_tokens p ++ t.Mnemonic m ∷ ts) ≡ Some (record { label = None; item = instruction i })
+line_read : (p : Prefixes) (m : Mnemonic) (ts : List Token) (i : Instruction) → after_prefixes p (t.Mnemonic m
+    ∷ ts) ≡ Some i → statement_of (prefix_tokens p ++ t.Mnemonic m ∷ ts) ≡ Some (record {
+      label = None;
+      item = instruction i;
+    })
 line_read p m ts i = by p.segment p.lock p.repeat
   where
-    by : (s : Option SegmentRegister) (l : Bool) (r : Option Repeat) → after_prefixes (record { segment = s; lock = l; repeat = r }) (t.Mnemonic m ∷ ts) ≡ Some i → statement_of (segment_tokens s ++ lock_tokens l ++ repeat_tokens r ++ t.Mnemonic m ∷ ts) ≡ Some (record { label = None; item = instruction i })
+    by : (s : Option SegmentRegister) (l : Bool) (r : Option Repeat) →
+        after_prefixes (record { segment = s; lock = l; repeat = r }) (t.Mnemonic m ∷ ts) ≡ Some i →
+        statement_of (segment_tokens s ++ lock_tokens l ++ repeat_tokens r ++ t.Mnemonic m ∷ ts)
+        ≡ Some (record { label = None; item = instruction i })
     by None false None h = rw h refl
     by None false (Some r) h = rw h refl
     by None true None h = rw h refl
@@ -357,11 +415,18 @@ line_read p m ts i = by p.segment p.lock p.repeat
     by (Some s) true None h = rw h refl
     by (Some s) true (Some r) h = rw h refl
 
-nop_line : (p : Prefixes) → statement_of (prefix_tokens p ++ t.Nop ∷ []) ≡ Some (record { label = None; item = instruction (nop_of p) })
+nop_line : (p : Prefixes) → statement_of (prefix_tokens p ++ t.Nop ∷ []) ≡ Some (record {
+  label = None;
+  item = instruction (nop_of p);
+})
 unfolding nop_of
 nop_line p = by p.segment p.lock p.repeat
   where
-    by : (s : Option SegmentRegister) (l : Bool) (r : Option Repeat) → statement_of (segment_tokens s ++ lock_tokens l ++ repeat_tokens r ++ t.Nop ∷ []) ≡ Some (record { label = None; item = instruction (nop_of (record { segment = s; lock = l; repeat = r })) })
+    by : (s : Option SegmentRegister) (l : Bool) (r : Option Repeat) → statement_of (segment_tokens s ++ lock_tokens l
+        ++ repeat_tokens r ++ t.Nop ∷ []) ≡ Some (record {
+          label = None;
+          item = instruction (nop_of (record { segment = s; lock = l; repeat = r }));
+        })
     by None false None = refl
     by None false (Some r) = refl
     by None true None = refl
@@ -371,16 +436,25 @@ nop_line p = by p.segment p.lock p.repeat
     by (Some s) true None = refl
     by (Some s) true (Some r) = refl
 
-worded_line : (p : Prefixes) (m : Mnemonic) (ts : List Token) (i : Instruction) → after_prefixes p (mnemonic_tokens m ++ ts) ≡ Some i → statement_of (prefix_tokens p ++ (mnemonic_tokens m ++ ts)) ≡ Some (record { label = None; item = instruction i })
+worded_line : (p : Prefixes) (m : Mnemonic) (ts : List Token) (i : Instruction) → after_prefixes p (mnemonic_tokens m
+    ++ ts) ≡ Some i → statement_of (prefix_tokens p ++ (mnemonic_tokens m ++ ts)) ≡ Some (record {
+      label = None;
+      item = instruction i;
+    })
 worded_line p op.CallFar ts i h = line_read p op.Call (t.Far ∷ ts) i h
 worded_line p op.JmpFar ts i h = line_read p op.Jmp (t.Far ∷ ts) i h
 worded_line p op.JmpShort ts i h = line_read p op.Jmp (t.Short ∷ ts) i h
 worded_line p m ts i h = line_read p m ts i h
 
-pub tokens_read : (i : Ins) (next : ℕ) → CanBeWritten i.action next → statement_of (prefix_tokens i.prefixes ++ action_tokens i.action next) ≡ Some (own_statement i next)
+pub tokens_read : (i : Ins) (next : ℕ) → CanBeWritten i.action next → statement_of (prefix_tokens i.prefixes
+    ++ action_tokens i.action next) ≡ Some (own_statement i next)
 unfolding own
 tokens_read i next c = by (is_nop i.action) refl
   where
-    by : (n : Bool) → is_nop i.action ≡ n → statement_of (prefix_tokens i.prefixes ++ (if n then t.Nop ∷ [] else mnemonic_tokens i.action.mnemonic ++ operands_tokens i.action next i.action.first i.action.second)) ≡ Some (own_statement i next)
-    by true e = nop_line i.prefixes ∙ ap (λ (k : Instruction). Some (record { label = None; item = instruction k })) (nop_read i.prefixes i.action next e)
-    by false e = worded_line i.prefixes i.action.mnemonic (operands_tokens i.action next i.action.first i.action.second) (own i.prefixes i.action next) (worded_read i.prefixes i.action next c)
+    by : (n : Bool) → is_nop i.action ≡ n → statement_of (prefix_tokens i.prefixes ++ (if n then t.Nop ∷ [] else
+        mnemonic_tokens i.action.mnemonic ++ operands_tokens i.action next i.action.first i.action.second))
+        ≡ Some (own_statement i next)
+    by true e = nop_line i.prefixes ∙ ap (λ (k : Instruction). Some (record { label = None; item = instruction k }))
+        (nop_read i.prefixes i.action next e)
+    by false e = worded_line i.prefixes i.action.mnemonic (operands_tokens i.action next i.action.first i.action.second)
+        (own i.prefixes i.action next) (worded_read i.prefixes i.action next c)

@@ -97,7 +97,8 @@ word_fit Near = (tt, (tt, tt))
 memory_fit : (a : Action) (w : Width) (m : Address) → m.displacement < 2 ^ 16 → AllFit (memory_pieces a w m)
 memory_fit a w m h =
     fit-append (size_pieces a w ++ left_bracket ∷ address_pieces m) (right_bracket ∷ [])
-    (fit-append (size_pieces a w) (left_bracket ∷ address_pieces m) (subst AllFit (sym (sizes_are_shown a w)) (word_fit (size_word a w))) (tt, address_fit m.base m.displacement h))
+    (fit-append (size_pieces a w) (left_bracket ∷ address_pieces m) (subst AllFit (sym (sizes_are_shown a w))
+    (word_fit (size_word a w))) (tt, address_fit m.base m.displacement h))
     (tt, tt)
 
 operand_fit : (a : Action) (next : ℕ) (o : Operand) → OperandFits o → AllFit (operand_pieces a next o)
@@ -124,9 +125,13 @@ action_fit a next h k = by (is_nop a)
     second = behind_fit comma a.second (operand_pieces a next a.second) (tt, operand_fit a next a.second k)
 
     operands : AllFit (operands_pieces a next)
-    operands = behind_fit space_sign a.first (operand_pieces a next a.first ++ second_pieces a next) (tt, fit-append (operand_pieces a next a.first) (second_pieces a next) (operand_fit a next a.first h) second)
+    operands = behind_fit space_sign a.first (operand_pieces a next a.first ++ second_pieces a next) (
+      tt,
+      fit-append (operand_pieces a next a.first) (second_pieces a next) (operand_fit a next a.first h) second,
+    )
 
-    by : (n : Bool) → AllFit (if n then name (codes "NOP") ∷ [] else mnemonic_pieces a.mnemonic ++ operands_pieces a next)
+    by : (n : Bool) → AllFit (if n then name (codes "NOP") ∷ [] else mnemonic_pieces a.mnemonic
+        ++ operands_pieces a next)
     by true = (tt, tt)
     by false = fit-append (mnemonic_pieces a.mnemonic) (operands_pieces a next) (mnemonic_fit a.mnemonic) operands
 
@@ -146,11 +151,13 @@ repeat_fit (Some Equal) = (tt, (tt, tt))
 prefix_fit : (p : Prefixes) → AllFit (prefix_pieces p)
 prefix_fit p =
     fit-append (segment_pieces p.segment ++ lock_pieces p.lock) (repeat_pieces p.repeat)
-    (fit-append (segment_pieces p.segment) (lock_pieces p.lock) (segment_fit p.segment) (lock_fit p.lock)) (repeat_fit p.repeat)
+    (fit-append (segment_pieces p.segment) (lock_pieces p.lock) (segment_fit p.segment) (lock_fit p.lock))
+    (repeat_fit p.repeat)
 
 pieces_fit : (i : Ins) (next : ℕ) → OperandFits i.action.first → OperandFits i.action.second → AllFit (pieces i next)
 unfolding pieces
-pieces_fit i next h k = fit-append (prefix_pieces i.prefixes) (action_pieces i.action next) (prefix_fit i.prefixes) (action_fit i.action next h k)
+pieces_fit i next h k = fit-append (prefix_pieces i.prefixes) (action_pieces i.action next) (prefix_fit i.prefixes)
+    (action_fit i.action next h k)
 
 -- ---- a text has few bytes
 
@@ -223,15 +230,18 @@ sign_long b = omega arith
 memory_long : (a : Action) (w : Width) (m : Address) → Long 19 (memory_pieces a w m)
 memory_long a w m =
     long-append 18 1 (size_pieces a w ++ left_bracket ∷ address_pieces m) (right_bracket ∷ [])
-    (long-append 5 13 (size_pieces a w) (left_bracket ∷ address_pieces m) (subst (Long 5) (sym (sizes_are_shown a w)) (size_long (size_word a w)))
-    (long-append 1 12 (left_bracket ∷ []) (address_pieces m) (sign_long 91) (address_long m.base m.displacement))) (sign_long 93)
+    (long-append 5 13 (size_pieces a w) (left_bracket ∷ address_pieces m) (subst (Long 5) (sym (sizes_are_shown a w))
+    (size_long (size_word a w)))
+    (long-append 1 12 (left_bracket ∷ []) (address_pieces m) (sign_long 91) (address_long m.base m.displacement)))
+    (sign_long 93)
 
 operand_long : (a : Action) (next : ℕ) (o : Operand) → Long 19 (operand_pieces a next o)
 unfolding Long byte_in_text word_in_text
 operand_long a next operand.Nothing = omega arith
 operand_long a next (operand.ByteRegister r) = long_more 2 19 (name (byte_name r) ∷ []) (omega arith) (byte_long r)
 operand_long a next (operand.WordRegister r) = long_more 2 19 (name (word_name r) ∷ []) (omega arith) (word_long r)
-operand_long a next (operand.SegmentRegister r) = long_more 2 19 (name (segment_name r) ∷ []) (omega arith) (segment_long r)
+operand_long a next (operand.SegmentRegister r) = long_more 2 19 (name (segment_name r)
+    ∷ []) (omega arith) (segment_long r)
 operand_long a next (operand.Memory w m) = memory_long a w m
 operand_long a next (operand.ByteValue n) = omega arith
 operand_long a next (operand.WordValue n) = omega arith
@@ -252,11 +262,14 @@ action_long a next = by (is_nop a)
     second = behind_long 19 44 a.second (operand_pieces a next a.second) (operand_long a next a.second)
 
     operands : Long 40 (operands_pieces a next)
-    operands = behind_long 39 32 a.first (operand_pieces a next a.first ++ second_pieces a next) (long-append 19 20 (operand_pieces a next a.first) (second_pieces a next) (operand_long a next a.first) second)
+    operands = behind_long 39 32 a.first (operand_pieces a next a.first ++ second_pieces a next)
+        (long-append 19 20 (operand_pieces a next a.first) (second_pieces a next) (operand_long a next a.first) second)
 
-    by : (n : Bool) → Long 49 (if n then name (codes "NOP") ∷ [] else mnemonic_pieces a.mnemonic ++ operands_pieces a next)
+    by : (n : Bool) → Long 49 (if n then name (codes "NOP") ∷ [] else mnemonic_pieces a.mnemonic
+        ++ operands_pieces a next)
     by true = omega arith
-    by false = long-append 9 40 (mnemonic_pieces a.mnemonic) (operands_pieces a next) (mnemonic_long a.mnemonic) operands
+    by false = long-append 9 40 (mnemonic_pieces a.mnemonic) (operands_pieces a next) (mnemonic_long a.mnemonic)
+        operands
 
 segments_long : (s : Option SegmentRegister) → Long 3 (segment_pieces s)
 unfolding Long
@@ -277,11 +290,13 @@ repeat_long (Some Equal) = omega arith
 prefix_long : (p : Prefixes) → Long 14 (prefix_pieces p)
 prefix_long p =
     long-append 8 6 (segment_pieces p.segment ++ lock_pieces p.lock) (repeat_pieces p.repeat)
-    (long-append 3 5 (segment_pieces p.segment) (lock_pieces p.lock) (segments_long p.segment) (lock_long p.lock)) (repeat_long p.repeat)
+    (long-append 3 5 (segment_pieces p.segment) (lock_pieces p.lock) (segments_long p.segment) (lock_long p.lock))
+    (repeat_long p.repeat)
 
 pieces_long : (i : Ins) (next : ℕ) → Long 63 (pieces i next)
 unfolding pieces
-pieces_long i next = long-append 14 49 (prefix_pieces i.prefixes) (action_pieces i.action next) (prefix_long i.prefixes) (action_long i.action next)
+pieces_long i next = long-append 14 49 (prefix_pieces i.prefixes) (action_pieces i.action next) (prefix_long i.prefixes)
+    (action_long i.action next)
 
 -- ---- its bytes are printed ones
 
@@ -309,7 +324,8 @@ mark_printed b h = grind (arith, nat_tests)
 name_printed : (w : List ℕ) → list_all is_in_names w ≡ true → Printed w
 unfolding Printed
 name_printed [] h = tt
-name_printed (b ∷ w) h = let x = both_true (is_in_names b) (list_all is_in_names w) h in (in_name_printed b x.0, name_printed w x.1)
+name_printed (b ∷ w) h = let x = both_true (is_in_names b) (list_all is_in_names w) h in
+    (in_name_printed b x.0, name_printed w x.1)
 
 byte_printed : (n : ℕ) → Printed (byte_in_text n)
 unfolding Printed byte_in_text
@@ -317,7 +333,16 @@ byte_printed n = (omega arith, (digit_printed (n / 16), (digit_printed (n % 16),
 
 word_printed : (n : ℕ) → Printed (word_in_text n)
 unfolding Printed word_in_text
-word_printed n = (omega arith, (digit_printed (n / 4096), (digit_printed (n / 256 % 16), (digit_printed (n / 16 % 16), (digit_printed (n % 16), (omega arith, tt))))))
+word_printed n = (
+  omega arith,
+  (
+    digit_printed (n / 4096),
+    (
+      digit_printed (n / 256 % 16),
+      (digit_printed (n / 16 % 16), (digit_printed (n % 16), (omega arith, tt))),
+    ),
+  ),
+)
 
 pieces_printed : (b : Bool) (ps : List Piece) → parted b ps ≡ true → Printed (text_bytes ps)
 unfolding Printed
@@ -329,14 +354,21 @@ pieces_printed false (name [] ∷ ps) h = absurd cc
 pieces_printed false (name (c ∷ w) ∷ ps) h =
     let x = both_true (list_all is_in_names (c ∷ w)) (parted true ps) h in
     printed-append (c ∷ w) (text_bytes ps) (name_printed (c ∷ w) x.0) (pieces_printed true ps x.1)
-pieces_printed false (byte n ∷ ps) h = printed-append (byte_in_text n) (text_bytes ps) (byte_printed n) (pieces_printed true ps h)
-pieces_printed false (word n ∷ ps) h = printed-append (word_in_text n) (text_bytes ps) (word_printed n) (pieces_printed true ps h)
-pieces_printed true (sign c ∷ ps) h = let x = both_true (is_mark c) (parted false ps) h in (mark_printed c x.0, pieces_printed false ps x.1)
-pieces_printed false (sign c ∷ ps) h = let x = both_true (is_mark c) (parted false ps) h in (mark_printed c x.0, pieces_printed false ps x.1)
+pieces_printed false (byte n ∷ ps) h = printed-append (byte_in_text n) (text_bytes ps) (byte_printed n)
+    (pieces_printed true ps h)
+pieces_printed false (word n ∷ ps) h = printed-append (word_in_text n) (text_bytes ps) (word_printed n)
+    (pieces_printed true ps h)
+pieces_printed true (sign c ∷ ps) h = let x = both_true (is_mark c) (parted false ps) h in
+    (mark_printed c x.0, pieces_printed false ps x.1)
+pieces_printed false (sign c ∷ ps) h = let x = both_true (is_mark c) (parted false ps) h in
+    (mark_printed c x.0, pieces_printed false ps x.1)
 
 pub texts_are_plain : TextsArePlain
 unfolding text_of Long Printed
-texts_are_plain i next = record { short = pieces_long i next; printed = pieces_printed false (pieces i next) (texts_are_parted i next) }
+texts_are_plain i next = record {
+  short = pieces_long i next;
+  printed = pieces_printed false (pieces i next) (texts_are_parted i next);
+}
 
 within : (n : ℕ) → n ≤ 63 → nat_lt 255 n ≡ false
 within n h = grind (arith, nat_tests)
@@ -348,4 +380,6 @@ unfolding line_statement text_of Long
 texts_are_read i x next s =
     let f = action_fits i.action x s in
     rw (within (length (text_bytes (pieces i next))) (pieces_long i next))
-    (ap (λ o. o >>= statement_of) (ap tokens_of (sym (append-nil (text_bytes (pieces i next)))) ∙ pieces_are_read (pieces i next) [] (texts_are_parted i next) (pieces_fit i next f.0 f.1) tt ∙ pieces_again i next) ∙ tokens_read i next (can_be_written i.action x next s))
+    (ap (λ o. o >>= statement_of) (ap tokens_of (sym (append-nil (text_bytes (pieces i next))))
+    ∙ pieces_are_read (pieces i next) [] (texts_are_parted i next) (pieces_fit i next f.0 f.1) tt
+    ∙ pieces_again i next) ∙ tokens_read i next (can_be_written i.action x next s))

@@ -57,14 +57,16 @@ IsComment (b ∷ bs) = (b ≡ 59) ⊎ ((b ≡ 32) × IsComment bs)
 -- a text whose names and numbers stand apart, and whose numbers fit their sizes, has the tokens of its pieces, with a
 -- comment after it too
 abbrev pub PiecesAreRead : Type 0
-PiecesAreRead = (ps : List Piece) (comment : List ℕ) → parted false ps ≡ true → AllFit ps → IsComment comment → tokens_of (text_bytes ps ++ comment) ≡ all_tokens ps
+PiecesAreRead = (ps : List Piece) (comment : List ℕ) → parted false ps ≡ true → AllFit ps → IsComment comment →
+    tokens_of (text_bytes ps ++ comment) ≡ all_tokens ps
 
 -- ---- instructions
 
 -- the operand that an instruction's text is read as (`own_term`) is written as what that text shows (`shown_operand` of
 -- `dm_decode::words`), wherever the instruction stands
 abbrev pub OwnTermsAreWritten : Type 0
-OwnTermsAreWritten = (a : Action) (next place : ℕ) (o : Operand) → written_of a.mnemonic (own_term a next o) place next ≡ Some (read.shown_operand a next o)
+OwnTermsAreWritten = (a : Action) (next place : ℕ) (o : Operand) → written_of a.mnemonic (own_term a next o) place next
+    ≡ Some (read.shown_operand a next o)
 
 -- the number, without its sign, is below 65,536
 abbrev pub AmountFits : Amount → Type 0
@@ -82,11 +84,13 @@ TermFits _ = Unit {0}
 -- the outline of an operand whose numbers are below 65,536 can stand for what the operand is once its label has a
 -- value: the instruction has as many bytes
 abbrev pub OutlinesStand : Type 0
-OutlinesStand = (m : Mnemonic) (t : Term) (place next : ℕ) (x : Written) → TermFits t → written_of m t place next ≡ Some x → OperandStands m (outline_of m t) x
+OutlinesStand = (m : Mnemonic) (t : Term) (place next : ℕ) (x : Written) → TermFits t →
+    written_of m t place next ≡ Some x → OperandStands m (outline_of m t) x
 
 -- the text of each instruction of the table is a line whose statement is that instruction, without a label
 abbrev pub TextsAreRead : Type 0
-TextsAreRead = (i : Ins) (bytes : List ℕ) (next : ℕ) → SpellsAction i.action bytes → line_statement (text_of i next) ≡ Some (own_statement i next)
+TextsAreRead = (i : Ins) (bytes : List ℕ) (next : ℕ) → SpellsAction i.action bytes →
+    line_statement (text_of i next) ≡ Some (own_statement i next)
 
 -- the text has at most 63 bytes, and none is below 20h, so that no line end is among them
 pub record IsPlain (text : List ℕ) : Type 0 where
@@ -110,7 +114,9 @@ data_statement bs = record { label = None; item = bytes (map Plus bs) }
 -- a DB line of bytes, at least one, is read as these bytes, with a comment after it too, if it has at most 255 bytes in
 -- all
 abbrev pub DataIsRead : Type 0
-DataIsRead = (b : ℕ) (bs comment : List ℕ) → AllByRecursion (λ c. c < 2 ^ 8) (b ∷ bs) → IsComment comment → length (data_text b bs ++ comment) ≤ 255 → line_statement (data_text b bs ++ comment) ≡ Some (data_statement (b ∷ bs))
+DataIsRead = (b : ℕ) (bs comment : List ℕ) → AllByRecursion (λ c. c < 2 ^ 8) (b ∷ bs) → IsComment comment →
+    length (data_text b bs ++ comment) ≤ 255 → line_statement (data_text b bs ++ comment)
+    ≡ Some (data_statement (b ∷ bs))
 
 -- ---- numbers
 
@@ -123,4 +129,5 @@ ItemFits (words vs) = AllByRecursion (λ v. AmountFits v.amount) vs
 
 -- the numbers in the statement of each line are below 65,536
 abbrev pub NumbersFit : Type 0
-NumbersFit = (line : List ℕ) (s : Statement) → AllByRecursion (λ b. b < 2 ^ 8) line → line_statement line ≡ Some s → ItemFits s.item
+NumbersFit = (line : List ℕ) (s : Statement) → AllByRecursion (λ b. b < 2 ^ 8) line → line_statement line ≡ Some s →
+    ItemFits s.item

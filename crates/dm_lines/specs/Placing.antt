@@ -57,7 +57,12 @@ is_count_of_one (Minus n) = false
 
 -- a number as a byte, if it is from -80h to FFh, as a word, a target and a shift count
 abbrev pub number_at : Amount → ℕ → Numeral
-number_at n next = record { byte = amount_byte n; word = Some (amount_word n); distance = distance_of (amount_word n) next; is_one = is_count_of_one n }
+number_at n next = record {
+  byte = amount_byte n;
+  word = Some (amount_word n);
+  distance = distance_of (amount_word n) next;
+  is_one = is_count_of_one n;
+}
 
 -- the value of a label as a target; under MOV also as a word, and as a byte if it is below 100h
 abbrev pub label_at : Mnemonic → ℕ → ℕ → Numeral
@@ -99,7 +104,12 @@ written_of m (term.Far s o) place next = Some (w.Far s o)
 -- range, and the number of ESC, below 64, which decides the first byte, is right. As a target it is the next
 -- instruction
 abbrev pub number_outline : Amount → Numeral
-number_outline n = record { byte = Some (amount_word n % 64); word = Some (amount_word n); distance = 0; is_one = is_count_of_one n }
+number_outline n = record {
+  byte = Some (amount_word n % 64);
+  word = Some (amount_word n);
+  distance = 0;
+  is_one = is_count_of_one n;
+}
 
 -- a label in an outline: as a target it is the next instruction; under MOV it is 0 as a byte and a word, else neither
 abbrev pub label_outline : Mnemonic → Numeral

@@ -131,7 +131,12 @@ operated p ts = do
 
 -- the instruction that the tokens after its prefix words are; NOP is XCHG AX,AX
 abbrev pub after_prefixes : Prefixes → List Token → Option Instruction
-after_prefixes p (t.Nop ∷ []) = Some (record { prefixes = p; mnemonic = op.Xchg; first = term.WordRegister Ax; second = term.WordRegister Ax })
+after_prefixes p (t.Nop ∷ []) = Some (record {
+  prefixes = p;
+  mnemonic = op.Xchg;
+  first = term.WordRegister Ax;
+  second = term.WordRegister Ax;
+})
 after_prefixes p ts = operated p ts
 
 -- the instruction that the tokens are: prefix words, a mnemonic and its operands

@@ -16,11 +16,13 @@ uppercase b = if nat_le 97 b && nat_le b 122 then b - 32 else b
 
 -- the byte is one of a word: a letter, a digit or _
 abbrev pub is_word_byte : ℕ → Bool
-is_word_byte b = (nat_le 65 b && nat_le b 90) || (nat_le 97 b && nat_le b 122) || (nat_le 48 b && nat_le b 57) || b == 95
+is_word_byte b = (nat_le 65 b && nat_le b 90) || (nat_le 97 b && nat_le b 122) || (nat_le 48 b && nat_le b 57) ||
+    b == 95
 
 -- the value of a hexadecimal digit, 0 to 9 or A to F
 abbrev pub digit_of : ℕ → Option ℕ
-digit_of b = if nat_le 48 b && nat_le b 57 then Some (b - 48) else if nat_le 65 b && nat_le b 70 then Some (b - 55) else None
+digit_of b = if nat_le 48 b && nat_le b 57 then Some (b - 48) else if nat_le 65 b && nat_le b 70 then Some (b - 55) else
+    None
 
 -- ---- words, in upper case
 
@@ -35,7 +37,8 @@ magnitude_of base n (b ∷ bs) = do
 -- the number that a word that begins with a digit spells: hexadecimal with an H at the end, else decimal; None if it
 -- spells none
 abbrev pub number_of : List ℕ → Option ℕ
-number_of w = if slice_index w (length w - 1) == 72 then magnitude_of 16 0 (take (length w - 1) w) else magnitude_of 10 0 w
+number_of w = if slice_index w (length w - 1) == 72 then magnitude_of 16 0 (take (length w - 1) w) else
+    magnitude_of 10 0 w
 
 -- a word of at most 31 bytes as a name of a label: zeros follow it up to 31 bytes
 abbrev pub padded_of : List ℕ → Name'.Name

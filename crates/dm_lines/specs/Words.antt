@@ -25,8 +25,10 @@ aliases =
 abbrev pub keywords : List (List ℕ × Token)
 keywords =
     (codes "NOP", t.Nop) ∷ (codes "LOCK", t.Lock) ∷ (codes "REP", t.Repeat Equal) ∷ (codes "REPE", t.Repeat Equal) ∷
-    (codes "REPZ", t.Repeat Equal) ∷ (codes "REPNE", t.Repeat NotEqual) ∷ (codes "REPNZ", t.Repeat NotEqual) ∷ (codes "FAR", t.Far) ∷
-    (codes "SHORT", t.Short) ∷ (codes "BYTE", t.Size size.Byte) ∷ (codes "WORD", t.Size size.Word) ∷ (codes "NEAR", t.Size size.Near) ∷
+    (codes "REPZ", t.Repeat Equal) ∷ (codes "REPNE", t.Repeat NotEqual) ∷ (codes "REPNZ", t.Repeat NotEqual)
+    ∷ (codes "FAR", t.Far) ∷
+    (codes "SHORT", t.Short) ∷ (codes "BYTE", t.Size size.Byte) ∷ (codes "WORD", t.Size size.Word)
+    ∷ (codes "NEAR", t.Size size.Near) ∷
     (codes "DB", t.DataBytes) ∷ (codes "DW", t.DataWords) ∷ []
 
 -- the mnemonic's name is one word

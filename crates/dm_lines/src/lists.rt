@@ -35,7 +35,8 @@ fn put_text(bytes: &mut Bytes, tokens: &[Token]) -> Option<()>
 /// Appends the number that the tokens of an item of a DB are, with its sign.
 fn put_number(bytes: &mut Bytes, tokens: &[Token]) -> Option<()>
     requires { array_vec_len bytes.old + length tokens.now ≤ 255 }
-    ensures items { option_map (λ _. bytes.new.items) result ≡ joined_to bytes.old.items (list_of_one (amount_of tokens.now)) }
+    ensures items { option_map (λ _. bytes.new.items) result ≡ joined_to bytes.old.items (list_of_one
+        (amount_of tokens.now)) }
     ensures len { IfSome result (λ _. array_vec_len bytes.new ≤ array_vec_len bytes.old + length tokens.now) }
 {
     let number = amount(tokens)?;

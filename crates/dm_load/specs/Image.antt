@@ -16,7 +16,8 @@ with_word bytes k v = slice_set (slice_set bytes k (v % 256)) (k + 1) (v / 256)
 -- whether the file begins with `MZ` or `ZM`; any other one is a COM file
 unfoldable pub is_mz : List ℕ → Bool
 is_mz file =
-    (slice_index file 0 == 0x4D && slice_index file 1 == 0x5A) || (slice_index file 0 == 0x5A && slice_index file 1 == 0x4D)
+    (slice_index file 0 == 0x4D && slice_index file 1 == 0x5A) || (slice_index file 0 == 0x5A &&
+    slice_index file 1 == 0x4D)
 
 -- the kind of a program file: `Mz` or `Com`
 abbrev pub file_kind : List ℕ → Kind

@@ -25,7 +25,8 @@ within s t n k (further m u v goes h) less = elim (cases_lt k m) [
       record { before = u; next = v; goes = subst (λ j. Goes s j u) same goes; steps = h })
 ]
 
-pub answers-stop : (s : State) (stop : Stop) (t : State) → stop ≢ NoMemory → Answers s (Some stop) t → MakesStep s (record { stop = Some stop; state = t })
+pub answers-stop : (s : State) (stop : Stop) (t : State) → stop ≢ NoMemory → Answers s (Some stop) t →
+    MakesStep s (record { stop = Some stop; state = t })
 answers-stop s NoMemory t p h = absurd (p refl)
 answers-stop s stop t p h = h
 
@@ -40,25 +41,42 @@ pub not_beyond : (s t u : State) (n : ℕ) (stop : Stop) → stop ≢ NoMemory �
 not_beyond s t u n stop p goes w =
     let v = within s t n w.made goes w.fewer in
     let same : v.before ≡ w.before = goes-one s v.before w.before w.made v.goes w.goes in
-    let stops : MakesStep w.before (record { stop = Some stop; state = u }) = answers-stop w.before stop u p w.answers in
-    let on : MakesStep w.before (record { stop = None; state = v.next }) = subst (λ z. MakesStep z (record { stop = None; state = v.next })) same v.steps in
+    let stops : MakesStep w.before (record { stop = Some stop; state = u }) =
+    answers-stop w.before stop u p w.answers in
+    let on : MakesStep w.before (record { stop = None; state = v.next }) =
+    subst (λ z. MakesStep z (record { stop = None; state = v.next })) same v.steps in
     let one = steps-one w.before _ _ stops on in
     some-none (Some stop) stop refl (ap (λ (x : Answer). x.stop) one)
 
-cut-one : (s t u : State) (n : ℕ) (a b : Stop) → a ≢ NoMemory → b ≢ NoMemory → (w : StopsWithin s n a t) → (v : StopsWithin s n b u) → w.made ≡ v.made → (a ≡ b) × (t ≡ u)
+cut-one : (s t u : State) (n : ℕ) (a b : Stop) → a ≢ NoMemory → b ≢ NoMemory → (w : StopsWithin s n a t) →
+    (v : StopsWithin s n b u) → w.made ≡ v.made → (a ≡ b) × (t ≡ u)
 cut-one s t u n a b p q w v e =
-    let same : w.before ≡ v.before = goes-one s w.before v.before v.made (subst (λ k. Goes s k w.before) e w.goes) v.goes in
+    let same : w.before ≡ v.before = goes-one s w.before v.before v.made (subst (λ k. Goes s k w.before) e w.goes)
+    v.goes in
     let x : MakesStep v.before (record { stop = Some a; state = t })
     = subst (λ z. MakesStep z (record { stop = Some a; state = t })) same (answers-stop w.before a t p w.answers) in
     let one = steps-one v.before _ _ x (answers-stop v.before b u q v.answers) in
     (stop-same a b _ (ap (λ (z : Answer). z.stop) one) refl, ap (λ (z : Answer). z.state) one)
 
-both-cut : (s t u : State) (n : ℕ) (a b : Stop) → a ≢ NoMemory → b ≢ NoMemory → StopsWithin s n a t → StopsWithin s n b u → (a ≡ b) × (t ≡ u)
+both-cut : (s t u : State) (n : ℕ) (a b : Stop) → a ≢ NoMemory → b ≢ NoMemory → StopsWithin s n a t →
+    StopsWithin s n b u → (a ≡ b) × (t ≡ u)
 both-cut s t u n a b p q w v = elim (cases_lt w.made v.made) [
-  | inl less ↦ absurd (not_beyond s v.before t v.made a p v.goes (record { made = w.made; before = w.before; fewer = less; goes = w.goes; answers = w.answers }))
+  | inl less ↦ absurd (not_beyond s v.before t v.made a p v.goes (record {
+    made = w.made;
+    before = w.before;
+    fewer = less;
+    goes = w.goes;
+    answers = w.answers;
+  }))
   | inr least ↦
       elim (cases_lt v.made w.made) [
-        | inl less ↦ absurd (not_beyond s w.before u w.made b q w.goes (record { made = v.made; before = v.before; fewer = less; goes = v.goes; answers = v.answers }))
+        | inl less ↦ absurd (not_beyond s w.before u w.made b q w.goes (record {
+          made = v.made;
+          before = v.before;
+          fewer = less;
+          goes = v.goes;
+          answers = v.answers;
+        }))
         | inr most ↦ cut-one s t u n a b p q w v (omega (arith, least, most))
       ]
 ]

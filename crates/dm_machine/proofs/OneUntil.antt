@@ -39,20 +39,25 @@ record Ended (ps : List Breakpoint) (s : State) (n : ℕ) (x : Answer) : Type 0 
   ends : x.stop ≡ None → stands_at ps x.state.cpu ≡ true
 
 -- no such run goes on beyond the step at which another one ends
-not_further : (ps : List Breakpoint) (s t : State) (n m : ℕ) (x : Answer) → GoesPast ps s n t → (e : Ended ps s m x) → e.made < n → ⊥
+not_further : (ps : List Breakpoint) (s t : State) (n m : ℕ) (x : Answer) → GoesPast ps s n t → (e : Ended ps s m x) →
+    e.made < n → ⊥
 not_further ps s t n m x g e less =
     let v = within ps s t n e.made g less in
-    let same : v.before ≡ e.before = goes-one s v.before e.before e.made v.goes (past_goes ps s e.before e.made e.goes) in
-    let on : MakesStep e.before (record { stop = None; state = v.next }) = subst (λ (z : State). MakesStep z (record { stop = None; state = v.next })) same v.steps in
+    let same : v.before ≡ e.before = goes-one s v.before e.before e.made v.goes
+    (past_goes ps s e.before e.made e.goes) in
+    let on : MakesStep e.before (record { stop = None; state = v.next }) =
+    subst (λ (z : State). MakesStep z (record { stop = None; state = v.next })) same v.steps in
     let one : x ≡ record { stop = None; state = v.next } = steps-one e.before x _ e.steps on in
     let at : stands_at ps x.state.cpu ≡ true = e.ends (ap (λ (y : Answer). y.stop) one) in
     let no : true ≡ false = sym at ∙ ap (λ (y : Answer). stands_at ps y.state.cpu) one ∙ v.past in
     cc
 
-same-made : (ps : List Breakpoint) (s : State) (n : ℕ) (x y : Answer) → (e : Ended ps s n x) → (f : Ended ps s n y) → e.made ≡ f.made → x ≡ y
+same-made : (ps : List Breakpoint) (s : State) (n : ℕ) (x y : Answer) → (e : Ended ps s n x) → (f : Ended ps s n y) →
+    e.made ≡ f.made → x ≡ y
 same-made ps s n x y e f same =
     let at : e.before ≡ f.before
-    = goes-one s e.before f.before f.made (subst (λ k. Goes s k e.before) same (past_goes ps s e.before e.made e.goes)) (past_goes ps s f.before f.made f.goes) in
+    = goes-one s e.before f.before f.made (subst (λ k. Goes s k e.before) same (past_goes ps s e.before e.made e.goes))
+    (past_goes ps s f.before f.made f.goes) in
     steps-one f.before x y (subst (λ (z : State). MakesStep z x) at e.steps) f.steps
 
 ended-one : (ps : List Breakpoint) (s : State) (n : ℕ) (x y : Answer) → Ended ps s n x → Ended ps s n y → x ≡ y
@@ -74,7 +79,8 @@ data Ends (ps : List Breakpoint) (s : State) (n : ℕ) (stop : Option Stop) (t :
 not-none : (o : Option Stop) (why : Stop) (A : Type 0) → o ≡ Some why → o ≡ None → A
 not-none o why A e f = absurd (some-none o why e f)
 
-ends : (ps : List Breakpoint) (s t : State) (n : ℕ) (stop : Option Stop) → stop ≢ Some NoMemory → RunsUntil s n ps stop t → Ends ps s n stop t
+ends : (ps : List Breakpoint) (s t : State) (n : ℕ) (stop : Option Stop) → stop ≢ Some NoMemory →
+    RunsUntil s n ps stop t → Ends ps s n stop t
 ends ps s t n stop p (over code e f g) = was_over code e f g
 ends ps s t n stop p (broken before e f c h x) =
     ended e (record {
@@ -93,19 +99,25 @@ ends ps s t n stop p (cut why before e f c a) =
       before = before;
       fewer = c.fewer;
       goes = c.goes;
-      steps = subst (λ (o : Option Stop). MakesStep before (record { stop = o; state = t })) (sym f) (answers-stop before why t other a);
+      steps = subst (λ (o : Option Stop). MakesStep before (record { stop = o; state = t })) (sym f)
+          (answers-stop before why t other a);
       ends = λ none. not-none stop why _ f none;
     })
 
-ends-one : (ps : List Breakpoint) (s t u : State) (n : ℕ) (a b : Option Stop) → Ends ps s n a t → Ends ps s n b u → (a ≡ b) × (t ≡ u)
-ends-one ps s t u n a b (was_over c e f g) (was_over d h i j) = (f ∙ ap (λ k. Some (Exited k)) (code-same s.exited c d e h) ∙ sym i, g ∙ sym j)
+ends-one : (ps : List Breakpoint) (s t u : State) (n : ℕ) (a b : Option Stop) → Ends ps s n a t → Ends ps s n b u →
+    (a ≡ b) × (t ≡ u)
+ends-one ps s t u n a b (was_over c e f g) (was_over d h i j) =
+    (f ∙ ap (λ k. Some (Exited k)) (code-same s.exited c d e h) ∙ sym i, g ∙ sym j)
 ends-one ps s t u n a b (was_over c e f g) (all_made h i j) = absurd (some-none s.exited c e h)
 ends-one ps s t u n a b (was_over c e f g) (ended h x) = absurd (some-none s.exited c e h)
 ends-one ps s t u n a b (all_made e f g) (was_over c h i j) = absurd (some-none s.exited c h e)
-ends-one ps s t u n a b (all_made e f g) (all_made h i j) = (f ∙ sym i, goes-one s t u n (past_goes ps s t n g) (past_goes ps s u n j))
-ends-one ps s t u n a b (all_made e f g) (ended h x) = let fewer = x.fewer in absurd (not_further ps s t n n _ g x fewer)
+ends-one ps s t u n a b (all_made e f g) (all_made h i j) =
+    (f ∙ sym i, goes-one s t u n (past_goes ps s t n g) (past_goes ps s u n j))
+ends-one ps s t u n a b (all_made e f g) (ended h x) = let fewer = x.fewer in
+    absurd (not_further ps s t n n _ g x fewer)
 ends-one ps s t u n a b (ended e x) (was_over c h i j) = absurd (some-none s.exited c h e)
-ends-one ps s t u n a b (ended e x) (all_made h i j) = let fewer = x.fewer in absurd (not_further ps s u n n _ j x fewer)
+ends-one ps s t u n a b (ended e x) (all_made h i j) = let fewer = x.fewer in
+    absurd (not_further ps s u n n _ j x fewer)
 ends-one ps s t u n a b (ended e x) (ended h y) =
     let one = ended-one ps s n _ _ x y in
     (ap (λ (z : Answer). z.stop) one, ap (λ (z : Answer). z.state) one)

@@ -23,7 +23,8 @@ after-keeps s Go g = same _
 after-keeps s Halt g = same _
 
 instructs-keep : (s : State) (x : Answer) → Instructs s x → Keeps s x
-instructs-keep s x (listed i k b e) = by s x _ e (after-keeps s (next_of i.action.mnemonic) (effect (guest s.cpu s.memory) i k))
+instructs-keep s x (listed i k b e) = by s x _ e (after-keeps s (next_of i.action.mnemonic)
+    (effect (guest s.cpu s.memory) i k))
 instructs-keep s x (unlisted h e) = by s x _ e (same _)
 
 acts-keep : (s : State) (o : Option EntryPoint) (x : Answer) → Acts s o x → Keeps s x
@@ -75,13 +76,15 @@ follows-keep s t (changed r m f) = follows-keep s r f
 follows-keep s t (reserved r n f) = (let before = follows-keep s r f in omega (arith, before))
 
 -- the step at which memory is wanting
-step-wants : (s t : State) (x : Answer) → Answers s (Some NoMemory) t → MakesStep t x → limit s.console < length x.state.console.output
+step-wants : (s t : State) (x : Answer) → Answers s (Some NoMemory) t → MakesStep t x →
+    limit s.console < length x.state.console.output
 step-wants s t x answers step =
     let want = answers.0 in
     let one : x ≡ want.answer = steps-one s x want.answer (subst (λ u. MakesStep u x) answers.1 step) want.gives in
     subst (λ (y : Answer). limit s.console < length y.state.console.output) (sym one) want.overflows
 
-run-wants : (s t : State) (n : ℕ) (x : Answer) → IsRun s n NoMemory t → MakesStep t x → limit s.console < length x.state.console.output
+run-wants : (s t : State) (n : ℕ) (x : Answer) → IsRun s n NoMemory t → MakesStep t x →
+    limit s.console < length x.state.console.output
 run-wants s t n x (over code e g h) step = cc
 run-wants s t n x (whole e g goes) step = cc
 run-wants s t n x (cut e w) step =

@@ -26,7 +26,8 @@ ThereIsOneRun = (s t u : State) (n : ℕ) → Goes s n t → Goes s n u → t �
 
 -- two runs of at most n steps from one state, in which no allocation fails, stop for the same reason in the same state
 abbrev pub RunHasOneStop : Type 0
-RunHasOneStop = (s t u : State) (n : ℕ) (a b : Stop) → IsRun s n a t → IsRun s n b u → a ≢ NoMemory → b ≢ NoMemory → (a ≡ b) × (t ≡ u)
+RunHasOneStop = (s t u : State) (n : ℕ) (a b : Stop) → IsRun s n a t → IsRun s n b u → a ≢ NoMemory → b ≢ NoMemory →
+    (a ≡ b) × (t ≡ u)
 
 -- at this entry point (or none) no call can change which memory the program sees: an instruction, a service of DOS, or
 -- INT 2Fh; not INT 67h and not the extended memory driver
@@ -75,7 +76,8 @@ pub record LeavesUnseen (m n : Memory) : Type 0 where
 
 -- a run in which neither driver is called keeps the windows, and all bytes of blocks that no window shows
 abbrev pub RunLeavesUnseen : Type 0
-RunLeavesUnseen = (s t : State) (n : ℕ) (stop : Stop) → StaysQuiet s n → IsRun s n stop t → LeavesUnseen s.memory t.memory
+RunLeavesUnseen = (s t : State) (n : ℕ) (stop : Stop) → StaysQuiet s n → IsRun s n stop t →
+    LeavesUnseen s.memory t.memory
 
 -- whether the block with this number belongs to one of the handles of extended memory
 abbrev pub is_extended : List (Option Handle) → ℕ → Bool
@@ -85,7 +87,11 @@ is_extended (Some handle ∷ handles) block = (handle.block == block) || is_exte
 
 -- the memory with the bytes `other block` in each block that belongs to one of the handles of extended memory
 abbrev pub extended_as : List (Option Handle) → (ℕ → List ℕ) → Memory → Memory
-extended_as handles other m = with_blocks m (record m.blocks { contents = mixed (λ block. not (is_extended handles block)) other 0 m.blocks.contents })
+extended_as handles other m =
+    with_blocks m (record m.blocks {
+      contents = mixed (λ block. not
+          (is_extended handles block)) other 0 m.blocks.contents;
+    })
 
 -- the state with the bytes `other block` in each block of extended memory
 abbrev pub with_extended_blocks : (ℕ → List ℕ) → State → State
@@ -102,12 +108,14 @@ ExtendedBlocksChangeNoRun =
 pub record LeavesExtended (s t : State) : Type 0 where
   pub expanded : t.ems ≡ s.ems
   pub extended : t.xms ≡ s.xms
-  pub bytes : (block : ℕ) → is_extended s.xms.handles block ≡ true → page_bytes t.memory block ≡ page_bytes s.memory block
+  pub bytes : (block : ℕ) → is_extended s.xms.handles block ≡ true → page_bytes t.memory block
+      ≡ page_bytes s.memory block
 
 -- if tables and memory are consistent, a run in which neither driver is called keeps the tables of expanded and of
 -- extended memory and the bytes of each block of extended memory
 abbrev pub RunLeavesExtended : Type 0
-RunLeavesExtended = (s t : State) (n : ℕ) (stop : Stop) → AreConsistent s → StaysQuiet s n → IsRun s n stop t → LeavesExtended s t
+RunLeavesExtended = (s t : State) (n : ℕ) (stop : Stop) → AreConsistent s → StaysQuiet s n → IsRun s n stop t →
+    LeavesExtended s t
 
 -- from s, steps and runs one after another lead to this state; between them memory may be changed from outside, and
 -- more room be reserved
@@ -116,7 +124,8 @@ pub data IsHistory (s : State) : State → Type 0 where
   step_on : (t u : State) (stop : Option Stop) → IsHistory s t → Answers t stop u → IsHistory s u
   run_on : (t u : State) (n : ℕ) (stop : Stop) → IsHistory s t → IsRun t n stop u → IsHistory s u
   changed : (t : State) (memory : Memory) → IsHistory s t → IsHistory s (record t { memory = memory })
-  reserved : (t : State) (bytes : ℕ) → IsHistory s t → IsHistory s (record t { console = record t.console { room = max t.console.room bytes } })
+  reserved : (t : State) (bytes : ℕ) → IsHistory s t →
+      IsHistory s (record t { console = record t.console { room = max t.console.room bytes } })
 
 -- every result of a step from t leaves more than `bytes` bytes of output
 abbrev pub WantsBeyond : ℕ → State → Type 0

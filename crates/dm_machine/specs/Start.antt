@@ -22,11 +22,36 @@ use Rattle.dm_services.specs.state.State.{State}
 
 -- all flags clear
 abbrev pub clear_flags : Flags
-clear_flags = record { carry = false; parity = false; adjust = false; zero = false; sign = false; trap = false; interrupt = false; direction = false; overflow = false }
+clear_flags = record {
+  carry = false;
+  parity = false;
+  adjust = false;
+  zero = false;
+  sign = false;
+  trap = false;
+  interrupt = false;
+  direction = false;
+  overflow = false;
+}
 
 -- all registers 0, all flags clear
 abbrev pub clear_registers : Cpu
-clear_registers = record { ax = 0; cx = 0; dx = 0; bx = 0; sp = 0; bp = 0; si = 0; di = 0; es = 0; cs = 0; ss = 0; ds = 0; ip = 0; flags = clear_flags }
+clear_registers = record {
+  ax = 0;
+  cx = 0;
+  dx = 0;
+  bx = 0;
+  sp = 0;
+  bp = 0;
+  si = 0;
+  di = 0;
+  es = 0;
+  cs = 0;
+  ss = 0;
+  ds = 0;
+  ip = 0;
+  flags = clear_flags;
+}
 
 -- the memory with the three headers of an arena that goes on in upper memory: at 0100h `Z`, owner 0, size 9EFEh; at
 -- 9FFFh the link block, `M`, owner 0008h, size 3000h; at D000h `Z`, owner 0, size 0FFFh
@@ -50,7 +75,8 @@ pub record IsStartWith (upper : Bool) (sizes : Sizes) (m : Memory) : Type 0 wher
 
 -- s is a machine as it starts: memory as in `IsStartWith`, registers 0, no handle but handle 0 of expanded memory, this
 -- input, after which no more comes, no output, no process, the strategy first fit in all of the arena
-pub record IsNew (sizes : Sizes) (variables : List ℕ) (upper : Bool) (programs : List (List ℕ × List ℕ)) (input : List ℕ) (s : State) : Type 0 where
+pub record IsNew (sizes : Sizes) (variables : List ℕ) (upper : Bool) (programs : List (List ℕ ×
+    List ℕ)) (input : List ℕ) (s : State) : Type 0 where
   pub memory : IsStartWith upper sizes s.memory
   pub others : s ≡ record {
     cpu = clear_registers;

@@ -41,7 +41,8 @@ impl Machine {
     ///
     /// `AllocError` if the allocation fails, and nothing has changed.
     pub fn supply(&mut self, bytes: &[u8]) -> Result<(), AllocError>
-        ensures ok { OnOk result (self.new ≡ record self.old { console = record self.old.console { input = self.old.console.input ++ bytes.now } }) }
+        ensures ok { OnOk result (self.new ≡ record self.old
+            { console = record self.old.console { input = self.old.console.input ++ bytes.now } }) }
         ensures err { OnErr result (self.new ≡ self.old) }
     {
         self.parts.console.supply(bytes)

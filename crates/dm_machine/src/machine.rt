@@ -227,7 +227,10 @@ impl Machine {
     /// program must be loaded.
     pub fn poke(&mut self, segment: u16, offset: u16, value: u8)
         requires { HasProgram self.old }
-        ensures { self.new ≡ record self.old { memory = poke self.old.memory (linear self.old.memory.a20 segment offset) value } }
+        ensures { self.new ≡ record self.old {
+          memory = poke self.old.memory (linear self.old.memory.a20 segment
+              offset) value;
+        } }
     {
         self.parts.space.poke(segment, offset, value);
     }
@@ -245,7 +248,8 @@ impl Machine {
     ///
     /// An `Err` says that the allocation failed, and that nothing has changed.
     pub fn reserve_output(&mut self, bytes: usize) -> Result<(), AllocError>
-        ensures ok { OnOk result (self.new ≡ record self.old { console = record self.old.console { room = max self.old.console.room bytes } }) }
+        ensures ok { OnOk result (self.new ≡ record self.old
+            { console = record self.old.console { room = max self.old.console.room bytes } }) }
         ensures err { OnErr result (self.new ≡ self.old) }
         ensures has_room { bytes ≤ self.old.console.room → IsOk result }
     {

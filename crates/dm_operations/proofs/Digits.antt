@@ -28,13 +28,17 @@ either_ten true false = refl
 either_ten false true = refl
 either_ten false false = refl
 
-pub units_off : (x : ℕ) (f : Flags) → x < 256 → bit_or ((x % 16 + 6) / 16 * 16) (16 * from_bool f.adjust) ≡ from_bool (low_digit_off x f) * 16
-units_off x f h = ap (λ n. bit_or n (16 * from_bool f.adjust)) (over_nine (x % 16) _ (omega arith) refl) ∙ either_unit _ f.adjust
+pub units_off : (x : ℕ) (f : Flags) → x < 256 → bit_or ((x % 16 + 6) / 16 * 16) (16 * from_bool f.adjust)
+    ≡ from_bool (low_digit_off x f) * 16
+units_off x f h = ap (λ n. bit_or n (16 * from_bool f.adjust)) (over_nine (x % 16) _ (omega arith) refl)
+    ∙ either_unit _ f.adjust
 
-pub tens_off : (x : ℕ) (f : Flags) → x < 256 → bit_or ((x + 102) / 256 * 256) (256 * from_bool f.carry) ≡ from_bool (high_digit_off x f) * 256
+pub tens_off : (x : ℕ) (f : Flags) → x < 256 → bit_or ((x + 102) / 256 * 256) (256 * from_bool f.carry)
+    ≡ from_bool (high_digit_off x f) * 256
 tens_off x f h = ap (λ n. bit_or n (256 * from_bool f.carry)) (over_tens x _ h refl) ∙ either_ten _ f.carry
 
-by_digits : (a b : Bool) → (from_bool a * 16 + from_bool b * 256) * 3 / 8 ≡ (if a then 6 else 0) + (if b then 0x60 else 0)
+by_digits : (a b : Bool) → (from_bool a * 16 + from_bool b * 256) * 3 / 8 ≡ (if a then 6 else 0) + (if b then 0x60 else
+    0)
 by_digits true true = refl
 by_digits true false = refl
 by_digits false true = refl

@@ -19,7 +19,9 @@ pub entry : (n d : ℕ) (xs : List ℕ) (k i : ℕ) → leaves n k xs ≡ true �
 unfolding leaves
 entry n d [] k i e h = absurd (omega arith)
 entry n d (x ∷ xs) k zero e h = equals x (k % n) (both_true _ (leaves n (suc k) xs) e).0 ∙ ap (λ j. j % n) (omega arith)
-entry n d (x ∷ xs) k (suc i) e h = entry n d xs (suc k) i (both_true (nat_eq x (k % n)) _ e).1 (omega arith) ∙ ap (λ j. j % n) (omega arith)
+entry n d (x ∷ xs) k (suc i) e h = entry n d xs (suc k) i (both_true (nat_eq x (k % n)) _ e).1 (omega arith)
+    ∙ ap (λ j. j % n) (omega arith)
 
-pub at_place : (n d : ℕ) (xs : List ℕ) (i : ℕ) → leaves n 0 xs ≡ true → length xs ≡ 256 → i < 256 → get_or xs i d ≡ i % n
+pub at_place : (n d : ℕ) (xs : List ℕ) (i : ℕ) → leaves n 0 xs ≡ true → length xs ≡ 256 → i < 256 →
+    get_or xs i d ≡ i % n
 at_place n d xs i e l h = entry n d xs 0 i e (omega arith) ∙ ap (λ j. j % n) (omega arith)

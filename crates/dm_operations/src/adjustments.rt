@@ -37,7 +37,13 @@ fn digits_off(low: u32, flags: Flags) -> u32
 #[inline(always)]
 fn set_decimal(cpu: &mut Registers, value: u32, off: u32)
     requires { off < 512 }
-    ensures { cpu.new ≡ record cpu.old { ax = cpu.old.ax / 256 * 256 + value % 256; flags = record (after_result Byte (value % 256) cpu.old.flags) { adjust = off / 16 % 2 == 1; carry = nat_le 256 off } } }
+    ensures { cpu.new ≡ record cpu.old {
+      ax = cpu.old.ax / 256 * 256 + value % 256;
+      flags = record (after_result Byte (value % 256) cpu.old.flags) {
+        adjust = off / 16 % 2 == 1;
+        carry = nat_le 256 off;
+      };
+    } }
 {
     let al = (value % 0x100) as u8;
     cpu.set_ax(cpu.ax() / 0x100 * 0x100 + al as u16);

@@ -245,7 +245,8 @@ fn out_of(width: Width, turned: u64) -> Moved
 fn turned_left_often(width: Width, start: Shifted, count: u8) -> Moved
     requires { start.value < size width }
     ensures value { result.value ≡ (moves ShiftOperation.RotateThroughCarryLeft width count start).value }
-    ensures carry { nat_le 2147483648 result.carry ≡ (moves ShiftOperation.RotateThroughCarryLeft width count start).carry }
+    ensures carry { nat_le 2147483648 result.carry ≡ (moves ShiftOperation.RotateThroughCarryLeft width count
+        start).carry }
     ensures in_range { result.value < size width }
 {
     out_of(width, turned_by(width, with_carry(width, start), count))
@@ -256,7 +257,8 @@ fn turned_left_often(width: Width, start: Shifted, count: u8) -> Moved
 fn turned_right_often(width: Width, start: Shifted, count: u8) -> Moved
     requires { start.value < size width }
     ensures value { result.value ≡ (moves ShiftOperation.RotateThroughCarryRight width count start).value }
-    ensures carry { nat_le 2147483648 result.carry ≡ (moves ShiftOperation.RotateThroughCarryRight width count start).carry }
+    ensures carry { nat_le 2147483648 result.carry ≡ (moves ShiftOperation.RotateThroughCarryRight width count
+        start).carry }
     ensures in_range { result.value < size width }
 {
     out_of(

@@ -51,7 +51,8 @@ fn set_double(width: Width, cpu: &mut Registers, value: u32)
 #[tactic(auto, using(crate::proofs::ByWidth::double_keeps), unfolding(dm_alu::specs::Products::flags_after_product))]
 pub(crate) fn multiply_by(width: Width, cpu: &mut Registers, sign: Sign, right: u16)
     requires { right < size width }
-    ensures { cpu.new ≡ record (with_double width cpu.old (product_value sign width (accumulator width cpu.old) right)) { flags = flags_after_product sign width (accumulator width cpu.old) right cpu.old.flags } }
+    ensures { cpu.new ≡ record (with_double width cpu.old (product_value sign width (accumulator width cpu.old)
+        right)) { flags = flags_after_product sign width (accumulator width cpu.old) right cpu.old.flags } }
 {
     let left = values::accumulator(width, cpu);
     let (product, flags) = mul(sign, width, left, right, cpu.flags());
@@ -66,7 +67,8 @@ pub(crate) fn multiply_by(width: Width, cpu: &mut Registers, sign: Sign, right: 
 #[inline(never)]
 #[tactic(auto, unfolding(crate::specs::Products::multiplied))]
 pub fn multiply(cpu: &mut Registers, space: &Space, ins: &Ins, sign: Sign)
-    ensures { guest cpu.new space.now.memory ≡ multiplied (guest cpu.old space.now.memory) ins.now.prefixes.segment sign ins.now.action.first }
+    ensures { guest cpu.new space.now.memory ≡ multiplied (guest cpu.old
+        space.now.memory) ins.now.prefixes.segment sign ins.now.action.first }
 {
     let operand = &ins.action.first;
     let width = values::width(operand);
@@ -113,7 +115,8 @@ pub(crate) fn divide_by(
     divisor: u16,
 )
     requires { divisor < size width }
-    ensures { guest cpu.new space.new.memory ≡ after_division width (guest cpu.old space.old.memory) (quotient_of sign width (double_of width cpu.old) divisor) }
+    ensures { guest cpu.new space.new.memory ≡ after_division width (guest cpu.old space.old.memory) (quotient_of sign
+        width (double_of width cpu.old) divisor) }
 {
     let dividend = double(width, cpu);
     match div(sign, width, dividend, divisor) {
@@ -128,7 +131,8 @@ pub(crate) fn divide_by(
 #[tactic(auto, unfolding(crate::specs::Products::after_division, crate::specs::Products::with_division))]
 fn divides_by(width: Width, cpu: &mut Registers, sign: Sign, divisor: u16) -> bool
     requires { divisor < size width }
-    ensures does { OnTrue result ((memory : Memory) → guest cpu.new memory ≡ after_division width (guest cpu.old memory) (quotient_of sign width (double_of width cpu.old) divisor)) }
+    ensures does { OnTrue result ((memory : Memory) → guest cpu.new memory ≡ after_division width (guest cpu.old memory)
+        (quotient_of sign width (double_of width cpu.old) divisor)) }
     ensures stays { OnFalse result (cpu.new ≡ cpu.old) }
     ensures segment { cpu.new.cs ≡ cpu.old.cs }
     ensures ip { cpu.new.ip ≡ cpu.old.ip }
@@ -147,7 +151,8 @@ fn divides_by(width: Width, cpu: &mut Registers, sign: Sign, divisor: u16) -> bo
 #[inline(always)]
 pub(crate) fn divides(width: Width, cpu: &mut Registers, sign: Sign, divisor: u16) -> bool
     requires { divisor < size width }
-    ensures does { OnTrue result ((memory : Memory) → guest cpu.new memory ≡ after_division width (guest cpu.old memory) (quotient_of sign width (double_of width cpu.old) divisor)) }
+    ensures does { OnTrue result ((memory : Memory) → guest cpu.new memory ≡ after_division width (guest cpu.old memory)
+        (quotient_of sign width (double_of width cpu.old) divisor)) }
     ensures stays { OnFalse result (cpu.new ≡ cpu.old) }
     ensures segment { cpu.new.cs ≡ cpu.old.cs }
     ensures ip { cpu.new.ip ≡ cpu.old.ip }
@@ -162,7 +167,8 @@ pub(crate) fn divides(width: Width, cpu: &mut Registers, sign: Sign, divisor: u1
 #[inline(never)]
 #[tactic(auto, unfolding(crate::specs::Products::divided))]
 pub fn divide(cpu: &mut Registers, space: &mut Space, ins: &Ins, sign: Sign)
-    ensures { guest cpu.new space.new.memory ≡ divided (guest cpu.old space.old.memory) ins.now.prefixes.segment sign ins.now.action.first }
+    ensures { guest cpu.new space.new.memory ≡ divided (guest cpu.old
+        space.old.memory) ins.now.prefixes.segment sign ins.now.action.first }
 {
     let operand = &ins.action.first;
     let width = values::width(operand);

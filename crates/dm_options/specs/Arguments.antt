@@ -15,11 +15,13 @@ option_rule name default = record (new_rule name) {
 
 -- `--steps N`: a number below 2^64, 100000000 by default
 abbrev pub steps_rule : Rule
-steps_rule = record (option_rule (codes "steps") (codes "100000000")) { parser = Some (parser.Unsigned 0 18446744073709551615) }
+steps_rule = record (option_rule (codes "steps") (codes "100000000"))
+    { parser = Some (parser.Unsigned 0 18446744073709551615) }
 
 -- `--steps N` of `dm gdb`: 1000000 by default
 abbrev pub gdb_steps_rule : Rule
-gdb_steps_rule = record (option_rule (codes "steps") (codes "1000000")) { parser = Some (parser.Unsigned 0 18446744073709551615) }
+gdb_steps_rule = record (option_rule (codes "steps") (codes "1000000"))
+    { parser = Some (parser.Unsigned 0 18446744073709551615) }
 
 -- `--ems PAGES`: a number below 2^32, 64 by default
 abbrev pub ems_rule : Rule
@@ -48,7 +50,8 @@ files_rule = record (new_rule (codes "files")) {
 -- the command with the options and files added that `run`, `debug`, `check` and `gdb` share; `--steps` is given
 abbrev pub with_machine_rules : Rule → App → App
 with_machine_rules steps a =
-    with_rule (with_rule (with_rule (with_rule (with_rule (with_rule a steps) ems_rule) xms_rule) upper_rule) tail_rule) files_rule
+    with_rule (with_rule (with_rule (with_rule (with_rule (with_rule a steps) ems_rule) xms_rule) upper_rule) tail_rule)
+    files_rule
 
 -- `dm run`
 abbrev pub run_app : App
@@ -92,9 +95,15 @@ gdb_app = with_rule (with_machine_rules gdb_steps_rule (new_app (codes "gdb"))) 
 
 -- `dm` before its subcommands are added; it must have one, and has `--version`
 abbrev pub named_app : App
-named_app = let empty = new_app (codes "dm") in record empty { top = record empty.top { has_version = true; subcommand_required = true } }
+named_app = let empty = new_app (codes "dm") in record empty {
+  top = record empty.top {
+    has_version = true;
+    subcommand_required = true;
+  };
+}
 
 -- `dm` with its subcommands
 unfoldable pub dm_app : App
-dm_app = with_subcommand (with_subcommand (with_subcommand (with_subcommand (with_subcommand (with_subcommand named_app run_app.top) debug_app.top) check_app.top)
+dm_app = with_subcommand (with_subcommand (with_subcommand (with_subcommand
+    (with_subcommand (with_subcommand named_app run_app.top) debug_app.top) check_app.top)
     asm_app.top) disasm_app.top) gdb_app.top

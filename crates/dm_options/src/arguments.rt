@@ -137,7 +137,8 @@ fn with_machine_args<'a>(
 ) -> Result<Command<'a>, AllocError>
     requires { steps.global ≡ false }
     ensures app { IfOk result (λ c. app_of c ≡ with_machine_rules (rule_of steps.entry) (app_of command.entry)) }
-    ensures local { (fields_of command.entry).has_globals ≡ false → IfOk result (λ c. (fields_of c).has_globals ≡ false) }
+    ensures local { (fields_of command.entry).has_globals ≡ false → IfOk result (λ c. (fields_of c).has_globals
+        ≡ false) }
 {
     command
         .arg(steps)?

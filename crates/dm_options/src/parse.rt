@@ -53,7 +53,8 @@ fn text_if_any<'a>(matches: &ArgMatches<'a>, id: &str) -> Option<&'a str>
 
 /// The paths of the argument `FILES`. An `Err` is a failed allocation.
 fn files_of<'a>(alloc: Global, matches: &ArgMatches<'a>) -> Result<Vec<&'a str>, AllocError>
-    ensures { IfOk result (λ v. all_of (codes "files") (rows_of (found_of matches.now)) ≡ Some (map (λ s. s.now) v.items)) }
+    ensures { IfOk result (λ v. all_of (codes "files") (rows_of (found_of matches.now))
+        ≡ Some (map (λ s. s.now) v.items)) }
 {
     let files = matches.get_strs("files").ok_or(AllocError)?;
     let files = Vec::from_slice(alloc, files)?;
@@ -166,7 +167,8 @@ fn found_options<'a>(alloc: Global, matches: &ArgMatches<'a>) -> Result<Options<
 /// `Usage` if `clap` finds a fault in the words; a call for help or the version is one too. Its kind is one of those
 /// that the first fault may have. `Memory` if an allocation failed.
 pub fn options<'a, S: AsStr>(alloc: Global, words: &'a [S]) -> Result<Options<'a>, OptionsError>
-    ensures ok { IfOk result (λ o. IsSomeAnd (subcommand_of dm_app (map S.text words.entry.now)) (λ g. HasOptions g o)) }
+    ensures ok { IfOk result (λ o. IsSomeAnd (subcommand_of dm_app (map S.text words.entry.now))
+        (λ g. HasOptions g o)) }
     ensures no_fault { OnOk result (fault_of dm_app (map S.text words.entry.now) ≡ []) }
     ensures err { IfErr result (Explains (fault_of dm_app (map S.text words.entry.now))) }
 {

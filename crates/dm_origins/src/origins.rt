@@ -41,7 +41,15 @@ impl Model for Origins {
 
     ghost Value = { Known };
 
-    ghost view = { λ r. record { handles = r.handles; blocks = r.blocks; uppers = r.uppers; area = r.area; line = r.line; freed = r.freed; processes = r.processes.items } };
+    ghost view = { λ r. record {
+      handles = r.handles;
+      blocks = r.blocks;
+      uppers = r.uppers;
+      area = r.area;
+      line = r.line;
+      freed = r.freed;
+      processes = r.processes.items;
+    } };
 
     ghost invariant = { λ r. length r.freed ≡ 0x10000 };
 }

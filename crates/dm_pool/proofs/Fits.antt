@@ -19,12 +19,15 @@ pub record Passing (places : List (Option Extent)) (units : ℕ) (bytes : List �
   pub gaps : AreGaps places units from rest
   pub told : Spells bytes at rest
 
-abbrev pub sets_out : (places : List (Option Extent)) (units : ℕ) (bytes : List ℕ) (at : ℕ) → Tells places units 0 at bytes → Passing places units bytes at
+abbrev pub sets_out : (places : List (Option Extent)) (units : ℕ) (bytes : List ℕ) (at : ℕ) →
+    Tells places units 0 at bytes → Passing places units bytes at
 sets_out places units bytes at t = record { rest = t.runs; from = 0; gaps = t.gaps; told = t.told }
 
 -- all of them are the gaps
-pub tells_gaps : (places : List (Option Extent)) (units : ℕ) (bytes : List ℕ) (at : ℕ) → AreBased places → (t : Tells places units 0 at bytes) → t.runs ≡ gaps places units
-tells_gaps places units bytes at based t = gaps_are_one places units 0 t.runs (gaps places units) t.gaps (gaps_are places units based)
+pub tells_gaps : (places : List (Option Extent)) (units : ℕ) (bytes : List ℕ) (at : ℕ) → AreBased places →
+    (t : Tells places units 0 at bytes) → t.runs ≡ gaps places units
+tells_gaps places units bytes at based t = gaps_are_one places units 0 t.runs (gaps places units) t.gaps
+    (gaps_are places units based)
 
 -- the run at `at`, and those behind it
 pub record Meets (places : List (Option Extent)) (units : ℕ) (bytes : List ℕ) (at : ℕ) (rest : List Run) : Type 0 where
@@ -39,16 +42,20 @@ pub record Meets (places : List (Option Extent)) (units : ℕ) (bytes : List ℕ
   pub told : Spells bytes (double_word bytes (at * 1024 + 4)) behind
   pub rising : (double_word bytes (at * 1024 + 4) ≡ 0xFFFFFFFF) ⊎ (at < double_word bytes (at * 1024 + 4))
 
-after_run : (places : List (Option Extent)) (units from : ℕ) (bytes : List ℕ) (low at : ℕ) (gs : List Run) → AreGaps places units from gs → low < from → Spells bytes at gs → (at ≡ 0xFFFFFFFF) ⊎ (low < at)
+after_run : (places : List (Option Extent)) (units from : ℕ) (bytes : List ℕ) (low at : ℕ) (gs : List Run) →
+    AreGaps places units from gs → low < from → Spells bytes at gs → (at ≡ 0xFFFFFFFF) ⊎ (low < at)
 after_run places units from bytes low at [] are h told = inl told
 after_run places units from bytes low at (g ∷ gs) are h told = inr (omega (arith, told.0, are.0, h))
 
-meets_run : (places : List (Option Extent)) (units from : ℕ) (bytes : List ℕ) (at : ℕ) (rest : List Run) → AreGaps places units from rest → Spells bytes at rest → ¬ (at ≡ 0xFFFFFFFF) → Meets places units bytes at rest
+meets_run : (places : List (Option Extent)) (units from : ℕ) (bytes : List ℕ) (at : ℕ) (rest : List Run) →
+    AreGaps places units from rest → Spells bytes at rest → ¬ (at ≡ 0xFFFFFFFF) → Meets places units bytes at rest
 meets_run places units from bytes at [] are told ne = absurd (ne told)
 meets_run places units from bytes at (g ∷ gs) are told ne =
     let low : g.low ≡ at = sym told.0 in
-    let link : double_word bytes (at * 1024 + 4) ≡ double_word bytes (g.low * 1024 + 4) = ap (λ n. double_word bytes (n * 1024 + 4)) (sym low) in
-    let behind : Spells bytes (double_word bytes (at * 1024 + 4)) gs = subst (λ n. Spells bytes n gs) (sym link) told.2 in
+    let link : double_word bytes (at * 1024 + 4) ≡ double_word bytes (g.low * 1024 + 4) =
+    ap (λ n. double_word bytes (n * 1024 + 4)) (sym low) in
+    let behind : Spells bytes (double_word bytes (at * 1024 + 4)) gs =
+    subst (λ n. Spells bytes n gs) (sym link) told.2 in
     let some = are.2 in
     record {
       run = g;
@@ -60,12 +67,15 @@ meets_run places units from bytes at (g ∷ gs) are told ne =
       room = are.4;
       gaps = are.6;
       told = behind;
-      rising = after_run places units (g.low + g.size) bytes at (double_word bytes (at * 1024 + 4)) gs are.6 (omega (arith, low, some)) behind;
+      rising = after_run places units (g.low + g.size) bytes at (double_word bytes (at * 1024 + 4)) gs are.6
+          (omega (arith, low, some)) behind;
     }
 
-no_run : (places : List (Option Extent)) (units from : ℕ) (bytes : List ℕ) (at : ℕ) (rest : List Run) → AreGaps places units from rest → Spells bytes at rest → at ≡ 0xFFFFFFFF → units < 2 ^ 31 → rest ≡ []
+no_run : (places : List (Option Extent)) (units from : ℕ) (bytes : List ℕ) (at : ℕ) (rest : List Run) →
+    AreGaps places units from rest → Spells bytes at rest → at ≡ 0xFFFFFFFF → units < 2 ^ 31 → rest ≡ []
 no_run places units from bytes at [] are told e small = refl
-no_run places units from bytes at (g ∷ gs) are told e small = let some = are.2 in let room = are.4 in absurd (omega (arith, told.0, some, room, e, small))
+no_run places units from bytes at (g ∷ gs) are told e small = let some = are.2 in let room =
+    are.4 in absurd (omega (arith, told.0, some, room, e, small))
 
 module _ (places : List (Option Extent)) (units : ℕ) (bytes : List ℕ) (at : ℕ) (p : Passing places units bytes at) where
   pub meets : ¬ (at ≡ 0xFFFFFFFF) → Meets places units bytes at p.rest
@@ -78,34 +88,53 @@ module _ (places : List (Option Extent)) (units : ℕ) (bytes : List ℕ) (at : 
   run_within ne = let m = meets ne in omega (arith, m.low, m.some, m.room)
 
   pub run_falls : ¬ (at ≡ 0xFFFFFFFF) → units < 2 ^ 31 → units - double_word bytes (at * 1024 + 4) < units - at
-  run_falls ne small = let h = run_within ne in elim (meets ne).rising [ inl e ↦ omega (arith, e, h, small) | inr r ↦ omega (arith, r, h) ]
+  run_falls ne small = let h = run_within ne in elim (meets ne).rising [
+    | inl e ↦ omega (arith, e, h, small)
+    | inr r ↦
+        omega (arith, r, h)
+  ]
 
 -- on to the runs behind
-abbrev pub goes_on : (places : List (Option Extent)) (units : ℕ) (bytes : List ℕ) (at next : ℕ) (rest : List Run) → next ≡ double_word bytes (at * 1024 + 4) → Meets places units bytes at rest → Passing places units bytes next
-goes_on places units bytes at next rest e m = record { rest = m.behind; from = m.run.low + m.run.size; gaps = m.gaps; told = subst (λ n. Spells bytes n m.behind) (sym e) m.told }
+abbrev pub goes_on : (places : List (Option Extent)) (units : ℕ) (bytes : List ℕ) (at next : ℕ) (rest : List Run) →
+    next ≡ double_word bytes (at * 1024 + 4) → Meets places units bytes at rest → Passing places units bytes next
+goes_on places units bytes at next rest e m = record {
+  rest = m.behind;
+  from = m.run.low + m.run.size;
+  gaps = m.gaps;
+  told = subst (λ n. Spells bytes n m.behind) (sym e) m.told;
+}
 
 -- the first run that holds so many units
-pub fit_here : (gs : List Run) (g : Run) (behind : List Run) (wanted : ℕ) → gs ≡ g ∷ behind → wanted ≤ g.size → first_fit gs wanted ≡ Some g.low
-fit_here gs g behind wanted e h = ap (λ l. first_fit l wanted) e ∙ ap (λ c. if c then Some g.low else first_fit behind wanted) (le-leb wanted g.size h)
+pub fit_here : (gs : List Run) (g : Run) (behind : List Run) (wanted : ℕ) → gs ≡ g ∷ behind → wanted ≤ g.size →
+    first_fit gs wanted ≡ Some g.low
+fit_here gs g behind wanted e h = ap (λ l. first_fit l wanted) e ∙ ap (λ c. if c then Some g.low else
+    first_fit behind wanted) (le-leb wanted g.size h)
 
-pub fit_behind : (gs : List Run) (g : Run) (behind : List Run) (wanted : ℕ) → gs ≡ g ∷ behind → g.size < wanted → first_fit gs wanted ≡ first_fit behind wanted
-fit_behind gs g behind wanted e h = ap (λ l. first_fit l wanted) e ∙ ap (λ c. if c then Some g.low else first_fit behind wanted) (past wanted g.size h)
+pub fit_behind : (gs : List Run) (g : Run) (behind : List Run) (wanted : ℕ) → gs ≡ g ∷ behind → g.size < wanted →
+    first_fit gs wanted ≡ first_fit behind wanted
+fit_behind gs g behind wanted e h = ap (λ l. first_fit l wanted) e ∙ ap (λ c. if c then Some g.low else
+    first_fit behind wanted) (past wanted g.size h)
 
 -- the gaps have no more units than the pool
-pub free_within : (places : List (Option Extent)) (units from : ℕ) (gs : List Run) → from ≤ units → AreGaps places units from gs → from + free_units gs ≤ units
+pub free_within : (places : List (Option Extent)) (units from : ℕ) (gs : List Run) → from ≤ units →
+    AreGaps places units from gs → from + free_units gs ≤ units
 free_within places units from [] le are = omega (arith, le)
 free_within places units from (g ∷ gs) le are =
-    let low = are.0 in let rest = free_within places units (g.low + g.size) gs are.4 are.6 in let sum = sum_by-cons (λ (r : Run). r.size) g gs in
+    let low = are.0 in let rest = free_within places units (g.low + g.size) gs are.4 are.6 in let sum =
+    sum_by-cons (λ (r : Run). r.size) g gs in
     omega (arith, low, rest, sum)
 
-pub free_split : (gs : List Run) (g : Run) (behind : List Run) → gs ≡ g ∷ behind → free_units gs ≡ g.size + free_units behind
+pub free_split : (gs : List Run) (g : Run) (behind : List Run) → gs ≡ g ∷ behind →
+    free_units gs ≡ g.size + free_units behind
 free_split gs g behind e = ap free_units e ∙ sum_by-cons (λ (r : Run). r.size) g behind
 
-pub fitting_split : (u : ℕ) (gs : List Run) (g : Run) (behind : List Run) → gs ≡ g ∷ behind → count_fitting u gs ≡ g.size / u + count_fitting u behind
+pub fitting_split : (u : ℕ) (gs : List Run) (g : Run) (behind : List Run) → gs ≡ g ∷ behind →
+    count_fitting u gs ≡ g.size / u + count_fitting u behind
 fitting_split u gs g behind e = ap (count_fitting u) e ∙ sum_by-cons (λ (r : Run). r.size / u) g behind
 
 pub fitting_least : (u : ℕ) (gs : List Run) → 0 < u → count_fitting u gs ≤ free_units gs
 fitting_least u [] pos = omega arith
 fitting_least u (g ∷ gs) pos =
-    let one = sum_by-cons (λ (r : Run). r.size) g gs in let other = sum_by-cons (λ (r : Run). r.size / u) g gs in let rest = fitting_least u gs pos in let less = div-le_self g.size u in
+    let one = sum_by-cons (λ (r : Run). r.size) g gs in let other = sum_by-cons (λ (r : Run). r.size / u) g gs in
+    let rest = fitting_least u gs pos in let less = div-le_self g.size u in
     omega (arith, one, other, rest, less)

@@ -46,9 +46,11 @@ pub none_places : (n : ℕ) → (no_layout n).places ≡ replicate 576 None
 unfolding no_layout
 none_places n = refl
 
-pub none_blocks : (n : ℕ) (l : Layout) (w : List ℕ) → l.units ≡ (no_layout n).units → l.places ≡ (no_layout n).places → blocks_in l w ≡ no_blocks n
+pub none_blocks : (n : ℕ) (l : Layout) (w : List ℕ) → l.units ≡ (no_layout n).units → l.places ≡ (no_layout n).places →
+    blocks_in l w ≡ no_blocks n
 unfolding no_layout no_blocks
-none_blocks n l w u p = same_blocks l.units n l.places (replicate 576 None) (contents_of l.places w) (replicate 576 []) u p (ap (λ ps. contents_of ps w) p ∙ none_content 576 w)
+none_blocks n l w u p = same_blocks l.units n l.places (replicate 576 None) (contents_of l.places w)
+    (replicate 576 []) u p (ap (λ ps. contents_of ps w) p ∙ none_content 576 w)
 
 all_clear : (k p u : ℕ) → is_clear (replicate k None) p u ≡ true
 all_clear zero p u = refl
@@ -68,12 +70,20 @@ one_gap (suc n) = record { low = 0; size = suc n } ∷ []
 
 one_gap_is : (n m : ℕ) → AreGaps (no_layout m).places n 0 (one_gap n)
 one_gap_is zero m = λ j lo hi. absurd (omega (arith, hi))
-one_gap_is (suc n) m =
-    (omega arith, (λ j lo hi. absurd (omega (arith, hi))), omega arith, none_clear m 0 (suc n), omega arith, (λ h. absurd (omega (arith, h))), (λ j lo hi. absurd (omega (arith, lo, hi))))
+one_gap_is (suc n) m = (
+  omega arith,
+  (λ j lo hi. absurd (omega (arith, hi))),
+  omega arith,
+  none_clear m 0 (suc n),
+  omega arith,
+  (λ h. absurd (omega (arith, h))),
+  (λ j lo hi. absurd (omega (arith, lo, hi))),
+)
 
 fresh_gaps : (n : ℕ) (ps : List (Option Extent)) → ps ≡ (no_layout n).places → gaps ps n ≡ one_gap n
 fresh_gaps n ps e =
-    ap (λ (l : List (Option Extent)). gaps l n) e ∙ gaps_are_one (no_layout n).places n 0 (gaps (no_layout n).places n) (one_gap n) (gaps_are (no_layout n).places n (none_based n)) (one_gap_is n n)
+    ap (λ (l : List (Option Extent)). gaps l n) e ∙ gaps_are_one (no_layout n).places n 0 (gaps (no_layout n).places n)
+    (one_gap n) (gaps_are (no_layout n).places n (none_based n)) (one_gap_is n n)
 
 one_largest : (n : ℕ) → largest (one_gap n) ≡ n
 one_largest zero = refl
@@ -93,22 +103,27 @@ fresh_largest n ps e = ap largest (fresh_gaps n ps e) ∙ one_largest n
 pub fresh_free_units : (n : ℕ) (ps : List (Option Extent)) → ps ≡ (no_layout n).places → free_units (gaps ps n) ≡ n
 fresh_free_units n ps e = ap free_units (fresh_gaps n ps e) ∙ one_free n
 
-pub fresh_count_fitting : (n u : ℕ) (ps : List (Option Extent)) → ps ≡ (no_layout n).places → count_fitting u (gaps ps n) ≡ n / u
+pub fresh_count_fitting : (n u : ℕ) (ps : List (Option Extent)) → ps ≡ (no_layout n).places →
+    count_fitting u (gaps ps n) ≡ n / u
 fresh_count_fitting n u ps e = ap (count_fitting u) (fresh_gaps n ps e) ∙ one_fitting n u
 
 part_zeros_in : (xs : List ℕ) (n m k : ℕ) → k ≤ m → part xs n m ≡ replicate m 0 → part xs n k ≡ zeros_of k
 unfolding zeros_of
 part_zeros_in xs n m k le e = let here : n + 0 ≡ n = omega arith in
-    ap (λ i. part xs i k) (sym here) ∙ sym (part_in xs n m 0 k (omega (arith, le))) ∙ ap (take k) e ∙ take-replicate k m 0 le
+    ap (λ i. part xs i k) (sym here) ∙ sym (part_in xs n m 0 k (omega (arith, le))) ∙ ap (take k) e
+    ∙ take-replicate k m 0 le
 
 -- the scratch bytes before the hole, and the zeros behind
-pub scratch_split : (xs : List ℕ) (n to : ℕ) → 0x110000 ≤ n → n ≤ 0x310000 → 0x310000 ≤ to → 0x310000 ≤ length xs → part xs n (to - n) ≡ replicate (to - n) 0
-    → scratch_part xs ≡ part xs 0x110000 (n - 0x110000) ++ zeros_of (0x200000 - length (part xs 0x110000 (n - 0x110000)))
+pub scratch_split : (xs : List ℕ) (n to : ℕ) → 0x110000 ≤ n → n ≤ 0x310000 → 0x310000 ≤ to → 0x310000 ≤ length xs →
+    part xs n (to - n) ≡ replicate (to - n) 0
+    → scratch_part xs ≡ part xs 0x110000 (n - 0x110000)
+    ++ zeros_of (0x200000 - length (part xs 0x110000 (n - 0x110000)))
 scratch_split xs n to low front back long e =
     let a : ℕ = n - 0x110000 in let b : ℕ = 0x310000 - n in
     let all : 0x200000 ≡ a + b = omega (arith, low, front) in
     let next : 0x110000 + a ≡ n = omega (arith, low) in
-    let left : b ≡ 0x200000 - length (part xs 0x110000 a) = omega (arith, part_length xs 0x110000 a (omega (arith, low, front, long)), low, front) in
+    let left : b ≡ 0x200000 - length (part xs 0x110000 a) =
+    omega (arith, part_length xs 0x110000 a (omega (arith, low, front, long)), low, front) in
     ap (part xs 0x110000) all ∙ part_more xs 0x110000 a b
     ∙ ap (λ i. part xs 0x110000 a ++ part xs i b) next
     ∙ ap (λ (l : List ℕ). part xs 0x110000 a ++ l) (part_zeros_in xs n (to - n) b (omega (arith, back)) e)

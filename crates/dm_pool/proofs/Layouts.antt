@@ -24,7 +24,8 @@ no_order n = record {
   small = λ p h. absurd (omega (arith, h));
 }
 
-pub none_laid : (units n : ℕ) → length (replicate {A = Option Extent} n None) ≡ 576 → units < 2 ^ 31 → IsLaid units (replicate n None)
+pub none_laid : (units n : ℕ) → length (replicate {A = Option Extent} n None) ≡ 576 → units < 2 ^ 31 →
+    IsLaid units (replicate n None)
 none_laid units n c s = record {
   count = c;
   small = s;
@@ -35,7 +36,8 @@ none_laid units n c s = record {
 pub none_based : (n : ℕ) → AreBased (replicate n None)
 none_based n i b e z = absurd (none-some b (sym (no_place n i) ∙ e))
 
-at_set : (ps : List (Option Extent)) (k i : ℕ) (o : Option Extent) (b : Extent) → k < length ps → get_or (set ps k o) i None ≡ Some b → (o ≡ Some b) × (i ≡ k) ⊎ (get_or ps i None ≡ Some b) × ¬ (i ≡ k)
+at_set : (ps : List (Option Extent)) (k i : ℕ) (o : Option Extent) (b : Extent) → k < length ps →
+    get_or (set ps k o) i None ≡ Some b → (o ≡ Some b) × (i ≡ k) ⊎ (get_or ps i None ≡ Some b) × ¬ (i ≡ k)
 at_set ps k i o b lt e = elim (same_or_not i k) [
   | inl s ↦ inl (sym (ap (λ j. get_or (set ps k o) j None) s ∙ get_or-set_same ps k o None lt) ∙ e, s)
   | inr ne ↦ inr (sym (get_or-set_other ps k i o None ne) ∙ e, ne)
@@ -44,14 +46,20 @@ at_set ps k i o b lt e = elim (same_or_not i k) [
 turned : (d e : Extent) → Apart d e → Apart e d
 turned d e a = elim a [ inl h ↦ inr h | inr h ↦ inl h ]
 
-pub come_laid : (n : ℕ) (ps : List (Option Extent)) (k : ℕ) (b : Extent) → k < 576 → IsLaid n ps → b.base + b.units ≤ n → is_clear ps b.base b.units ≡ true → IsLaid n (set ps k (Some b))
+pub come_laid : (n : ℕ) (ps : List (Option Extent)) (k : ℕ) (b : Extent) → k < 576 → IsLaid n ps →
+    b.base + b.units ≤ n → is_clear ps b.base b.units ≡ true → IsLaid n (set ps k (Some b))
 come_laid n ps k b lt is inside clear =
     let short : k < length ps = omega (arith, lt, is.count) in
-    let far : (i : ℕ) (d : Extent) → get_or ps i None ≡ Some d → Apart d b = λ i d e. clear_apart ps b.base b.units clear i d e in
+    let far : (i : ℕ) (d : Extent) → get_or ps i None ≡ Some d → Apart d b =
+    λ i d e. clear_apart ps b.base b.units clear i d e in
     record {
       count = length-set ps k (Some b) ∙ is.count;
       small = is.small;
-      within = λ i d e. elim (at_set ps k i (Some b) d short e) [ inl s ↦ subst (λ (z : Extent). z.base + z.units ≤ n) (same_Some b d s.0) inside | inr o ↦ is.within i d o.0 ];
+      within = λ i d e. elim (at_set ps k i (Some b) d short e) [
+        | inl s ↦
+            subst (λ (z : Extent). z.base + z.units ≤ n) (same_Some b d s.0) inside
+        | inr o ↦ is.within i d o.0
+      ];
       apart = λ i j d c ne e f. elim (at_set ps k i (Some b) d short e) [
         | inl s ↦ elim (at_set ps k j (Some b) c short f) [
           | inl t ↦ absurd (ne (s.1 ∙ sym t.1))
@@ -67,7 +75,8 @@ come_laid n ps k b lt is inside clear =
 pub go_laid : (n : ℕ) (ps : List (Option Extent)) (k : ℕ) → k < 576 → IsLaid n ps → IsLaid n (set ps k None)
 go_laid n ps k lt is =
     let short : k < length ps = omega (arith, lt, is.count) in
-    let old : (i : ℕ) (d : Extent) → get_or (set ps k None) i None ≡ Some d → get_or ps i None ≡ Some d = λ i d e. elim (at_set ps k i None d short e) [ inl s ↦ absurd (none-some d s.0) | inr o ↦ o.0 ] in
+    let old : (i : ℕ) (d : Extent) → get_or (set ps k None) i None ≡ Some d → get_or ps i None ≡ Some d =
+    λ i d e. elim (at_set ps k i None d short e) [ inl s ↦ absurd (none-some d s.0) | inr o ↦ o.0 ] in
     record {
       count = length-set ps k None ∙ is.count;
       small = is.small;

@@ -67,7 +67,8 @@ pub record IsLaid (units : ℕ) (places : List (Option Extent)) : Type 0 where
   pub count : length places ≡ 576
   pub small : units < 2 ^ 31
   pub within : (i : ℕ) (b : Extent) → get_or places i None ≡ Some b → b.base + b.units ≤ units
-  pub apart : (i j : ℕ) (b d : Extent) → ¬ (i ≡ j) → get_or places i None ≡ Some b → get_or places j None ≡ Some d → Apart b d
+  pub apart : (i j : ℕ) (b d : Extent) → ¬ (i ≡ j) → get_or places i None ≡ Some b → get_or places j None ≡ Some d →
+      Apart b d
 
 -- the blocks lie within the pool, apart, and the pool has 1 KiB for each unit
 pub record IsPool (units : ℕ) (places : List (Option Extent)) (bytes : List ℕ) : Type 0 where
@@ -78,7 +79,8 @@ pub record IsPool (units : ℕ) (places : List (Option Extent)) (bytes : List �
 -- free, else that of the lowest gap that holds them, its old place counted as taken; 0 for no unit, None if there is no
 -- place for it
 abbrev pub new_base : Blocks → ℕ → Extent → ℕ → Option ℕ
-new_base s i b u = if u == 0 then Some 0 else (if are_free (set s.places i None) s.units u b.base then Some b.base else lowest s.places s.units u)
+new_base s i b u = if u == 0 then Some 0 else (if are_free (set s.places i None) s.units u b.base then Some b.base else
+    lowest s.places s.units u)
 
 -- the bytes of a block that gets u units: its own up to the smaller size, then zeros
 abbrev pub fitted : List ℕ → ℕ → List ℕ
@@ -103,7 +105,8 @@ resized s i u = resized_from s i u (get_or s.places i None)
 -- the pool with `len` bytes of block i, from its byte `from` on, copied over those of block j from its byte `to` on; i
 -- and j may be one block (Store.move_bytes)
 abbrev pub moved_bytes : Blocks → ℕ → ℕ → ℕ → ℕ → ℕ → Blocks
-moved_bytes s i from j to len = with_content s j (with_part (get_or s.contents j []) to len (part (get_or s.contents i []) from len))
+moved_bytes s i from j to len = with_content s j (with_part (get_or s.contents j []) to len
+    (part (get_or s.contents i []) from len))
 
 -- a pool with no block
 unfoldable pub no_blocks : ℕ → Blocks

@@ -15,4 +15,5 @@ LendsScratch s len r = Lends the_row (Array u8 0) s r (λ w. record s.now { scra
 
 -- the bytes of block i are what was written through their loan (Store.bytes_mut)
 abbrev pub LendsBlock : MutBor Stored → ℕ → MutBor (List ℕ) → Fml
-LendsBlock s i r = Lends the_row (Array u8 0) s r (λ w. record s.now { blocks = with_content s.now.blocks i (refit (get_or s.now.blocks.contents i []) w) })
+LendsBlock s i r = Lends the_row (Array u8 0) s r (λ w. record s.now
+    { blocks = with_content s.now.blocks i (refit (get_or s.now.blocks.contents i []) w) })

@@ -40,4 +40,5 @@ part_copied s source from destination to len =
 abbrev pub IsSpot : Stored → Part → ℕ → ℕ → Type 0
 IsSpot s Low k spot = (k < 0x110000) × (spot ≡ k)
 IsSpot s Scratch k spot = ⊥
-IsSpot s (Block i) k spot = (b : Extent) × IsAt s.blocks i b × (k < b.units * 1024) × (spot ≡ 0x310000 + b.base * 1024 + k)
+IsSpot s (Block i) k spot = (b : Extent) × IsAt s.blocks i b × (k < b.units * 1024) ×
+    (spot ≡ 0x310000 + b.base * 1024 + k)

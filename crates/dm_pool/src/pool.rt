@@ -15,7 +15,8 @@ use crate::table::Table;
 fn lowest_gap(table: &Table, bytes: &[u8], units: usize) -> Option<usize>
     requires { IsToldIn table.now bytes.now }
     ensures lowest { result ≡ lowest table.now.places table.now.units units }
-    ensures free { IfSome result (λ base. (base + units ≤ table.now.units) × (is_clear table.now.places base units ≡ true) × (units ≡ 0 → base ≡ 0)) }
+    ensures free { IfSome result (λ base. (base + units ≤ table.now.units) ×
+        (is_clear table.now.places base units ≡ true) × (units ≡ 0 → base ≡ 0)) }
 {
     if units == 0 {
         return Some(0);
@@ -54,7 +55,11 @@ pub(crate) fn take(table: &mut Table, bytes: &mut [u8], units: usize) -> Option<
     ensures told { IsToldIn table.new bytes.new }
     ensures units { table.new.units ≡ table.old.units }
     ensures small { IfSome result (λ slot. slot < 576) }
-    ensures taken { MatchOption result ((taken (blocks_in table.old bytes.old) units ≡ None) × (table.new ≡ table.old) × (bytes.new ≡ bytes.old)) (λ slot. taken (blocks_in table.old bytes.old) units ≡ Some (slot, blocks_in table.new bytes.new)) }
+    ensures taken { MatchOption result ((taken (blocks_in table.old bytes.old) units ≡ None) × (table.new ≡ table.old) ×
+        (bytes.new ≡ bytes.old)) (λ slot. taken (blocks_in table.old bytes.old) units ≡ Some (
+          slot,
+          blocks_in table.new bytes.new,
+        )) }
 {
     table.recall();
     let slot = table.first_empty()?;
@@ -85,8 +90,10 @@ pub(crate) fn give(table: &mut Table, bytes: &mut [u8], slot: usize)
 fn new_base(table: &Table, bytes: &[u8], slot: usize, units: usize) -> Option<usize>
     requires told { IsToldIn table.now bytes.now }
     requires live { IsLive (blocks_in table.now bytes.now) slot }
-    ensures base { (b : _) → IsAt (blocks_in table.now bytes.now) slot b → result ≡ new_base (blocks_in table.now bytes.now) slot b units }
-    ensures free { IfSome result (λ base. (base + units ≤ table.now.units) × (is_clear (set table.now.places slot None) base units ≡ true) × (units ≡ 0 → base ≡ 0)) }
+    ensures base { (b : _) → IsAt (blocks_in table.now bytes.now) slot b → result ≡ new_base (blocks_in table.now
+        bytes.now) slot b units }
+    ensures free { IfSome result (λ base. (base + units ≤ table.now.units) ×
+        (is_clear (set table.now.places slot None) base units ≡ true) × (units ≡ 0 → base ≡ 0)) }
 {
     if units == 0 {
         return Some(0);
@@ -105,7 +112,8 @@ fn move_block(bytes: &mut [u8], from: Extent, to: Extent)
     requires source { from.base * 1024 + from.units * 1024 ≤ length bytes.old }
     requires destination { to.base * 1024 + to.units * 1024 ≤ length bytes.old }
     requires small { (from.base + from.units < 2 ^ 31) × (to.base + to.units < 2 ^ 31) }
-    ensures { bytes.new ≡ with_part bytes.old (to.base * 1024) (to.units * 1024) (fitted (content bytes.old (Some from)) to.units) }
+    ensures { bytes.new ≡ with_part bytes.old (to.base * 1024) (to.units * 1024) (fitted
+        (content bytes.old (Some from)) to.units) }
 {
     let kept = from.units.min(to.units);
     let start = from.base * UNIT;
@@ -121,7 +129,9 @@ pub(crate) fn resize(table: &mut Table, bytes: &mut [u8], slot: usize, units: us
     requires live { IsLive (blocks_in table.old bytes.old) slot }
     ensures told { IsToldIn table.new bytes.new }
     ensures units { table.new.units ≡ table.old.units }
-    ensures resized { MatchBool result (resized (blocks_in table.old bytes.old) slot units ≡ Some (blocks_in table.new bytes.new)) ((resized (blocks_in table.old bytes.old) slot units ≡ None) × (table.new ≡ table.old) × (bytes.new ≡ bytes.old)) }
+    ensures resized { MatchBool result (resized (blocks_in table.old bytes.old) slot units
+        ≡ Some (blocks_in table.new bytes.new)) ((resized (blocks_in table.old bytes.old) slot units ≡ None) ×
+        (table.new ≡ table.old) × (bytes.new ≡ bytes.old)) }
 {
     let Some(base) = new_base(table, bytes, slot, units) else {
         return false;

@@ -41,7 +41,8 @@ pub(crate) struct FreeRun {
 /// The first eight bytes of the free run that begins at a unit of the pool.
 pub(crate) fn run_at(bytes: &[u8], unit: usize) -> FreeRun
     requires { (unit * 1024 + 8 ≤ length bytes.now) × (unit < 2 ^ 31) }
-    ensures { (result.units ≡ double_word bytes.now (unit * 1024)) × (result.next ≡ double_word bytes.now (unit * 1024 + 4)) }
+    ensures { (result.units ≡ double_word bytes.now (unit * 1024)) × (result.next
+        ≡ double_word bytes.now (unit * 1024 + 4)) }
 {
     let at = unit * UNIT;
     FreeRun {
@@ -76,7 +77,8 @@ fn write_run(bytes: &mut [u8], unit: usize, run: FreeRun)
 fn highest(table: &Table, rest: usize) -> Extent
     requires { rest ≤ length table.now.order }
     ensures below { (end : ℕ) → IsCut table.now.places table.now.order rest end → IsBelow table.now.places end result }
-    ensures cut { (end : ℕ) → IsCut table.now.places table.now.order rest end → IsCut table.now.places table.now.order (rest - 1) result.base }
+    ensures cut { (end : ℕ) → IsCut table.now.places table.now.order rest end →
+        IsCut table.now.places table.now.order (rest - 1) result.base }
 {
     table.recall();
     if rest == 0 {

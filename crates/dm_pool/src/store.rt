@@ -232,7 +232,9 @@ impl Store {
 
     /// Takes a block of `units` units as [`Store::take`] does, and returns its number, or None where that does.
     fn take_slot(&mut self, units: usize) -> Option<usize>
-        ensures taken { MatchOption result ((taken self.old.blocks units ≡ None) × (self.new ≡ self.old)) (λ slot. (taken self.old.blocks units ≡ Some (slot, self.new.blocks)) × (self.new ≡ record self.old { blocks = self.new.blocks })) }
+        ensures taken { MatchOption result ((taken self.old.blocks units ≡ None) ×
+            (self.new ≡ self.old)) (λ slot. (taken self.old.blocks units ≡ Some (slot, self.new.blocks)) ×
+            (self.new ≡ record self.old { blocks = self.new.blocks })) }
         ensures small { IfSome result (λ slot. slot < 576) }
     {
         use_pool(&mut self.region, &mut self.table, &mut self.in_use);
@@ -243,7 +245,9 @@ impl Store {
     /// Takes a block of `units` units of 1 KiB, all zeros, in the lowest gap that holds them; a block of no unit needs
     /// no gap, and lies at unit 0. None where no gap holds them, or there are 576 blocks; then nothing has changed.
     pub fn take(&mut self, units: usize) -> Option<Block>
-        ensures { MatchOption result ((taken self.old.blocks units ≡ None) × (self.new ≡ self.old)) (λ block. (taken self.old.blocks units ≡ Some (block, self.new.blocks)) × (self.new ≡ record self.old { blocks = self.new.blocks })) }
+        ensures { MatchOption result ((taken self.old.blocks units ≡ None) ×
+            (self.new ≡ self.old)) (λ block. (taken self.old.blocks units ≡ Some (block, self.new.blocks)) ×
+            (self.new ≡ record self.old { blocks = self.new.blocks })) }
     {
         match self.take_slot(units) {
             Some(slot) => Some(Block::new(slot)),
@@ -271,7 +275,9 @@ impl Store {
     /// gap holds it, and then nothing has changed.
     pub fn resize(&mut self, block: Block, units: usize) -> bool
         requires { IsLive self.old.blocks block }
-        ensures { MatchBool result ((resized self.old.blocks block units ≡ Some self.new.blocks) × (self.new ≡ record self.old { blocks = self.new.blocks })) ((resized self.old.blocks block units ≡ None) × (self.new ≡ self.old)) }
+        ensures { MatchBool result ((resized self.old.blocks block units ≡ Some self.new.blocks) ×
+            (self.new ≡ record self.old { blocks = self.new.blocks })) ((resized self.old.blocks block units ≡ None) ×
+            (self.new ≡ self.old)) }
     {
         let len = pool_len(&self.table);
         pool::resize(
@@ -335,7 +341,8 @@ impl Store {
     #[inline(always)]
     pub fn byte(&self, spot: usize) -> u8
         requires { (part : Part) × (k : ℕ) × IsSpot self.now part k spot }
-        ensures value { (part : Part) (k : ℕ) → IsSpot self.now part k spot → result ≡ get_or (part_bytes self.now part) k 0 }
+        ensures value { (part : Part) (k : ℕ) → IsSpot self.now part k spot → result ≡ get_or (part_bytes self.now
+            part) k 0 }
         ensures small { spot < 2 ^ 42 }
     {
         self.table.recall();
@@ -346,7 +353,8 @@ impl Store {
     #[inline(always)]
     pub fn set_byte(&mut self, spot: usize, value: u8)
         requires { (part : Part) × (k : ℕ) × IsSpot self.old part k spot }
-        ensures written { (part : Part) (k : ℕ) → IsSpot self.old part k spot → self.new ≡ with_part_bytes self.old part (set (part_bytes self.old part) k value) }
+        ensures written { (part : Part) (k : ℕ) → IsSpot self.old part k spot →
+            self.new ≡ with_part_bytes self.old part (set (part_bytes self.old part) k value) }
         ensures small { spot < 2 ^ 42 }
     {
         self.table.recall();
@@ -358,7 +366,8 @@ impl Store {
     pub fn word(&self, spot: usize) -> u16
         requires low { (part : Part) × (k : ℕ) × IsSpot self.now part k spot }
         requires high { (part : Part) × (k : ℕ) × IsSpot self.now part k (spot + 1) }
-        ensures { (low : Part) (j : ℕ) (high : Part) (k : ℕ) → IsSpot self.now low j spot → IsSpot self.now high k (spot + 1) → result ≡ get_or (part_bytes self.now low) j 0 + 256 * get_or (part_bytes self.now high) k 0 }
+        ensures { (low : Part) (j : ℕ) (high : Part) (k : ℕ) → IsSpot self.now low j spot → IsSpot self.now high k (spot
+            + 1) → result ≡ get_or (part_bytes self.now low) j 0 + 256 * get_or (part_bytes self.now high) k 0 }
     {
         self.table.recall();
         let bytes = self.region.part(spot, 2);
@@ -371,7 +380,8 @@ impl Store {
     pub fn set_word(&mut self, spot: usize, value: u16)
         requires low { (part : Part) × (k : ℕ) × IsSpot self.old part k spot }
         requires high { (part : Part) × (k : ℕ) × IsSpot self.old part k (spot + 1) }
-        ensures { (low : Part) (j : ℕ) (high : Part) (k : ℕ) → IsSpot self.old low j spot → IsSpot self.old high k (spot + 1) → self.new ≡ with_part_byte (with_part_byte self.old low j (value % 256)) high k (value / 256) }
+        ensures { (low : Part) (j : ℕ) (high : Part) (k : ℕ) → IsSpot self.old low j spot → IsSpot self.old high k (spot
+            + 1) → self.new ≡ with_part_byte (with_part_byte self.old low j (value % 256)) high k (value / 256) }
     {
         self.table.recall();
         let bytes = self.region.part_mut(spot, 2);
@@ -390,8 +400,10 @@ impl Store {
         to: usize,
         len: usize,
     )
-        requires source { IsLive self.old.blocks source × (from + len ≤ length (get_or self.old.blocks.contents source [])) }
-        requires destination { IsLive self.old.blocks destination × (to + len ≤ length (get_or self.old.blocks.contents destination [])) }
+        requires source { IsLive self.old.blocks source × (from + len
+            ≤ length (get_or self.old.blocks.contents source [])) }
+        requires destination { IsLive self.old.blocks destination × (to + len
+            ≤ length (get_or self.old.blocks.contents destination [])) }
         ensures { self.new ≡ record self.old { blocks = moved_bytes self.old.blocks source from destination to len } }
     {
         self.table.recall();
@@ -446,14 +458,17 @@ impl Store {
     /// Blocks do not overlap in the bytes of the pool. Once the pool is in use, the free ones of these can be read, and
     /// list the gaps, rising, from the first run on; before, it has no block.
     pub fn free_list(&self) -> RunList<'_>
-        ensures region { result.region.now.bytes ≡ self.now.low ++ (self.now.scratch ++ drop 0x310000 result.region.now.bytes) }
+        ensures region { result.region.now.bytes ≡ self.now.low ++ (self.now.scratch
+            ++ drop 0x310000 result.region.now.bytes) }
         ensures sizes { (length self.now.low ≡ 0x110000) × (length self.now.scratch ≡ 0x200000) }
         ensures blocks { IsPool self.now.blocks.units self.now.blocks.places (drop 0x310000 result.region.now.bytes) }
         ensures based { AreBased self.now.blocks.places }
-        ensures contents { contents_of self.now.blocks.places (drop 0x310000 result.region.now.bytes) ≡ self.now.blocks.contents }
+        ensures contents { contents_of self.now.blocks.places (drop 0x310000 result.region.now.bytes)
+            ≡ self.now.blocks.contents }
         ensures unused { OnFalse result.in_use (self.now.blocks.places ≡ replicate 576 None) }
         ensures lent { OnTrue result.in_use (result.region.now.to ≤ 0x310000) }
-        ensures free { OnTrue result.in_use (Spells (drop 0x310000 result.region.now.bytes) result.first (gaps self.now.blocks.places self.now.blocks.units)) }
+        ensures free { OnTrue result.in_use (Spells (drop 0x310000 result.region.now.bytes) result.first
+            (gaps self.now.blocks.places self.now.blocks.units)) }
     {
         self.table.recall();
         let (in_use, first) = (self.in_use, self.table.first());

@@ -29,7 +29,12 @@ impl Model for Table {
 
     ghost view = { λ t. record { units = t.units; places = t.places; order = t.order.items; first = t.first } };
 
-    ghost invariant = { λ t. IsTable (record { units = t.units; places = t.places; order = t.order.items; first = t.first }) };
+    ghost invariant = { λ t. IsTable (record {
+      units = t.units;
+      places = t.places;
+      order = t.order.items;
+      first = t.first;
+    }) };
 }
 
 /// A table with no block for a pool of `units` units; where the first free run begins is not set yet.
@@ -53,7 +58,8 @@ fn rank(places: &[Option<Extent>], order: &[u16], base: usize) -> usize
     requires count { length places.now ≡ 576 }
     ensures within { result ≤ length order.now }
     ensures below { (p : ℕ) (b : Extent) → p < result → IsNth places.now order.now p b → b.base < base }
-    ensures above { (p : ℕ) (b : Extent) → result ≤ p → p < length order.now → IsNth places.now order.now p b → base ≤ b.base }
+    ensures above { (p : ℕ) (b : Extent) → result ≤ p → p < length order.now → IsNth places.now order.now p b →
+        base ≤ b.base }
 {
     for i in 0..order.len() {
         let slot = order[i] as usize;

@@ -28,7 +28,8 @@ use Rattle.dm_proc.specs.Processes.{Processes, return_registers, IsPlanned, Plan
 some-same : {A : Type 0} (x y : A) → Some x ≡ Some y → x ≡ y
 some-same x y e = cc
 
-refusals-clash : (r q : Result Placed ArenaRefusal) (room : ℕ) → r ≡ Err arena.Destroyed → q ≡ Err (arena.Short room) → r ≡ q → ⊥
+refusals-clash : (r q : Result Placed ArenaRefusal) (room : ℕ) → r ≡ Err arena.Destroyed → q ≡ Err (arena.Short room) →
+    r ≡ q → ⊥
 refusals-clash r q room f g e = cc
 
 placed-same : (r q : Result Placed ArenaRefusal) (x y : Placed) → r ≡ Ok x → q ≡ Ok y → r ≡ q → x ≡ y
@@ -44,32 +45,42 @@ compared a b f g = elim (three a b) [ inl l ↦ absurd (f l) | inr r ↦ elim r 
     three zero zero = inr (inl refl)
     three zero (suc b) = inl (omega arith)
     three (suc a) zero = inr (inr (omega arith))
-    three (suc a) (suc b) = elim (three a b) [ inl l ↦ inl (omega arith) | inr r ↦ inr (elim r [ inl e ↦ inl (ap suc e) | inr h ↦ inr (omega arith) ]) ]
+    three (suc a) (suc b) = elim (three a b) [
+      | inl l ↦ inl (omega arith)
+      | inr r ↦
+          inr (elim r [ inl e ↦ inl (ap suc e) | inr h ↦ inr (omega arith) ])
+    ]
 
 -- the name and the file
 name_unique : (m : Memory) (s o : ℕ) (a b : List ℕ) → IsNameAt m s o a → IsNameAt m s o b → a ≡ b
 name_unique m s o a b x y =
-    let e : length a ≡ length b = compared (length a) (length b) (λ l. y.before (length a) l x.closed) (λ l. x.before (length b) l y.closed) in
+    let e : length a ≡ length b = compared (length a) (length b) (λ l. y.before (length a) l x.closed)
+    (λ l. x.before (length b) l y.closed) in
     x.bytes ∙ ap (bytes_from m s o) e ∙ sym y.bytes
 
 no_name : (m : Memory) (s o : ℕ) (a : List ℕ) → NoNameAt m s o → IsNameAt m s o a → ⊥
 no_name m s o a none x = (let short = x.short in none (length a) (omega arith) x.closed)
 
-found-same : (store : List (List ℕ × List ℕ)) (a b : List ℕ) (f g : Option (List ℕ)) → a ≡ b → program_of store a ≡ f → program_of store b ≡ g → f ≡ g
+found-same : (store : List (List ℕ × List ℕ)) (a b : List ℕ) (f g : Option (List ℕ)) → a ≡ b → program_of store a ≡ f →
+    program_of store b ≡ g → f ≡ g
 found-same store a b f g e x y = sym x ∙ ap (program_of store) e ∙ y
 
-names_unique : (c : Cpu) (m : Memory) (store : List (List ℕ × List ℕ)) (a b f g : List ℕ) → Names c m store a f → Names c m store b g → (a ≡ b) × (f ≡ g)
+names_unique : (c : Cpu) (m : Memory) (store : List (List ℕ × List ℕ)) (a b f g : List ℕ) → Names c m store a f →
+    Names c m store b g → (a ≡ b) × (f ≡ g)
 names_unique c m store a b f g x y =
     let e = name_unique m c.ds c.dx a b x.named y.named in
     (e, some-same f g (found-same store a b (Some f) (Some g) e x.found y.found))
 
-named_none : (c : Cpu) (m : Memory) (store : List (List ℕ × List ℕ)) (a f : List ℕ) → Names c m store a f → NameRefused c m store NotFound → ⊥
+named_none : (c : Cpu) (m : Memory) (store : List (List ℕ × List ℕ)) (a f : List ℕ) → Names c m store a f →
+    NameRefused c m store NotFound → ⊥
 named_none c m store a f x (inl none) = no_name m c.ds c.dx a none x.named
 named_none c m store a f x (inr r) =
-    let e : Some f ≡ None = found-same store a r.0 (Some f) None (name_unique m c.ds c.dx a r.0 x.named r.1) x.found r.2 in
+    let e : Some f ≡ None = found-same store a r.0 (Some f) None (name_unique m c.ds c.dx a r.0 x.named r.1) x.found
+    r.2 in
     cc
 
-good_refused : (c : Cpu) (m : Memory) (store : List (List ℕ × List ℕ)) (a f : List ℕ) → NamesGood c m store a f → (e : ExecRefusal) → NameRefused c m store e → ⊥
+good_refused : (c : Cpu) (m : Memory) (store : List (List ℕ × List ℕ)) (a f : List ℕ) → NamesGood c m store a f →
+    (e : ExecRefusal) → NameRefused c m store e → ⊥
 good_refused c m store a f x NotFound r = named_none c m store a f x.0 r
 good_refused c m store a f x BadFormat r =
     (let F : List ℕ → Type 0 = λ g. IsGood g in r.3 (subst F (names_unique c m store a r.0 f r.1 x.0 r.2).1 x.1))
@@ -86,7 +97,8 @@ variables_unique : (m : Memory) (s : ℕ) (a b : List ℕ) → AreVariables m s 
 variables_unique m s a b (inl x) (inl y) = x.1 ∙ sym y.1
 variables_unique m s a b (inl x) (inr y) = (let e = x.0 in let l = y.0 in absurd (omega arith))
 variables_unique m s a b (inr x) (inl y) = (let l = x.0 in let e = y.0 in absurd (omega arith))
-variables_unique m s a b (inr x) (inr y) = x.1.2 ∙ ap (bytes_from m s 0) (environment_unique m s x.1.0 y.1.0 x.1.1 y.1.1) ∙ sym y.1.2
+variables_unique m s a b (inr x) (inr y) = x.1.2
+    ∙ ap (bytes_from m s 0) (environment_unique m s x.1.0 y.1.0 x.1.1 y.1.1) ∙ sym y.1.2
 
 no_variables : (m : Memory) (s : ℕ) (a : List ℕ) → NoVariables m s → AreVariables m s a → ⊥
 no_variables m s a none (inl x) = (let l = none.0 in let e = x.0 in omega arith)
@@ -99,9 +111,11 @@ module _ (ps : Processes) (c : Cpu) (m : Memory) (store : List (List ℕ × List
 
   environment-same : environment_of a ≡ environment_of b
   environment-same =
-      ap₂ (λ v n. environment v n) (variables_unique m _ a.variables b.variables a.old b.old) (names_unique c m store a.name b.name a.file b.file a.names.0 b.names.0).0
+      ap₂ (λ v n. environment v n) (variables_unique m _ a.variables b.variables a.old b.old)
+      (names_unique c m store a.name b.name a.file b.file a.names.0 b.names.0).0
 
-  abbrev planned-same : (P : ℕ → List ℕ → Type 0) → P (length (environment_of b)) b.file → P (length (environment_of a)) a.file
+  abbrev planned-same : (P : ℕ → List ℕ → Type 0) → P (length (environment_of b)) b.file →
+      P (length (environment_of a)) a.file
   planned-same P p =
       let Q : ℕ → Type 0 = λ k. P k b.file in
       let R : List ℕ → Type 0 = λ f. P (length (environment_of a)) f in
@@ -118,7 +132,8 @@ place Short = 5
 
 -- the refusal at a place
 abbrev refusal_at : ℕ → ExecRefusal
-refusal_at n = if nat_eq n 0 then Function else (if nat_eq n 1 then NotFound else (if nat_eq n 2 then BadFormat else (if nat_eq n 3 then Environment else (if nat_eq n 4 then Destroyed else Short))))
+refusal_at n = if nat_eq n 0 then Function else (if nat_eq n 1 then NotFound else (if nat_eq n 2 then BadFormat else
+    (if nat_eq n 3 then Environment else (if nat_eq n 4 then Destroyed else Short))))
 
 refusal_at-place : (e : ExecRefusal) → refusal_at (place e) ≡ e
 refusal_at-place Function = refl
@@ -132,7 +147,8 @@ place-same : (d e : ExecRefusal) → place d ≡ place e → d ≡ e
 place-same d e h = sym (refusal_at-place d) ∙ ap refusal_at h ∙ refusal_at-place e
 
 -- an overlay
-lays_refused : (c : Cpu) (m : Memory) (store : List (List ℕ × List ℕ)) (n : Memory) → Lays c m store n → (e : ExecRefusal) → OverlayRefused c m store e → ⊥
+lays_refused : (c : Cpu) (m : Memory) (store : List (List ℕ × List ℕ)) (n : Memory) → Lays c m store n →
+    (e : ExecRefusal) → OverlayRefused c m store e → ⊥
 lays_refused c m store n x Function r = r x.action
 lays_refused c m store n x NotFound r = good_refused c m store x.name x.file x.names NotFound r.1
 lays_refused c m store n x BadFormat r = good_refused c m store x.name x.file x.names BadFormat r.1
@@ -140,7 +156,8 @@ lays_refused c m store n x Environment r = r
 lays_refused c m store n x Destroyed r = r
 lays_refused c m store n x Short r = r
 
-overlay_refused_same : (c : Cpu) (m : Memory) (store : List (List ℕ × List ℕ)) (d e : ExecRefusal) → OverlayRefused c m store d → OverlayRefused c m store e → d ≡ e
+overlay_refused_same : (c : Cpu) (m : Memory) (store : List (List ℕ × List ℕ)) (d e : ExecRefusal) →
+    OverlayRefused c m store d → OverlayRefused c m store e → d ≡ e
 overlay_refused_same c m store Function Function x y = refl
 overlay_refused_same c m store Function NotFound x y = absurd (x y.0)
 overlay_refused_same c m store Function BadFormat x y = absurd (x y.0)
@@ -163,13 +180,18 @@ overlay_refused_same c m store BadFormat Environment x y = absurd y
 overlay_refused_same c m store BadFormat Destroyed x y = absurd y
 overlay_refused_same c m store BadFormat Short x y = absurd y
 
-pub overlay_unique : (c : Cpu) (m : Memory) (store : List (List ℕ × List ℕ)) (r q : Result (Unit {0}) ExecRefusal) (m₁ m₂ : Memory) → Overlays c m store r m₁ → Overlays c m store q m₂ → (r ≡ q) × (m₁ ≡ m₂)
+pub overlay_unique : (c : Cpu) (m : Memory) (store : List (List ℕ × List ℕ)) (r q : Result (Unit {0}) ExecRefusal)
+    (m₁ m₂ : Memory) → Overlays c m store r m₁ → Overlays c m store q m₂ → (r ≡ q) × (m₁ ≡ m₂)
 overlay_unique c m store (Ok u) (Ok v) m₁ m₂ x y =
-    let e = (names_unique c m store x.name y.name x.file y.file x.names.0 y.names.0).1 in
-    (refl, x.memory ∙ ap (λ f. apply (block m.a20 (load_segment c m) (relocated f (relocation_factor c m))) m) e ∙ sym y.memory)
+    let e = (names_unique c m store x.name y.name x.file y.file x.names.0 y.names.0).1 in (
+      refl,
+      x.memory ∙ ap (λ f. apply (block m.a20 (load_segment c m) (relocated f (relocation_factor c m))) m) e
+          ∙ sym y.memory,
+    )
 overlay_unique c m store (Ok u) (Err e) m₁ m₂ x y = absurd (lays_refused c m store m₁ x e y.1)
 overlay_unique c m store (Err e) (Ok v) m₁ m₂ x y = absurd (lays_refused c m store m₂ y e x.1)
-overlay_unique c m store (Err d) (Err e) m₁ m₂ x y = (ap (λ (z : ExecRefusal). Err z) (overlay_refused_same c m store d e x.1 y.1), x.0 ∙ sym y.0)
+overlay_unique c m store (Err d) (Err e) m₁ m₂ x y =
+    (ap (λ (z : ExecRefusal). Err z) (overlay_refused_same c m store d e x.1 y.1), x.0 ∙ sym y.0)
 
 -- an ending
 last-same : (xs ys : List Parent) (p q : Parent) → xs ++ p ∷ [] ≡ ys ++ q ∷ [] → (xs ≡ ys) × (p ≡ q)
@@ -188,18 +210,24 @@ none-last : (xs : List Parent) (p : Parent) → [] ≡ xs ++ p ∷ [] → ⊥
 none-last [] p e = cc
 none-last (x ∷ xs) p e = cc
 
-goes_on_unique : (ps : Processes) (c : Cpu) (word : ℕ) (d e : Ending) (p₁ p₂ : Processes) (c₁ c₂ : Cpu) → GoesOn ps c word d p₁ c₁ → GoesOn ps c word e p₂ c₂ → (d ≡ e) × (p₁ ≡ p₂) × (c₁ ≡ c₂)
+goes_on_unique : (ps : Processes) (c : Cpu) (word : ℕ) (d e : Ending) (p₁ p₂ : Processes) (c₁ c₂ : Cpu) →
+    GoesOn ps c word d p₁ c₁ → GoesOn ps c word e p₂ c₂ → (d ≡ e) × (p₁ ≡ p₂) × (c₁ ≡ c₂)
 goes_on_unique ps c word Returned Returned p₁ p₂ c₁ c₂ x y =
     let u = last-same p₁.parents p₂.parents x.0 y.0 (sym x.1 ∙ y.1) in (
       refl,
-      x.2 ∙ ap₂ (λ (p : Parent) (xs : List Parent). let q : Processes = record { present = p.segment; parents = xs; code = word } in q) u.1 u.0 ∙ sym y.2,
+      x.2 ∙ ap₂ (λ (p : Parent) (xs : List Parent). let q : Processes = record {
+        present = p.segment;
+        parents = xs;
+        code = word;
+      } in q) u.1 u.0 ∙ sym y.2,
       x.3 ∙ ap (λ (p : Parent). p.cpu) u.1 ∙ sym y.3,
     )
 goes_on_unique ps c word Returned Exited p₁ p₂ c₁ c₂ x y = absurd (none-last p₁.parents x.0 (sym y.0 ∙ x.1))
 goes_on_unique ps c word Exited Returned p₁ p₂ c₁ c₂ x y = absurd (none-last p₂.parents y.0 (sym x.0 ∙ y.1))
 goes_on_unique ps c word Exited Exited p₁ p₂ c₁ c₂ x y = (refl, x.1 ∙ sym y.1, x.2 ∙ sym y.2)
 
-ends_unique : (ps : Processes) (c : Cpu) (m n : Memory) (word : ℕ) (d e : Ending) (p₁ p₂ : Processes) (c₁ c₂ : Cpu) (m₁ m₂ : Memory) → m ≡ n →
+ends_unique : (ps : Processes) (c : Cpu) (m n : Memory) (word : ℕ) (d e : Ending) (p₁ p₂ : Processes) (c₁ c₂ : Cpu)
+    (m₁ m₂ : Memory) → m ≡ n →
     Ends ps c m word d p₁ c₁ m₁ → Ends ps c n word e p₂ c₂ m₂ → (d ≡ e) × (p₁ ≡ p₂) × (c₁ ≡ c₂) × (m₁ ≡ m₂)
 ends_unique ps c m n word d e p₁ p₂ c₁ c₂ m₁ m₂ same x y =
     let u = goes_on_unique ps c word d e p₁ p₂ c₁ c₂ x.goes_on y.goes_on in
@@ -207,28 +235,41 @@ ends_unique ps c m n word d e p₁ p₂ c₁ c₂ m₁ m₂ same x y =
 
 module _ (up : Bool) where
   -- a plan is made or refused
-  planned_refused : (m : Memory) (st : Strategy) (k : ℕ) (f : List ℕ) (e : ExecRefusal) → IsPlanned up m st k f → PlanRefused up m st k f e → ⊥
-  planned_refused m st k f Destroyed p r = pair_refused up m first_header st (paragraphs k) (least f) (most f) p.0 p.1 arena.Destroyed r.1
-  planned_refused m st k f Short p r = pair_refused up m first_header st (paragraphs k) (least f) (most f) p.0 p.1 (arena.Short r.0) r.1.1
+  planned_refused : (m : Memory) (st : Strategy) (k : ℕ) (f : List ℕ) (e : ExecRefusal) → IsPlanned up m st k f →
+      PlanRefused up m st k f e → ⊥
+  planned_refused m st k f Destroyed p r = pair_refused up m first_header st (paragraphs k) (least f)
+      (most f) p.0 p.1 arena.Destroyed r.1
+  planned_refused m st k f Short p r = pair_refused up m first_header st (paragraphs k) (least f) (most f) p.0 p.1
+      (arena.Short r.0) r.1.1
   planned_refused m st k f Function p r = r
   planned_refused m st k f NotFound p r = r
   planned_refused m st k f BadFormat p r = r
   planned_refused m st k f Environment p r = r
 
-  destroyed_room : (m : Memory) (st : Strategy) (k : ℕ) (f : List ℕ) → PlanRefused up m st k f Destroyed → PlanRefused up m st k f Short → ⊥
+  destroyed_room : (m : Memory) (st : Strategy) (k : ℕ) (f : List ℕ) → PlanRefused up m st k f Destroyed →
+      PlanRefused up m st k f Short → ⊥
   destroyed_room m st k f x y =
-      refusals-clash _ _ y.0 refl refl (pairing_unique up m st (paragraphs k) (least f) (most f) (Err arena.Destroyed) (Err (arena.Short y.0)) m m x y.1).0
+      refusals-clash _ _ y.0 refl refl (pairing_unique up m st (paragraphs k) (least f) (most f) (Err arena.Destroyed)
+      (Err (arena.Short y.0)) m m x y.1).0
 
-  started_planned : (m : Memory) (st : Strategy) (env f : List ℕ) (parent : ℕ) (a : Passed) (placed : Placed) (n : Memory) → Starts up m st env f parent a placed n → IsPlanned up m st (length env) f
+  started_planned : (m : Memory) (st : Strategy) (env f : List ℕ) (parent : ℕ) (a : Passed) (placed : Placed)
+      (n : Memory) → Starts up m st env f parent a placed n → IsPlanned up m st (length env) f
   started_planned m st env f parent a placed n s = (s.plans.0, s.plans.1)
 
-  starts_unique : (m : Memory) (st : Strategy) (env f : List ℕ) (parent : ℕ) (a : Passed) (p q : Placed) (n o : Memory) → Starts up m st env f parent a p n → Starts up m st env f parent a q o → (p ≡ q) × (n ≡ o)
+  starts_unique : (m : Memory) (st : Strategy) (env f : List ℕ) (parent : ℕ) (a : Passed) (p q : Placed)
+      (n o : Memory) → Starts up m st env f parent a p n → Starts up m st env f parent a q o → (p ≡ q) × (n ≡ o)
   starts_unique m st env f parent a p q n o x y =
-      let u = pairing_unique up m st (paragraphs (length env)) (least f) (most f) (Ok p) (Ok q) x.middle y.middle x.plans y.plans in
-      let e : p ≡ q = placed-same _ _ p q refl refl u.0 in
-      (e, x.memory ∙ ap (λ (k : Memory). apply (start_writes k.a20 p env (prefix m p parent a) f) k) u.1 ∙ ap (λ (z : Placed). apply (start_writes y.middle.a20 z env (prefix m z parent a) f) y.middle) e ∙ sym y.memory)
+      let u = pairing_unique up m st (paragraphs (length env)) (least f) (most f) (Ok p)
+      (Ok q) x.middle y.middle x.plans y.plans in
+      let e : p ≡ q = placed-same _ _ p q refl refl u.0 in (
+        e,
+        x.memory ∙ ap (λ (k : Memory). apply (start_writes k.a20 p env (prefix m p parent a) f) k) u.1
+            ∙ ap (λ (z : Placed). apply (start_writes y.middle.a20 z env (prefix m z parent a) f) y.middle) e
+            ∙ sym y.memory,
+      )
 
-  plan_refused_same : (m : Memory) (st : Strategy) (k : ℕ) (f : List ℕ) (d e : ExecRefusal) → PlanRefused up m st k f d → PlanRefused up m st k f e → d ≡ e
+  plan_refused_same : (m : Memory) (st : Strategy) (k : ℕ) (f : List ℕ) (d e : ExecRefusal) →
+      PlanRefused up m st k f d → PlanRefused up m st k f e → d ≡ e
   plan_refused_same m st k f Destroyed Destroyed x y = refl
   plan_refused_same m st k f Destroyed Short x y = absurd (destroyed_room m st k f x y)
   plan_refused_same m st k f Short Destroyed x y = absurd (destroyed_room m st k f y x)
@@ -247,41 +288,58 @@ module _ (up : Bool) where
   plan_refused_same m st k f Short Environment x y = absurd y
 
   -- a program is started or refused
-  starts-at : (ps : Processes) (c : Cpu) (m : Memory) (store : List (List ℕ × List ℕ)) (st : Strategy) (a b : Asks ps c m store) (placed : Placed) (n : Memory) →
-      Starts up m st (environment_of b) b.file ps.present (passed c m) placed n → Starts up m st (environment_of a) a.file ps.present (passed c m) placed n
+  starts-at : (ps : Processes) (c : Cpu) (m : Memory) (store : List (List ℕ × List ℕ)) (st : Strategy)
+      (a b : Asks ps c m store) (placed : Placed) (n : Memory) →
+      Starts up m st (environment_of b) b.file ps.present (passed c m) placed n →
+      Starts up m st (environment_of a) a.file ps.present (passed c m) placed n
   starts-at ps c m store st a b placed n s =
       let Q : List ℕ → Type 0 = λ env. Starts up m st env b.file ps.present (passed c m) placed n in
       let R : List ℕ → Type 0 = λ f. Starts up m st (environment_of a) f ps.present (passed c m) placed n in
       subst R (sym (file-same ps c m store a b)) (subst Q (sym (environment-same ps c m store a b)) s)
 
-  execs_unique : (ps : Processes) (c : Cpu) (m : Memory) (store : List (List ℕ × List ℕ)) (st : Strategy) (p q : Processes) (d e : Cpu) (n o : Memory) →
+  execs_unique : (ps : Processes) (c : Cpu) (m : Memory) (store : List (List ℕ × List ℕ)) (st : Strategy)
+      (p q : Processes) (d e : Cpu) (n o : Memory) →
       Execs up ps c m store st p d n → Execs up ps c m store st q e o → (p ≡ q) × (d ≡ e) × (n ≡ o)
   execs_unique ps c m store st p q d e n o x y =
-      let u = starts_unique m st _ _ _ _ x.placed y.placed n o x.starts (starts-at ps c m store st x.asks y.asks y.placed o y.starts) in (
-        x.processes ∙ ap (λ (z : Placed). record ps { present = z.program; parents = ps.parents ++ record { segment = ps.present; cpu = return_registers c m } ∷ [] }) u.0 ∙ sym y.processes,
+      let u = starts_unique m st _ _ _ _ x.placed y.placed n o x.starts (starts-at ps c m store st x.asks y.asks
+      y.placed o y.starts) in (
+        x.processes ∙ ap (λ (z : Placed). record ps {
+          present = z.program;
+          parents = ps.parents ++ record { segment = ps.present; cpu = return_registers c m } ∷ [];
+        }) u.0
+            ∙ sym y.processes,
         x.registers ∙ ap₂ start_registers u.0 (file-same ps c m store x.asks y.asks) ∙ sym y.registers,
         u.1,
       )
 
-  exec_refused : (ps : Processes) (c : Cpu) (m : Memory) (store : List (List ℕ × List ℕ)) (st : Strategy) (q : Processes) (d : Cpu) (n : Memory) → Execs up ps c m store st q d n → (e : ExecRefusal) → ExecRefused up ps c m store st e → ⊥
+  exec_refused : (ps : Processes) (c : Cpu) (m : Memory) (store : List (List ℕ × List ℕ)) (st : Strategy)
+      (q : Processes) (d : Cpu) (n : Memory) → Execs up ps c m store st q d n → (e : ExecRefusal) →
+      ExecRefused up ps c m store st e → ⊥
   exec_refused ps c m store st q d n x Function r = r x.asks.action
-  exec_refused ps c m store st q d n x NotFound r = good_refused c m store x.asks.name x.asks.file x.asks.names NotFound r.1
-  exec_refused ps c m store st q d n x BadFormat r = good_refused c m store x.asks.name x.asks.file x.asks.names BadFormat r.1
+  exec_refused ps c m store st q d n x NotFound r =
+      good_refused c m store x.asks.name x.asks.file x.asks.names NotFound r.1
+  exec_refused ps c m store st q d n x BadFormat r =
+      good_refused c m store x.asks.name x.asks.file x.asks.names BadFormat r.1
   exec_refused ps c m store st q d n x Environment r = no_variables m _ x.asks.variables r.2 x.asks.old
   exec_refused ps c m store st q d n x Destroyed r =
-      planned_refused m st _ _ Destroyed (started_planned _ _ _ _ _ _ _ _ x.starts) (planned-same ps c m store x.asks r.0 (λ k f. PlanRefused up m st k f Destroyed) r.1)
+      planned_refused m st _ _ Destroyed (started_planned _ _ _ _ _ _ _ _ x.starts)
+      (planned-same ps c m store x.asks r.0 (λ k f. PlanRefused up m st k f Destroyed) r.1)
   exec_refused ps c m store st q d n x Short r = elim r.1 [
-    | inl s ↦ planned_refused m st _ _ Short (started_planned _ _ _ _ _ _ _ _ x.starts) (planned-same ps c m store x.asks r.0 (λ k f. PlanRefused up m st k f Short) s)
+    | inl s ↦ planned_refused m st _ _ Short (started_planned _ _ _ _ _ _ _ _ x.starts)
+        (planned-same ps c m store x.asks r.0 (λ k f. PlanRefused up m st k f Short) s)
     | inr s ↦ (let full = s.1 in let few = x.few in omega arith)
   ]
 
-  destroyed_short : (ps : Processes) (c : Cpu) (m : Memory) (store : List (List ℕ × List ℕ)) (st : Strategy) → ExecRefused up ps c m store st Destroyed → ExecRefused up ps c m store st Short → ⊥
+  destroyed_short : (ps : Processes) (c : Cpu) (m : Memory) (store : List (List ℕ × List ℕ)) (st : Strategy) →
+      ExecRefused up ps c m store st Destroyed → ExecRefused up ps c m store st Short → ⊥
   destroyed_short ps c m store st x y = elim y.1 [
     | inl s ↦ destroyed_room m st _ _ x.1 (planned-same ps c m store x.0 y.0 (λ k f. PlanRefused up m st k f Short) s)
-    | inr s ↦ planned_refused m st _ _ Destroyed (planned-same ps c m store x.0 y.0 (λ k f. IsPlanned up m st k f) s.0) x.1
+    | inr s ↦ planned_refused m st _ _ Destroyed (planned-same ps c m store x.0 y.0 (λ k f. IsPlanned up m st k f) s.0)
+        x.1
   ]
 
-  clash : (ps : Processes) (c : Cpu) (m : Memory) (store : List (List ℕ × List ℕ)) (st : Strategy) (d e : ExecRefusal) → place d < place e → ExecRefused up ps c m store st d → ExecRefused up ps c m store st e → ⊥
+  clash : (ps : Processes) (c : Cpu) (m : Memory) (store : List (List ℕ × List ℕ)) (st : Strategy) (d e : ExecRefusal) →
+      place d < place e → ExecRefused up ps c m store st d → ExecRefused up ps c m store st e → ⊥
   clash ps c m store st Function Function l x y = absurd (omega arith)
   clash ps c m store st Function NotFound l x y = x y.0
   clash ps c m store st Function BadFormat l x y = x y.0
@@ -319,47 +377,87 @@ module _ (up : Bool) where
   clash ps c m store st Short Destroyed l x y = absurd (omega arith)
   clash ps c m store st Short Short l x y = absurd (omega arith)
 
-  refused_same : (ps : Processes) (c : Cpu) (m : Memory) (store : List (List ℕ × List ℕ)) (st : Strategy) (d e : ExecRefusal) → ExecRefused up ps c m store st d → ExecRefused up ps c m store st e → d ≡ e
-  refused_same ps c m store st d e x y = place-same d e (compared (place d) (place e) (λ l. clash ps c m store st d e l x y) (λ l. clash ps c m store st e d l y x))
+  refused_same : (ps : Processes) (c : Cpu) (m : Memory) (store : List (List ℕ × List ℕ)) (st : Strategy)
+      (d e : ExecRefusal) → ExecRefused up ps c m store st d → ExecRefused up ps c m store st e → d ≡ e
+  refused_same ps c m store st d e x y =
+      place-same d e (compared (place d) (place e) (λ l. clash ps c m store st d e l x y)
+      (λ l. clash ps c m store st e d l y x))
 
-  pub exec_unique : (ps : Processes) (c : Cpu) (m : Memory) (store : List (List ℕ × List ℕ)) (st : Strategy) (r q : Result (Unit {0}) ExecRefusal) (p₁ p₂ : Processes) (c₁ c₂ : Cpu) (m₁ m₂ : Memory) →
-      Executes up ps c m store st r p₁ c₁ m₁ → Executes up ps c m store st q p₂ c₂ m₂ → (r ≡ q) × (p₁ ≡ p₂) × (c₁ ≡ c₂) × (m₁ ≡ m₂)
-  exec_unique ps c m store st (Ok u) (Ok v) p₁ p₂ c₁ c₂ m₁ m₂ x y = (let e = execs_unique ps c m store st p₁ p₂ c₁ c₂ m₁ m₂ x y in (refl, e.0, e.1, e.2))
-  exec_unique ps c m store st (Ok u) (Err e) p₁ p₂ c₁ c₂ m₁ m₂ x y = absurd (exec_refused ps c m store st p₁ c₁ m₁ x e y.3)
-  exec_unique ps c m store st (Err e) (Ok v) p₁ p₂ c₁ c₂ m₁ m₂ x y = absurd (exec_refused ps c m store st p₂ c₂ m₂ y e x.3)
-  exec_unique ps c m store st (Err d) (Err e) p₁ p₂ c₁ c₂ m₁ m₂ x y =
-      (ap (λ (z : ExecRefusal). Err z) (refused_same ps c m store st d e x.3 y.3), x.0 ∙ sym y.0, x.1 ∙ sym y.1, x.2 ∙ sym y.2)
+  pub exec_unique : (ps : Processes) (c : Cpu) (m : Memory) (store : List (List ℕ × List ℕ)) (st : Strategy)
+      (r q : Result (Unit {0}) ExecRefusal) (p₁ p₂ : Processes) (c₁ c₂ : Cpu) (m₁ m₂ : Memory) →
+      Executes up ps c m store st r p₁ c₁ m₁ → Executes up ps c m store st q p₂ c₂ m₂ → (r ≡ q) × (p₁ ≡ p₂) ×
+      (c₁ ≡ c₂) × (m₁ ≡ m₂)
+  exec_unique ps c m store st (Ok u) (Ok v) p₁ p₂ c₁ c₂ m₁ m₂ x y =
+      (let e = execs_unique ps c m store st p₁ p₂ c₁ c₂ m₁ m₂ x y in (refl, e.0, e.1, e.2))
+  exec_unique ps c m store st (Ok u) (Err e) p₁ p₂ c₁ c₂ m₁ m₂ x y =
+      absurd (exec_refused ps c m store st p₁ c₁ m₁ x e y.3)
+  exec_unique ps c m store st (Err e) (Ok v) p₁ p₂ c₁ c₂ m₁ m₂ x y =
+      absurd (exec_refused ps c m store st p₂ c₂ m₂ y e x.3)
+  exec_unique ps c m store st (Err d) (Err e) p₁ p₂ c₁ c₂ m₁ m₂ x y = (
+    ap (λ (z : ExecRefusal). Err z) (refused_same ps c m store st d e x.3 y.3),
+    x.0 ∙ sym y.0,
+    x.1 ∙ sym y.1,
+    x.2 ∙ sym y.2,
+  )
 
   -- the first program
-  pub load_unique : (m : Memory) (st : Strategy) (file variables name : List ℕ) (a : Passed) (r q : Result (Processes × Cpu) ExecRefusal) (m₁ m₂ : Memory) →
+  pub load_unique : (m : Memory) (st : Strategy) (file variables name : List ℕ) (a : Passed) (r q : Result (Processes ×
+      Cpu) ExecRefusal) (m₁ m₂ : Memory) →
       Loads up m st file variables name a r m₁ → Loads up m st file variables name a q m₂ → (r ≡ q) × (m₁ ≡ m₂)
   load_unique m st file variables name a (Ok d) (Ok e) m₁ m₂ x y =
       let u = starts_unique m st _ _ _ _ x.placed y.placed m₁ m₂ x.starts y.starts in (
         ap₂ (λ (z : Processes) (k : Cpu). Ok (z, k))
-            (x.processes ∙ ap (λ (z : Placed). let ps : Processes = record { present = z.program; parents = []; code = 0 } in ps) u.0 ∙ sym y.processes)
+            (x.processes ∙ ap (λ (z : Placed). let ps : Processes = record {
+              present = z.program;
+              parents = [];
+              code = 0;
+            } in ps) u.0 ∙ sym y.processes)
             (x.registers ∙ ap (λ (z : Placed). start_registers z file) u.0 ∙ sym y.registers),
         u.1,
       )
-  load_unique m st file variables name a (Ok d) (Err e) m₁ m₂ x y = absurd (planned_refused m st _ _ e (started_planned _ _ _ _ _ _ _ _ x.starts) y.1)
-  load_unique m st file variables name a (Err e) (Ok d) m₁ m₂ x y = absurd (planned_refused m st _ _ e (started_planned _ _ _ _ _ _ _ _ y.starts) x.1)
-  load_unique m st file variables name a (Err d) (Err e) m₁ m₂ x y = (ap (λ (z : ExecRefusal). Err z) (plan_refused_same m st _ _ d e x.1 y.1), x.0 ∙ sym y.0)
+  load_unique m st file variables name a (Ok d) (Err e) m₁ m₂ x y =
+      absurd (planned_refused m st _ _ e (started_planned _ _ _ _ _ _ _ _ x.starts) y.1)
+  load_unique m st file variables name a (Err e) (Ok d) m₁ m₂ x y =
+      absurd (planned_refused m st _ _ e (started_planned _ _ _ _ _ _ _ _ y.starts) x.1)
+  load_unique m st file variables name a (Err d) (Err e) m₁ m₂ x y =
+      (ap (λ (z : ExecRefusal). Err z) (plan_refused_same m st _ _ d e x.1 y.1), x.0 ∙ sym y.0)
 
-  pub terminating_unique : (ps : Processes) (c : Cpu) (m : Memory) (code : ℕ) (r q : Result Ending ArenaDestroyed) (p₁ p₂ : Processes) (c₁ c₂ : Cpu) (m₁ m₂ : Memory) →
-      Terminates up ps c m code r p₁ c₁ m₁ → Terminates up ps c m code q p₂ c₂ m₂ → (r ≡ q) × (p₁ ≡ p₂) × (c₁ ≡ c₂) × (m₁ ≡ m₂)
+  pub terminating_unique : (ps : Processes) (c : Cpu) (m : Memory) (code : ℕ) (r q : Result Ending ArenaDestroyed)
+      (p₁ p₂ : Processes) (c₁ c₂ : Cpu) (m₁ m₂ : Memory) →
+      Terminates up ps c m code r p₁ c₁ m₁ → Terminates up ps c m code q p₂ c₂ m₂ → (r ≡ q) × (p₁ ≡ p₂) × (c₁ ≡ c₂) ×
+      (m₁ ≡ m₂)
   terminating_unique ps c m code (Ok d) (Ok e) p₁ p₂ c₁ c₂ m₁ m₂ x y =
       let same = (releasing_unique up m ps.present (Ok tt) (Ok tt) x.0 y.0 x.1 y.1).1 in
       let u = ends_unique ps c x.0 y.0 code d e p₁ p₂ c₁ c₂ m₁ m₂ same x.2 y.2 in
       (ap (λ (z : Ending). Ok z) u.0, u.1, u.2, u.3)
-  terminating_unique ps c m code (Ok d) (Err e) p₁ p₂ c₁ c₂ m₁ m₂ x y = absurd (served-clash _ _ refl refl (releasing_unique up m ps.present (Ok tt) (Err arena.Destroyed) x.0 m x.1 y.3).0)
-  terminating_unique ps c m code (Err e) (Ok d) p₁ p₂ c₁ c₂ m₁ m₂ x y = absurd (served-clash _ _ refl refl (releasing_unique up m ps.present (Ok tt) (Err arena.Destroyed) y.0 m y.1 x.3).0)
-  terminating_unique ps c m code (Err d) (Err e) p₁ p₂ c₁ c₂ m₁ m₂ x y = (refl, x.0 ∙ sym y.0, x.1 ∙ sym y.1, x.2 ∙ sym y.2)
+  terminating_unique ps c m code (Ok d) (Err e) p₁ p₂ c₁ c₂ m₁ m₂ x y =
+      absurd (served-clash _ _ refl refl (releasing_unique up m ps.present (Ok tt) (Err arena.Destroyed) x.0 m x.1
+      y.3).0)
+  terminating_unique ps c m code (Err e) (Ok d) p₁ p₂ c₁ c₂ m₁ m₂ x y =
+      absurd (served-clash _ _ refl refl (releasing_unique up m ps.present (Ok tt) (Err arena.Destroyed) y.0 m y.1
+      x.3).0)
+  terminating_unique ps c m code (Err d) (Err e) p₁ p₂ c₁ c₂ m₁ m₂ x y = (
+    refl,
+    x.0 ∙ sym y.0,
+    x.1 ∙ sym y.1,
+    x.2 ∙ sym y.2,
+  )
 
-  pub keeping_unique : (ps : Processes) (c : Cpu) (m : Memory) (code n : ℕ) (r q : Result Ending ArenaDestroyed) (p₁ p₂ : Processes) (c₁ c₂ : Cpu) (m₁ m₂ : Memory) →
-      StaysResident up ps c m code n r p₁ c₁ m₁ → StaysResident up ps c m code n q p₂ c₂ m₂ → (r ≡ q) × (p₁ ≡ p₂) × (c₁ ≡ c₂) × (m₁ ≡ m₂)
+  pub keeping_unique : (ps : Processes) (c : Cpu) (m : Memory) (code n : ℕ) (r q : Result Ending ArenaDestroyed)
+      (p₁ p₂ : Processes) (c₁ c₂ : Cpu) (m₁ m₂ : Memory) →
+      StaysResident up ps c m code n r p₁ c₁ m₁ → StaysResident up ps c m code n q p₂ c₂ m₂ → (r ≡ q) × (p₁ ≡ p₂) ×
+      (c₁ ≡ c₂) × (m₁ ≡ m₂)
   keeping_unique ps c m code n (Ok d) (Ok e) p₁ p₂ c₁ c₂ m₁ m₂ x y =
       let same = (resizing_unique up m ps.present n x.0 y.0 x.1 y.1 x.2 y.2).1 in
       let u = ends_unique ps c x.1 y.1 (0x300 + code) d e p₁ p₂ c₁ c₂ m₁ m₂ same x.4 y.4 in
       (ap (λ (z : Ending). Ok z) u.0, u.1, u.2, u.3)
-  keeping_unique ps c m code n (Ok d) (Err e) p₁ p₂ c₁ c₂ m₁ m₂ x y = absurd (x.3 (resizing_unique up m ps.present n x.0 (Err arena.Destroyed) x.1 m x.2 y.3).0)
-  keeping_unique ps c m code n (Err e) (Ok d) p₁ p₂ c₁ c₂ m₁ m₂ x y = absurd (y.3 (resizing_unique up m ps.present n y.0 (Err arena.Destroyed) y.1 m y.2 x.3).0)
-  keeping_unique ps c m code n (Err d) (Err e) p₁ p₂ c₁ c₂ m₁ m₂ x y = (refl, x.0 ∙ sym y.0, x.1 ∙ sym y.1, x.2 ∙ sym y.2)
+  keeping_unique ps c m code n (Ok d) (Err e) p₁ p₂ c₁ c₂ m₁ m₂ x y =
+      absurd (x.3 (resizing_unique up m ps.present n x.0 (Err arena.Destroyed) x.1 m x.2 y.3).0)
+  keeping_unique ps c m code n (Err e) (Ok d) p₁ p₂ c₁ c₂ m₁ m₂ x y =
+      absurd (y.3 (resizing_unique up m ps.present n y.0 (Err arena.Destroyed) y.1 m y.2 x.3).0)
+  keeping_unique ps c m code n (Err d) (Err e) p₁ p₂ c₁ c₂ m₁ m₂ x y = (
+    refl,
+    x.0 ∙ sym y.0,
+    x.1 ∙ sym y.1,
+    x.2 ∙ sym y.2,
+  )

@@ -37,7 +37,8 @@ HasNoEnd m segment = (k : ℕ) → k < 0x8000 → IsEnd m segment k → ⊥
 -- for an environment without variables
 abbrev pub AreVariables : Memory → ℕ → List ℕ → Type 0
 AreVariables m segment variables =
-    ((segment ≡ 0) × (variables ≡ [])) ⊎ ((0 < segment) × ((n : ℕ) × IsEnvironment m segment n × (variables ≡ bytes_from m segment 0 n)))
+    ((segment ≡ 0) × (variables ≡ [])) ⊎ ((0 < segment) × ((n : ℕ) × IsEnvironment m segment n ×
+    (variables ≡ bytes_from m segment 0 n)))
 
 -- the segment is not 0, and the environment there has no end in its first 32,768 bytes
 abbrev pub NoVariables : Memory → ℕ → Type 0

@@ -39,7 +39,8 @@ NamesGood c m store name file = Names c m store name file × IsGood file
 -- why the name at DS:DX is refused: `NotFound` if it is too long or the store has no such program, `BadFormat` if the
 -- file can't be loaded. No other error is returned
 abbrev pub NameRefused : Cpu → Memory → List (List ℕ × List ℕ) → ExecRefusal → Type 0
-NameRefused c m store NotFound = NoNameAt m c.ds c.dx ⊎ ((name : List ℕ) × IsNameAt m c.ds c.dx name × (program_of store name ≡ None))
+NameRefused c m store NotFound = NoNameAt m c.ds c.dx ⊎ ((name : List ℕ) × IsNameAt m c.ds c.dx name ×
+    (program_of store name ≡ None))
 NameRefused c m store BadFormat = (name : List ℕ) × (file : List ℕ) × Names c m store name file × (IsGood file → ⊥)
 NameRefused c m store _ = ⊥
 

@@ -26,7 +26,8 @@ unfoldable pub prefix : Memory → Placed → ℕ → Passed → List ℕ
 prefix m p parent a =
     (0xCD ∷ 0x20 ∷ []) ++ word_bytes ((p.program + p.size) % 65536) ++ zeros 6 ++ bytes_from m 0 0x88 12
     ++ word_bytes parent ++ zeros 20 ++ word_bytes p.environment ++ zeros 34 ++ (0xCD ∷ 0x21 ∷ 0xCB ∷ [])
-    ++ zeros 9 ++ a.first ++ a.second ++ zeros 4 ++ (length a.tail ∷ []) ++ a.tail ++ (0x0D ∷ []) ++ zeros (126 - length a.tail)
+    ++ zeros 9 ++ a.first ++ a.second ++ zeros 4 ++ (length a.tail ∷ []) ++ a.tail ++ (0x0D ∷ [])
+    ++ zeros (126 - length a.tail)
 
 -- SP of a COM program at its start: the offset of the last word of its block, FFFEh if the block is larger than 64 KiB
 abbrev pub com_stack : Placed → ℕ
@@ -35,7 +36,8 @@ com_stack p = min 0xFFFE (16 * p.size - 2)
 -- the writes of the zero word of a COM program's stack at segment:offset; the offset of the high byte wraps
 abbrev pub zero_word : Bool → ℕ → ℕ → List Write
 zero_word a20 segment offset =
-    record { address = linear a20 segment offset; byte = 0 } ∷ record { address = linear a20 segment ((offset + 1) % 65536); byte = 0 } ∷ []
+    record { address = linear a20 segment offset; byte = 0 }
+    ∷ record { address = linear a20 segment ((offset + 1) % 65536); byte = 0 } ∷ []
 
 -- the writes of the zero word on a COM program's stack, which leads a near return to offset 0; none for an MZ program
 abbrev pub stack_writes : Bool → Placed → List ℕ → List Write
@@ -56,7 +58,17 @@ start_writes a20 p environment prefix file =
 
 -- the flags of a new process: interrupts are enabled, all other flags clear
 abbrev pub start_flags : Flags
-start_flags = record { carry = false; parity = false; adjust = false; zero = false; sign = false; trap = false; interrupt = true; direction = false; overflow = false }
+start_flags = record {
+  carry = false;
+  parity = false;
+  adjust = false;
+  zero = false;
+  sign = false;
+  trap = false;
+  interrupt = true;
+  direction = false;
+  overflow = false;
+}
 
 -- the registers of a new process, with this CS:IP and SS:SP: DS and ES are the segment of its prefix, the general
 -- registers are 0, and IF is the only flag that is set
@@ -86,5 +98,9 @@ relocated_pointer p by = record p { segment = (p.segment + by) % 65536 }
 -- begins at offset 0100h of its block, with SS its block's segment and SP as in `com_stack`
 abbrev pub start_registers : Placed → List ℕ → Cpu
 start_registers p file =
-    if is_mz file then registers p.program (relocated_pointer (start_pointer file) (start p)) (relocated_pointer (stack file) (start p))
-    else registers p.program (record { segment = p.program; offset = 0x100 }) (record { segment = p.program; offset = com_stack p })
+    if is_mz file then registers p.program (relocated_pointer (start_pointer file) (start p))
+    (relocated_pointer (stack file) (start p))
+    else registers p.program (record { segment = p.program; offset = 0x100 }) (record {
+      segment = p.program;
+      offset = com_stack p;
+    })

@@ -21,7 +21,8 @@ block_address a20 segment k = linear a20 ((segment + k / 16) % 65536) (k % 16)
 -- the writes of these bytes in the block at a segment, from byte k on
 abbrev pub upwards : Bool → ℕ → ℕ → List ℕ → List Write
 upwards a20 segment k [] = []
-upwards a20 segment k (b ∷ bs) = record { address = block_address a20 segment k; byte = b } ∷ upwards a20 segment (suc k) bs
+upwards a20 segment k (b ∷ bs) = record { address = block_address a20 segment k; byte = b }
+    ∷ upwards a20 segment (suc k) bs
 
 -- the writes of these bytes in the block at a segment, from byte 0 on
 abbrev pub block : Bool → ℕ → List ℕ → List Write
@@ -31,4 +32,5 @@ block a20 segment bytes = upwards a20 segment 0 bytes
 -- vectors; offsets wrap at 65,536
 abbrev pub bytes_from : Memory → ℕ → ℕ → ℕ → List ℕ
 bytes_from m segment offset zero = []
-bytes_from m segment offset (suc n) = peek m (linear m.a20 segment (offset % 65536)) ∷ bytes_from m segment (suc offset) n
+bytes_from m segment offset (suc n) = peek m (linear m.a20 segment (offset % 65536))
+    ∷ bytes_from m segment (suc offset) n

@@ -83,7 +83,8 @@ impl Procs {
         paragraphs: u16,
         upper: bool,
     ) -> Result<Ending, ArenaDestroyed>
-        ensures { StaysResident upper self.old cpu.old space.old.memory code paragraphs result self.new cpu.new space.new.memory }
+        ensures { StaysResident upper self.old cpu.old space.old.memory code paragraphs result self.new cpu.new
+            space.new.memory }
     {
         let answer = resize(space, self.psp(), paragraphs, upper);
         if is_destroyed(answer) {

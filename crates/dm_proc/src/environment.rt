@@ -57,7 +57,8 @@ fn close_environment(space: &mut Space, variables: usize, name: &[u8]) -> usize
 /// is overwritten too.
 fn read_environment(space: &mut Space, segment: u16) -> Option<usize>
     ensures memory { space.new.memory ≡ space.old.memory }
-    ensures found { MatchOption result (HasNoEnd space.old.memory segment) (λ n. IsEnvironment space.old.memory segment n) }
+    ensures found { MatchOption result (HasNoEnd space.old.memory segment) (λ n. IsEnvironment space.old.memory segment
+        n) }
     ensures read { IfSome result (λ n. take n space.new.scratch ≡ bytes_from space.old.memory segment 0 n) }
 {
     let mut is_start = true;
@@ -76,7 +77,8 @@ fn read_environment(space: &mut Space, segment: u16) -> Option<usize>
 /// length in bytes; None if they have no end in 32,768 bytes, and then the scratch part is overwritten too.
 fn read_variables(space: &mut Space, segment: u16) -> Option<usize>
     ensures memory { space.new.memory ≡ space.old.memory }
-    ensures read { MatchOption result (NoVariables space.old.memory segment) (λ n. IsRead space.old.memory segment n space.new.scratch) }
+    ensures read { MatchOption result (NoVariables space.old.memory segment) (λ n. IsRead space.old.memory segment n
+        space.new.scratch) }
 {
     if segment == 0 {
         return Some(0);
@@ -90,7 +92,8 @@ fn read_variables(space: &mut Space, segment: u16) -> Option<usize>
 pub(crate) fn make_environment(space: &mut Space, segment: u16, name: &[u8]) -> Option<usize>
     requires { length name.now ≤ 64 }
     ensures memory { space.new.memory ≡ space.old.memory }
-    ensures made { MatchOption result (NoVariables space.old.memory segment) (λ n. IsMade space.old.memory segment name.now n space.new.scratch) }
+    ensures made { MatchOption result (NoVariables space.old.memory segment) (λ n. IsMade space.old.memory segment
+        name.now n space.new.scratch) }
 {
     let variables = read_variables(space, segment)?;
     Some(close_environment(space, variables, name))

@@ -49,7 +49,8 @@ impl Procs {
         strategy: Strategy,
         upper: bool,
     ) -> Result<(), ExecRefusal>
-        ensures { Executes upper self.old cpu.old space.old.memory programs.now strategy result self.new cpu.new space.new.memory }
+        ensures { Executes upper self.old cpu.old space.old.memory programs.now strategy result self.new cpu.new
+            space.new.memory }
     {
         if cpu.ax % 256 != 0 {
             return Err(ExecRefusal::Function);
@@ -101,7 +102,8 @@ impl Procs {
     ) -> Result<(Procs, Cpu), ExecRefusal>
         requires variables { length variables.now ≤ 0x7FFF }
         requires name { length name.now ≤ 64 }
-        ensures loads { Loads upper space.old.memory strategy image.now variables.now name.now (passed_of arguments.now) result space.new.memory }
+        ensures loads { Loads upper space.old.memory strategy image.now variables.now name.now (passed_of
+            arguments.now) result space.new.memory }
         ensures present { IfOk result (λ r. 0 < r.0.present) }
     {
         let environment_bytes = put_environment(space, variables, name);

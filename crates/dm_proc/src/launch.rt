@@ -45,7 +45,8 @@ fn relocate(space: &mut Space, image: &Image, start: u16) -> usize
 /// Writes an image, a program's or an overlay's, relocated to the segment `start`, to guest memory from `segment`
 /// upwards. The scratch part may be overwritten.
 pub(crate) fn write_image(space: &mut Space, image: &Image, segment: u16, start: u16)
-    ensures { space.new.memory ≡ apply (block space.old.memory.a20 segment (relocated image.now start)) space.old.memory }
+    ensures { space.new.memory ≡ apply (block space.old.memory.a20 segment
+        (relocated image.now start)) space.old.memory }
 {
     let count = relocate(space, image, start);
     write_scratch(space, segment, count);
@@ -98,7 +99,8 @@ fn registers(segment: u16, code: FarPointer, stack: FarPointer) -> Cpu
 /// Writes the zero word at SS:SP of a COM program, for its near return to offset 0; nothing for an MZ program.
 fn write_stack(space: &mut Space, image: &Image, blocks: Blocks)
     requires { Room.least image.now ≤ blocks.size }
-    ensures { space.new.memory ≡ apply (stack_writes space.old.memory.a20 (as_placed blocks) image.now) space.old.memory }
+    ensures { space.new.memory ≡ apply (stack_writes space.old.memory.a20 (as_placed blocks)
+        image.now) space.old.memory }
 {
     match image.kind() {
         Kind::Com => write_zero_word(space, blocks.program, com_stack(blocks)),
@@ -119,7 +121,8 @@ fn write_start(
     requires size { Room.least image.now ≤ blocks.size }
     requires environment { environment_bytes ≤ 0x200000 }
     requires prefix { length prefix.now ≤ 0x200000 }
-    ensures { space.new.memory ≡ apply (start_writes space.old.memory.a20 (as_placed blocks) (take environment_bytes space.old.scratch) prefix.now image.now) space.old.memory }
+    ensures { space.new.memory ≡ apply (start_writes space.old.memory.a20 (as_placed blocks)
+        (take environment_bytes space.old.scratch) prefix.now image.now) space.old.memory }
 {
     write_scratch(space, blocks.environment_segment, environment_bytes);
     write_bytes(space, blocks.program, prefix);
@@ -181,7 +184,9 @@ pub(crate) fn plan(
     upper: bool,
 ) -> Result<Pair, ExecRefusal>
     requires { environment_bytes < 0x8100 }
-    ensures { MatchResult result (λ pair. IsPair upper space.now.memory first_header strategy (paragraphs environment_bytes) (Room.least image.now) (Room.most image.now) pair) (λ e. PlanRefused upper space.now.memory strategy environment_bytes image.now e) }
+    ensures { MatchResult result (λ pair. IsPair upper space.now.memory first_header strategy
+        (paragraphs environment_bytes) (Room.least image.now) (Room.most image.now) pair) (λ e. PlanRefused upper
+        space.now.memory strategy environment_bytes image.now e) }
 {
     let environment_paragraphs = environment_bytes.div_ceil(16) as u16;
     match plan_pair(
@@ -224,7 +229,8 @@ pub(crate) fn start(
     requires environment { environment_bytes ≤ 0x200000 }
     ensures segment { result.segment ≡ pair.program }
     ensures registers { result.cpu ≡ Rattle.dm_proc.specs.Start.start_registers (placed_of pair) image.now }
-    ensures written { (p : IsPlannedOn upper space.old.memory pair) → IsWritten upper space.old.memory pair p (take environment_bytes space.old.scratch) image.now parent (passed_of arguments.now) space.new.memory }
+    ensures written { (p : IsPlannedOn upper space.old.memory pair) → IsWritten upper space.old.memory pair p (take
+        environment_bytes space.old.scratch) image.now parent (passed_of arguments.now) space.new.memory }
 {
     let blocks = Blocks {
         environment_segment: pair.environment_block(),

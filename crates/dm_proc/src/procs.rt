@@ -97,7 +97,10 @@ impl Procs {
     /// waits for its end, and then goes on with these registers.
     pub(crate) fn begin(&mut self, segment: u16, cpu: Cpu)
         requires { length self.old.parents < 15 }
-        ensures { self.new ≡ record self.old { present = segment; parents = self.old.parents ++ record { segment = self.old.present; cpu = cpu } ∷ [] } }
+        ensures { self.new ≡ record self.old {
+          present = segment;
+          parents = self.old.parents ++ record { segment = self.old.present; cpu = cpu } ∷ [];
+        } }
     {
         self.parents.push(Parent {
             segment: self.present,

@@ -28,7 +28,8 @@ struct Program {
 impl Program {
     /// Another program with the same name and bytes. `AllocError` if an allocation fails.
     fn duplicate(&self, alloc: Global) -> Result<Program, AllocError>
-        ensures { IfOk result (λ program. (program.name.items ≡ self.now.name.items) × (program.bytes.items ≡ self.now.bytes.items)) }
+        ensures { IfOk result (λ program. (program.name.items ≡ self.now.name.items) ×
+            (program.bytes.items ≡ self.now.bytes.items)) }
     {
         Ok(Program {
             name: Vec::from_slice(alloc, self.name.as_slice())?,

@@ -28,7 +28,8 @@ pub(crate) struct Asked<'a> {
 /// The name at segment:offset, up to 64 bytes before a zero; None if the first 65 bytes have no
 /// zero. Offsets wrap.
 fn name_at(space: &Space, segment: u16, offset: u16) -> Option<Name>
-    ensures { MatchOption result (NoNameAt space.now.memory segment offset) (λ name. IsNameAt space.now.memory segment offset name.items) }
+    ensures { MatchOption result (NoNameAt space.now.memory segment offset) (λ name. IsNameAt space.now.memory segment
+        offset name.items) }
 {
     let mut name = Name::new();
     for at in 0..NAME_BYTES {
@@ -52,7 +53,8 @@ pub(crate) fn asked_program<'a>(
     space: &Space,
     programs: &'a Programs,
 ) -> Result<Asked<'a>, ExecRefusal>
-    ensures { MatchResult result (λ n. NamesGood cpu.now space.now.memory programs.now n.name.items n.image) (λ e. NameRefused cpu.now space.now.memory programs.now e) }
+    ensures { MatchResult result (λ n. NamesGood cpu.now space.now.memory programs.now n.name.items n.image) (λ e.
+        NameRefused cpu.now space.now.memory programs.now e) }
 {
     let Some(name) = name_at(space, cpu.ds, cpu.dx) else {
         return Err(ExecRefusal::NotFound);

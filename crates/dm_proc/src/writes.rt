@@ -11,7 +11,10 @@ use dm_space::Space;
 /// modulo 16.
 fn write_byte(space: &mut Space, segment: u16, at: usize, byte: u8)
     requires { at < 0x1000_0000 }
-    ensures { space.new ≡ record space.old { memory = poke space.old.memory (block_address space.old.memory.a20 segment at) byte } }
+    ensures { space.new ≡ record space.old {
+      memory = poke space.old.memory (block_address space.old.memory.a20 segment
+          at) byte;
+    } }
 {
     space.poke(
         segment.wrapping_add((at / 16 % 65536) as u16),
@@ -23,7 +26,10 @@ fn write_byte(space: &mut Space, segment: u16, at: usize, byte: u8)
 /// Writes bytes to the block at a segment, from its byte `from` on.
 pub(crate) fn write_from(space: &mut Space, segment: u16, from: usize, bytes: &[u8])
     requires { from + length bytes.now ≤ 0x1000_0000 }
-    ensures { space.new ≡ record space.old { memory = apply (upwards space.old.memory.a20 segment from bytes.now) space.old.memory } }
+    ensures { space.new ≡ record space.old {
+      memory = apply (upwards space.old.memory.a20 segment from
+          bytes.now) space.old.memory;
+    } }
 {
     for (at, byte) in bytes.iter().enumerate() {
         write_byte(space, segment, from + at, *byte);
@@ -33,7 +39,10 @@ pub(crate) fn write_from(space: &mut Space, segment: u16, from: usize, bytes: &[
 /// Writes bytes to the block at a segment, from its first byte on.
 pub(crate) fn write_bytes(space: &mut Space, segment: u16, bytes: &[u8])
     requires { length bytes.now ≤ 0x200000 }
-    ensures { space.new ≡ record space.old { memory = apply (block space.old.memory.a20 segment bytes.now) space.old.memory } }
+    ensures { space.new ≡ record space.old {
+      memory = apply (block space.old.memory.a20 segment
+          bytes.now) space.old.memory;
+    } }
 {
     write_from(space, segment, 0, bytes);
 }
@@ -51,7 +60,10 @@ fn scratch_byte(space: &Space, at: usize) -> u8
 /// scratch part stays.
 pub(crate) fn write_scratch(space: &mut Space, segment: u16, count: usize)
     requires { count ≤ 0x200000 }
-    ensures { space.new ≡ record space.old { memory = apply (block space.old.memory.a20 segment (take count space.old.scratch)) space.old.memory } }
+    ensures { space.new ≡ record space.old {
+      memory = apply (block space.old.memory.a20 segment
+          (take count space.old.scratch)) space.old.memory;
+    } }
 {
     for at in 0..count {
         let byte = scratch_byte(space, at);

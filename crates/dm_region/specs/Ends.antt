@@ -10,5 +10,7 @@ module _ {X : Type 0} where
 
 -- when the two loans r end, of the first len elements of s and of those from the index other on, s holds in these
 -- places what was written through them; the elements between them are as they were
-abbrev pub lends_ends : (R : RattleType) → MutBor (List R.Denot) → ℕ → ℕ → MutBor (List R.Denot) × MutBor (List R.Denot) → Fml
-lends_ends R s len other r = LendsBoth (Array R 0) (Array R 0) (Array R 0) s r (λ ws vs. with_ends s.now len other (refill len (take len s.now) ws) (refill (length s.now - other) (drop other s.now) vs))
+abbrev pub lends_ends : (R : RattleType) → MutBor (List R.Denot) → ℕ → ℕ → MutBor (List R.Denot) ×
+    MutBor (List R.Denot) → Fml
+lends_ends R s len other r = LendsBoth (Array R 0) (Array R 0) (Array R 0) s r (λ ws vs. with_ends s.now len other
+    (refill len (take len s.now) ws) (refill (length s.now - other) (drop other s.now) vs))

@@ -17,4 +17,5 @@ with_part xs from len ws = take from xs ++ (ws ++ drop (from + len) xs)
 -- it; all others, and the hole, are as they were. (A slice keeps its length, so `refill` is the list that the borrower
 -- leaves.)
 abbrev pub LendsPart : MutBor Holed → ℕ → ℕ → MutBor (List ℕ) → Fml
-LendsPart s from len r = Lends the_row (Array u8 0) s r (λ w. record s.now { bytes = with_part s.now.bytes from len (refill len (part s.now.bytes from len) w) })
+LendsPart s from len r = Lends the_row (Array u8 0) s r (λ w. record s.now
+    { bytes = with_part s.now.bytes from len (refill len (part s.now.bytes from len) w) })

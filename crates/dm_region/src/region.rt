@@ -65,7 +65,12 @@ fn hollow(alloc: Global, len: usize) -> Result<Region, AllocError>
 fn filled(alloc: Global, len: usize, front: &[u8], back: &[u8]) -> Result<Region, AllocError>
     requires most { len ≤ MOST_BYTES }
     requires fits { length front.now + length back.now ≤ len }
-    ensures { IfOk result (λ region. region ≡ record { bytes = front.now ++ (replicate (len - length front.now - length back.now) 0 ++ back.now); from = length front.now; to = len - length back.now }) }
+    ensures { IfOk result (λ region. region ≡ record {
+      bytes = front.now ++ (replicate (len - length front.now
+          - length back.now) 0 ++ back.now);
+      from = length front.now;
+      to = len - length back.now;
+    }) }
 {
     let (base, mut cells, deed) = allocate(&alloc, len)?;
     let from = front.len();
@@ -185,7 +190,10 @@ impl Region {
         requires source { IsOutside self.old from len }
         requires destination { IsOutside self.old to len }
         requires few { len ≤ HOP }
-        ensures { self.new ≡ record self.old { bytes = with_part self.old.bytes to len (part self.old.bytes from len) } }
+        ensures { self.new ≡ record self.old {
+          bytes = with_part self.old.bytes to len (part self.old.bytes from
+              len);
+        } }
     {
         let mut bytes = [0; HOP];
         bytes[..len].copy_from_slice(self.part(from, len));
@@ -199,7 +207,10 @@ impl Region {
         requires destination { IsOutside self.old to len }
         requires apart { (from + len ≤ to) ⊎ (to + len ≤ from) }
         requires small { (from + len < 2 ^ 63) × (to + len < 2 ^ 63) }
-        ensures { self.new ≡ record self.old { bytes = with_part self.old.bytes to len (part self.old.bytes from len) } }
+        ensures { self.new ≡ record self.old {
+          bytes = with_part self.old.bytes to len (part self.old.bytes from
+              len);
+        } }
     {
         let mut done = 0;
         while done < len {
@@ -214,7 +225,10 @@ impl Region {
     pub fn copy(&mut self, from: usize, to: usize, len: usize)
         requires source { IsOutside self.old from len }
         requires destination { IsOutside self.old to len }
-        ensures { self.new ≡ record self.old { bytes = with_part self.old.bytes to len (part self.old.bytes from len) } }
+        ensures { self.new ≡ record self.old {
+          bytes = with_part self.old.bytes to len (part self.old.bytes from
+              len);
+        } }
     {
         let (hole, behind) = (self.from, self.to);
         let first = from.min(to);

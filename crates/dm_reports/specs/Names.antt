@@ -94,7 +94,9 @@ abbrev pub call_text : Call → List ℕ
 call_text DivideError = codes "interrupt 0"
 call_text Terminate = codes "INT 20h"
 call_text (Dos number) = codes "INT 21h function " ++ two_digits number ++ codes "h" ++ dos_name (function_of number)
-call_text (ExpandedMemory number) = codes "INT 67h function " ++ two_digits number ++ codes "h" ++ expanded_name (expanded_function number)
+call_text (ExpandedMemory number) = codes "INT 67h function " ++ two_digits number ++ codes "h"
+    ++ expanded_name (expanded_function number)
 call_text Multiplex = codes "INT 2Fh"
-call_text (ExtendedMemory number) = codes "XMS function " ++ two_digits number ++ codes "h" ++ extended_name (extended_function number)
+call_text (ExtendedMemory number) = codes "XMS function " ++ two_digits number ++ codes "h"
+    ++ extended_name (extended_function number)
 call_text (Interrupt number) = codes "INT " ++ two_digits number ++ codes "h"

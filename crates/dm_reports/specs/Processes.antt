@@ -13,7 +13,8 @@ steps_text first (Some last) = codes ", steps " ++ decimal first ++ codes " to "
 -- the line about a process: the segment of its prefix, its name, its parent's prefix, and its steps
 unfoldable pub process_line : Process → List ℕ
 process_line p =
-    codes "process " ++ four_digits p.prefix ++ codes " " ++ name_text p ++ codes ": parent " ++ four_digits p.parent ++ steps_text p.first p.last ++ 10 ∷ []
+    codes "process " ++ four_digits p.prefix ++ codes " " ++ name_text p ++ codes ": parent " ++ four_digits p.parent
+    ++ steps_text p.first p.last ++ 10 ∷ []
 
 -- a line for each of the processes of a run, in their order; none if there was one process alone
 abbrev pub processes_text : List Process → List ℕ

@@ -36,7 +36,8 @@ stop_site_text (Before segment offset) = codes " before " ++ address_text segmen
 -- the two bytes at CS:IP
 abbrev pub code_bytes_text : Memory → Cpu → List ℕ
 code_bytes_text m c =
-    codes ": " ++ two_digits (peek m (linear m.a20 c.cs c.ip)) ++ codes " " ++ two_digits (peek m (linear m.a20 c.cs (up c.ip 1)))
+    codes ": " ++ two_digits (peek m (linear m.a20 c.cs c.ip)) ++ codes " "
+    ++ two_digits (peek m (linear m.a20 c.cs (up c.ip 1)))
 
 -- the call that the next step would perform; nothing for an instruction
 abbrev pub next_text : Option Call → List ℕ
@@ -51,7 +52,8 @@ what_text _ m c = next_text (call_of c)
 
 -- why the run stopped, where in its code the program would have gone on, and what the next step would perform
 unfoldable pub stopped_text : Stop → Memory → Cpu → List ℕ
-stopped_text why m c = codes "stopped: " ++ reason_text why ++ stop_site_text (site_of m c) ++ what_text why m c ++ 10 ∷ []
+stopped_text why m c = codes "stopped: " ++ reason_text why ++ stop_site_text (site_of m c) ++ what_text why m c ++ 10
+    ∷ []
 
 -- the line about a stop, by the memory and the registers then; no text for an exit
 abbrev pub stopped_line : Stop → Memory → Cpu → List ℕ

@@ -40,11 +40,13 @@ refusal_text a code = codes "refused with code " ++ two_digits code ++ codes "h"
 
 -- that a call failed for lack of memory: how many paragraphs it asked for, and the largest number available
 abbrev pub short_text : ℕ → ℕ → List ℕ
-short_text asked largest = codes "refused with code 08h, not enough memory: " ++ count_text asked (codes "paragraph") ++ codes " wanted, " ++ decimal largest ++ codes " available"
+short_text asked largest = codes "refused with code 08h, not enough memory: " ++ count_text asked (codes "paragraph")
+    ++ codes " wanted, " ++ decimal largest ++ codes " available"
 
 -- that an instruction reads or writes a byte of a free block: the verb, the byte, and the block's segment
 abbrev pub free_text : List ℕ → ℕ → ℕ → ℕ → List ℕ
-free_text verb block segment offset = verb ++ address_text segment offset ++ codes " in the free block at " ++ four_digits block
+free_text verb block segment offset = verb ++ address_text segment offset ++ codes " in the free block at "
+    ++ four_digits block
 
 -- what follows the pages of a handle of expanded memory: `, map not restored` if it has a saved map, otherwise nothing
 abbrev pub map_text : Bool → List ℕ
@@ -52,16 +54,19 @@ map_text saved = if saved then codes ", map not restored" else []
 
 -- what a program has allocated at its end
 abbrev pub kept_text : Kept → List ℕ
-kept_text (kept.Handle handle pages saved) = codes "EMS handle " ++ decimal handle ++ codes ": " ++ count_text pages (codes "page") ++ codes " not freed" ++ map_text saved
+kept_text (kept.Handle handle pages saved) = codes "EMS handle " ++ decimal handle ++ codes ": "
+    ++ count_text pages (codes "page") ++ codes " not freed" ++ map_text saved
 kept_text (kept.Window window) = codes "window " ++ decimal window ++ codes " still mapped"
-kept_text (kept.Block handle kib locked) = codes "XMS handle " ++ decimal handle ++ codes ": " ++ decimal kib ++ codes " KiB not freed" ++ lock_text locked
+kept_text (kept.Block handle kib locked) = codes "XMS handle " ++ decimal handle ++ codes ": " ++ decimal kib
+    ++ codes " KiB not freed" ++ lock_text locked
 kept_text (kept.Upper at) = codes "upper block at " ++ four_digits at ++ codes " not freed"
 kept_text kept.Area = codes "HMA not released"
 kept_text kept.Line = codes "A20 left on"
 
 -- what was found in a step that performed a, in words
 abbrev pub finding_text : Act → Finding → List ℕ
-finding_text a (Overwritten at old new) = codes "header at " ++ four_digits at ++ codes " overwritten: " ++ contents_text old ++ codes " became " ++ contents_text new
+finding_text a (Overwritten at old new) = codes "header at " ++ four_digits at ++ codes " overwritten: "
+    ++ contents_text old ++ codes " became " ++ contents_text new
 finding_text a (MappedAway at) = codes "header at " ++ four_digits at ++ codes " mapped away"
 finding_text a (Destroyed at) = codes "arena destroyed at " ++ four_digits at
 finding_text a Whole = codes "arena whole again"
@@ -76,11 +81,15 @@ finding_text a (Held k) = codes "kept resident: " ++ kept_text k
 finding_text a (FreeRead block segment offset) = free_text (codes "reads ") block segment offset
 finding_text a (FreeWritten block segment offset) = free_text (codes "writes ") block segment offset
 finding_text a (StackFreed block) = codes "the stack is in the free block at " ++ four_digits block
-finding_text a (WindowLost window segment offset) = codes "writes " ++ address_text segment offset ++ codes " in window " ++ decimal window ++ codes ", which shows no page"
+finding_text a (WindowLost window segment offset) = codes "writes " ++ address_text segment offset
+    ++ codes " in window " ++ decimal window ++ codes ", which shows no page"
 finding_text a (RomWritten segment offset) = codes "writes " ++ address_text segment offset ++ codes " in the ROM"
-finding_text a (NothingWritten segment offset) = codes "writes " ++ address_text segment offset ++ codes ", where there is no memory"
-finding_text a (TailWritten at byte) = codes "byte " ++ decimal byte ++ codes " of the header at " ++ four_digits at ++ codes " written"
-finding_text a (OtherFreed at owner) = codes "block at " ++ four_digits at ++ codes " of process " ++ four_digits owner ++ codes " freed"
+finding_text a (NothingWritten segment offset) = codes "writes " ++ address_text segment offset
+    ++ codes ", where there is no memory"
+finding_text a (TailWritten at byte) = codes "byte " ++ decimal byte ++ codes " of the header at " ++ four_digits at
+    ++ codes " written"
+finding_text a (OtherFreed at owner) = codes "block at " ++ four_digits at ++ codes " of process " ++ four_digits owner
+    ++ codes " freed"
 finding_text a (NotResized asked) = codes "block not resized to " ++ count_text asked (codes "paragraph")
 
 -- the text of what was performed in the step: a call, or an instruction
@@ -112,7 +121,8 @@ origin_verb _ = codes "freed"
 -- by which step, and where, that was done; nothing if it is not known
 abbrev pub origin_text : Finding → Option Origin → List ℕ
 origin_text f None = []
-origin_text f (Some o) = codes ", " ++ origin_verb f ++ codes " by step " ++ decimal o.step ++ codes ", " ++ site_text o.site
+origin_text f (Some o) = codes ", " ++ origin_verb f ++ codes " by step " ++ decimal o.step ++ codes ", "
+    ++ site_text o.site
 
 -- what was found, in words, and which step allocated or freed what it is about
 abbrev pub told_text : Found → List ℕ
@@ -122,7 +132,8 @@ told_text f = finding_text f.act f.finding ++ origin_text f.finding f.origin
 -- what was found, and which step allocated or freed what it is about
 unfoldable pub found_text : Found → List ℕ
 found_text f =
-    codes "step " ++ decimal f.step ++ codes ", " ++ site_text f.site ++ codes " " ++ act_text f.act ++ codes ": " ++ told_text f
+    codes "step " ++ decimal f.step ++ codes ", " ++ site_text f.site ++ codes " " ++ act_text f.act ++ codes ": "
+    ++ told_text f
 
 -- the line of a finding: error or note, and what was found and where
 unfoldable pub found_line : Found → List ℕ
@@ -130,4 +141,5 @@ found_line f = kind_text (is_error f.finding) ++ codes ": " ++ found_text f ++ 1
 
 -- the line about the repetitions of a finding: how many they are, and the step of the last
 unfoldable pub repeated_line : Listed → List ℕ
-repeated_line l = codes "again: " ++ found_text l.found ++ codes ": " ++ decimal l.more ++ codes " more, the last at step " ++ decimal l.last ++ 10 ∷ []
+repeated_line l = codes "again: " ++ found_text l.found ++ codes ": " ++ decimal l.more
+    ++ codes " more, the last at step " ++ decimal l.last ++ 10 ∷ []

@@ -69,7 +69,8 @@ fn put_overwritten(
     new: Contents,
 ) -> Result<(), AllocError>
     ensures { OnOk result (out.new.items ≡ out.old.items
-        ++ (codes "header at " ++ four_digits at ++ codes " overwritten: " ++ contents_text old ++ codes " became " ++ contents_text new)) }
+        ++ (codes "header at " ++ four_digits at ++ codes " overwritten: " ++ contents_text old ++ codes " became "
+        ++ contents_text new)) }
 {
     put_segment(out, b"header at ", at, b" overwritten: ")?;
     put_contents(out, old)?;
@@ -126,7 +127,8 @@ fn lock_of(locked: bool) -> &'static [u8]
 /// Appends that the block of a handle of extended memory was not freed: its size in KiB, and whether it is locked.
 fn put_block_kept(out: &mut Vec<u8>, handle: u16, kib: u16, locked: bool) -> Result<(), AllocError>
     ensures { OnOk result (out.new.items ≡ out.old.items
-        ++ (codes "XMS handle " ++ decimal handle ++ codes ": " ++ decimal kib ++ codes " KiB not freed" ++ lock_text locked)) }
+        ++ (codes "XMS handle " ++ decimal handle ++ codes ": " ++ decimal kib ++ codes " KiB not freed"
+        ++ lock_text locked)) }
 {
     put_count(out, b"XMS handle ", handle, b": ")?;
     put_number(out, kib as u64)?;
@@ -150,7 +152,8 @@ fn put_handle_kept(
     saved: bool,
 ) -> Result<(), AllocError>
     ensures { OnOk result (out.new.items ≡ out.old.items
-        ++ (codes "EMS handle " ++ decimal handle ++ codes ": " ++ count_text pages (codes "page") ++ codes " not freed" ++ map_text saved)) }
+        ++ (codes "EMS handle " ++ decimal handle ++ codes ": " ++ count_text pages (codes "page") ++ codes " not freed"
+        ++ map_text saved)) }
 {
     put_count(out, b"EMS handle ", handle, b": ")?;
     put_counted(out, pages as u64, b"page")?;
@@ -214,7 +217,8 @@ fn put_free(
 /// Appends that an instruction writes a byte of a window that shows no page.
 fn put_lost(out: &mut Vec<u8>, window: u8, segment: u16, offset: u16) -> Result<(), AllocError>
     ensures { OnOk result (out.new.items ≡ out.old.items
-        ++ (codes "writes " ++ address_text segment offset ++ codes " in window " ++ decimal window ++ codes ", which shows no page")) }
+        ++ (codes "writes " ++ address_text segment offset ++ codes " in window " ++ decimal window
+        ++ codes ", which shows no page")) }
 {
     out.extend_from_slice(b"writes ")?;
     put_address(out, segment, offset)?;
@@ -249,7 +253,8 @@ fn put_other_freed(out: &mut Vec<u8>, at: u16, owner: u16) -> Result<(), AllocEr
 
 /// Appends that a block was not resized: to how many paragraphs.
 fn put_not_resized(out: &mut Vec<u8>, asked: u16) -> Result<(), AllocError>
-    ensures { OnOk result (out.new.items ≡ out.old.items ++ (codes "block not resized to " ++ count_text asked (codes "paragraph"))) }
+    ensures { OnOk result (out.new.items ≡ out.old.items ++ (codes "block not resized to "
+        ++ count_text asked (codes "paragraph"))) }
 {
     out.extend_from_slice(b"block not resized to ")?;
     put_counted(out, asked as u64, b"paragraph")

@@ -22,7 +22,8 @@ two_numbers bytes = do
 
 -- the bytes after a prefix; None if they do not begin with it
 abbrev pub after_prefix : List ℕ → List ℕ → Option (List ℕ)
-after_prefix prefix bytes = if bytes_eq (take (length prefix) bytes) prefix then Some (drop (length prefix) bytes) else None
+after_prefix prefix bytes = if bytes_eq (take (length prefix) bytes) prefix then Some (drop (length prefix) bytes) else
+    None
 
 -- the access that a type of `Z` and `z` stands for; None for any other byte
 abbrev pub watched_access : ℕ → Option WatchedAccess

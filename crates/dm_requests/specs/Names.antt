@@ -92,5 +92,6 @@ single letter bytes =
     else if letter == 68 then request.Detach
     else if letter == 107 then request.Kill
     else if letter == 98 then backwards bytes
-    else if letter == 81 then (if bytes_eq bytes (codes "StartNoAckMode") then request.StopAcknowledging else request.Unknown)
+    else if letter == 81 then (if bytes_eq bytes (codes "StartNoAckMode") then request.StopAcknowledging else
+    request.Unknown)
     else alone letter bytes

@@ -46,7 +46,8 @@ fixed : (s : State) → IsShaped s.memory s.memory × (s.ems ≡ s.ems) × (s.xm
 fixed s = (shaped-same s.memory, refl, refl)
 
 -- back in the program, with memory as it was
-still : (s : State) (c : Cpu) → IsShaped s.memory (interrupt_returned (record s { cpu = c })).memory × (s.ems ≡ s.ems) × (s.xms ≡ s.xms)
+still : (s : State) (c : Cpu) → IsShaped s.memory (interrupt_returned (record s { cpu = c })).memory × (s.ems ≡ s.ems) ×
+    (s.xms ≡ s.xms)
 still s c = (return-kept s.memory c s.memory (shaped-same s.memory), refl, refl)
 
 choice-kept : (s : State) (b : Bool) (x y : Answer) → Kept s x → Kept s y → Kept s (cond b x y)
@@ -91,7 +92,12 @@ check_input-kept s = still s _
 
 line-kept : (s : State) (m : ℕ) (o : Option ℕ) → Kept s (line_read s m o)
 line-kept s m None = fixed s
-line-kept s m (Some n) = (return-kept s.memory _ _ (bytes-kept s.memory _ _ _ _ (bytes-kept s.memory s.memory _ _ _ (shaped-same s.memory))), refl, refl)
+line-kept s m (Some n) = (
+  return-kept s.memory _ _ (bytes-kept s.memory _ _ _ _ (bytes-kept s.memory s.memory _ _ _
+      (shaped-same s.memory))),
+  refl,
+  refl,
+)
 
 line_into-kept : (s : State) (m : ℕ) → Kept s (line_into s m)
 line_into-kept s m = choice-kept s (m == 0) _ _ (still s _) (line-kept s m (line_length s.console.input))
@@ -117,7 +123,12 @@ read_handle-kept : (s : State) → Kept s (read_handle s)
 unfolding read_handle
 read_handle-kept s =
     choice-kept s (nat_lt s.cpu.bx 3) _ _
-    (choice-kept s (waits s) _ _ (fixed s) (return-kept s.memory _ _ (bytes-kept s.memory s.memory _ _ _ (shaped-same s.memory)), refl, refl)) (bad_handle-kept s)
+    (choice-kept s (waits s) _ _ (fixed s) (
+      return-kept s.memory _ _ (bytes-kept s.memory s.memory _ _ _
+          (shaped-same s.memory)),
+      refl,
+      refl,
+    )) (bad_handle-kept s)
 
 write_handle-kept : (s : State) → Kept s (write_handle s)
 unfolding write_handle
@@ -126,8 +137,12 @@ write_handle-kept s = choice-kept s (nat_lt s.cpu.bx 3) _ _ (still s _) (bad_han
 set_vector-kept : (s : State) → Kept s (set_vector s)
 unfolding set_vector
 set_vector-kept s =
-    let n = 4 * byte_of s.cpu Al in
-    (return-kept s.memory _ _ (word-kept s.memory _ 0 (n + 2) s.cpu.ds (word-kept s.memory s.memory 0 n s.cpu.dx (shaped-same s.memory))), refl, refl)
+    let n = 4 * byte_of s.cpu Al in (
+      return-kept s.memory _ _ (word-kept s.memory _ 0 (n + 2) s.cpu.ds (word-kept s.memory s.memory 0 n s.cpu.dx
+          (shaped-same s.memory))),
+      refl,
+      refl,
+    )
 
 get_vector-kept : (s : State) → Kept s (get_vector s)
 unfolding get_vector
@@ -159,7 +174,8 @@ allocated-kept : (s : State) (r : Result ℕ ArenaRefusal) (m : Memory) → IsSh
 allocated-kept s (Ok segment) m h = (return-kept s.memory _ m h, refl, refl)
 allocated-kept s (Err e) m h = (return-kept s.memory _ m h, refl, refl)
 
-settled-kept : (s : State) (r : Result (Unit {0}) ArenaRefusal) (m : Memory) → IsShaped s.memory m → Kept s (settled s r m)
+settled-kept : (s : State) (r : Result (Unit {0}) ArenaRefusal) (m : Memory) → IsShaped s.memory m →
+    Kept s (settled s r m)
 settled-kept s (Ok u) m h = (return-kept s.memory _ m h, refl, refl)
 settled-kept s (Err e) m h = (return-kept s.memory _ m h, refl, refl)
 
@@ -173,15 +189,18 @@ link_told-kept s (Err e) = still s _
 
 -- ---- programs
 
-executed-kept : (s : State) (r : Result (Unit {0}) ExecRefusal) (qs : Processes) (d : Cpu) (n : Memory) → IsShaped s.memory n → Kept s (executed s r qs d n)
+executed-kept : (s : State) (r : Result (Unit {0}) ExecRefusal) (qs : Processes) (d : Cpu) (n : Memory) →
+    IsShaped s.memory n → Kept s (executed s r qs d n)
 executed-kept s (Ok x) qs d n h = (h, refl, refl)
 executed-kept s (Err e) qs d n h = still s _
 
-overlaid-kept : (s : State) (r : Result (Unit {0}) ExecRefusal) (n : Memory) → IsShaped s.memory n → Kept s (overlaid s r n)
+overlaid-kept : (s : State) (r : Result (Unit {0}) ExecRefusal) (n : Memory) → IsShaped s.memory n →
+    Kept s (overlaid s r n)
 overlaid-kept s (Ok x) n h = (return-kept s.memory _ n h, refl, refl)
 overlaid-kept s (Err e) n h = still s _
 
-concluded-kept : (s : State) (code : ℕ) (r : Result Ending ArenaDestroyed) (qs : Processes) (d : Cpu) (n : Memory) → IsShaped s.memory n → Kept s (concluded s code r qs d n)
+concluded-kept : (s : State) (code : ℕ) (r : Result Ending ArenaDestroyed) (qs : Processes) (d : Cpu) (n : Memory) →
+    IsShaped s.memory n → Kept s (concluded s code r qs d n)
 concluded-kept s code (Ok ending.Returned) qs d n h = (h, refl, refl)
 concluded-kept s code (Ok ending.Exited) qs d n h = (h, refl, refl)
 concluded-kept s code (Err e) qs d n h = fixed s
@@ -190,11 +209,13 @@ by : (s : State) (x y : Answer) → x ≡ y → Kept s y → Kept s x
 by s x y e h = subst (λ z. Kept s z) (sym e) h
 
 loading-kept : (s : State) (action : Bool) (x : Answer) → LoadingAs action s x → Kept s x
-loading-kept s true x a = by s x _ a.answer (overlaid-kept s a.result a.memory (overlays-kept s.cpu s.memory s.programs a.result a.memory a.overlays))
+loading-kept s true x a = by s x _ a.answer (overlaid-kept s a.result a.memory
+    (overlays-kept s.cpu s.memory s.programs a.result a.memory a.overlays))
 loading-kept s false x a =
     by s x _ a.answer
     (executed-kept s a.result a.processes a.cpu a.memory
-    (executes-kept s.upper s.processes s.cpu s.memory s.programs s.strategy a.result a.processes a.cpu a.memory a.executes))
+    (executes-kept s.upper s.processes s.cpu s.memory s.programs s.strategy a.result a.processes a.cpu a.memory
+    a.executes))
 
 terminating-kept : (s : State) (code : ℕ) (x : Answer) → Terminating s code x → Kept s x
 terminating-kept s code x a =
@@ -206,7 +227,8 @@ keeping-kept : (s : State) (x : Answer) → StayingResident s x → Kept s x
 keeping-kept s x a =
     by s x _ a.answer
     (concluded-kept s (byte_of s.cpu Al) a.result a.processes a.cpu a.memory
-    (keeps-kept s.upper s.processes s.cpu s.memory (byte_of s.cpu Al) s.cpu.dx a.result a.processes a.cpu a.memory a.stays))
+    (keeps-kept s.upper s.processes s.cpu s.memory (byte_of s.cpu Al) s.cpu.dx a.result a.processes a.cpu a.memory
+    a.stays))
 
 -- ---- all calls
 
@@ -216,7 +238,8 @@ tells-kept s true x a = by s x _ a.answer (link_told-kept s a.result)
 
 sets-kept : (s : State) (o : Option Bool) (x : Answer) → SetsLink o s x → Kept s x
 sets-kept s None x e = by s x _ e (still s _)
-sets-kept s (Some on) x a = by s x _ a.answer (settled-kept s a.result a.memory (links-kept s.memory on a.result a.memory a.links))
+sets-kept s (Some on) x a = by s x _ a.answer (settled-kept s a.result a.memory
+    (links-kept s.memory on a.result a.memory a.links))
 
 strategy-kept : (s : State) (f : StrategyFunction) (x : Answer) → StrategyCalls s f x → Kept s x
 strategy-kept s TellStrategy x e = by s x _ e (still s _)
@@ -240,9 +263,12 @@ calls-kept s Version x e = by s x _ e (tell_version-kept s)
 calls-kept s GetVector x e = by s x _ e (get_vector-kept s)
 calls-kept s ReadHandle x e = by s x _ e (read_handle-kept s)
 calls-kept s WriteHandle x e = by s x _ e (write_handle-kept s)
-calls-kept s Allocate x a = by s x _ a.answer (allocated-kept s a.result a.memory (allocates-kept s.upper s.memory s.strategy s.cpu.bx s.processes.present a.result a.memory a.allocates))
-calls-kept s Free x a = by s x _ a.answer (settled-kept s a.result a.memory (frees-kept s.upper s.memory s.cpu.es a.result a.memory a.frees))
-calls-kept s Resize x a = by s x _ a.answer (settled-kept s a.result a.memory (resizes-kept s.upper s.memory s.cpu.es s.cpu.bx a.result a.memory a.resizes))
+calls-kept s Allocate x a = by s x _ a.answer (allocated-kept s a.result a.memory
+    (allocates-kept s.upper s.memory s.strategy s.cpu.bx s.processes.present a.result a.memory a.allocates))
+calls-kept s Free x a = by s x _ a.answer (settled-kept s a.result a.memory
+    (frees-kept s.upper s.memory s.cpu.es a.result a.memory a.frees))
+calls-kept s Resize x a = by s x _ a.answer (settled-kept s a.result a.memory
+    (resizes-kept s.upper s.memory s.cpu.es s.cpu.bx a.result a.memory a.resizes))
 calls-kept s LoadProgram x a = loading-kept s _ x a
 calls-kept s Exit x a = terminating-kept s _ x a
 calls-kept s Keep x a = keeping-kept s x a

@@ -38,7 +38,8 @@ word-kept S m s o v h = byte-kept S _ _ _ (byte-kept S m _ _ h)
 pub bytes-kept : (S m : Memory) (s o : ℕ) (bytes : List ℕ) → IsShaped S m → IsShaped S (with_bytes m s o bytes)
 unfolding with_bytes
 bytes-kept S m s o [] h = h
-bytes-kept S m s o (b ∷ bytes) h = bytes-kept S (poke m (linear m.a20 s (o % 65536)) b) s (suc o) bytes (byte-kept S m _ b h)
+bytes-kept S m s o (b ∷ bytes) h = bytes-kept S (poke m (linear m.a20 s (o % 65536)) b) s (suc o) bytes
+    (byte-kept S m _ b h)
 
 writes-kept : (S m : Memory) (ws : List Write) → IsShaped S m → IsShaped S (apply ws m)
 writes-kept S m [] h = h
@@ -51,19 +52,23 @@ return-kept S c m h = h
 
 -- ---- blocks
 
-pub allocates-kept : (upper : Bool) (S : Memory) (strategy : Strategy) (n owner : ℕ) (r : Result ℕ ArenaRefusal) (T : Memory) → Allocates upper S strategy n owner r T → IsShaped S T
+pub allocates-kept : (upper : Bool) (S : Memory) (strategy : Strategy) (n owner : ℕ) (r : Result ℕ ArenaRefusal)
+    (T : Memory) → Allocates upper S strategy n owner r T → IsShaped S T
 allocates-kept upper S strategy n owner (Ok segment) T a = a.2.differs.shape
 allocates-kept upper S strategy n owner (Err e) T a = unchanged S T a.0
 
-pub frees-kept : (upper : Bool) (S : Memory) (segment : ℕ) (r : Result (Unit {0}) ArenaRefusal) (T : Memory) → Frees upper S segment r T → IsShaped S T
+pub frees-kept : (upper : Bool) (S : Memory) (segment : ℕ) (r : Result (Unit {0}) ArenaRefusal) (T : Memory) →
+    Frees upper S segment r T → IsShaped S T
 frees-kept upper S segment (Ok u) T a = a.1.differs.shape
 frees-kept upper S segment (Err e) T a = unchanged S T a.0
 
-pub resizes-kept : (upper : Bool) (S : Memory) (segment n : ℕ) (r : Result (Unit {0}) ArenaRefusal) (T : Memory) → Resizes upper S segment n r T → IsShaped S T
+pub resizes-kept : (upper : Bool) (S : Memory) (segment n : ℕ) (r : Result (Unit {0}) ArenaRefusal) (T : Memory) →
+    Resizes upper S segment n r T → IsShaped S T
 resizes-kept upper S segment n (Ok u) T a = a.2.differs.shape
 resizes-kept upper S segment n (Err e) T a = unchanged S T a.0
 
-pub links-kept : (S : Memory) (on : Bool) (r : Result (Unit {0}) ArenaRefusal) (T : Memory) → Links S on r T → IsShaped S T
+pub links-kept : (S : Memory) (on : Bool) (r : Result (Unit {0}) ArenaRefusal) (T : Memory) → Links S on r T →
+    IsShaped S T
 links-kept S true (Ok u) T (inl a) = unchanged S T a.same
 links-kept S true (Ok u) T (inr a) = a.becomes.differs.shape
 links-kept S false (Ok u) T (inl a) = unchanged S T a.same
@@ -71,28 +76,34 @@ links-kept S false (Ok u) T (inr a) = a.becomes.differs.shape
 links-kept S true (Err e) T a = unchanged S T a.0
 links-kept S false (Err e) T a = unchanged S T a.0
 
-releases-kept : (upper : Bool) (S : Memory) (owner : ℕ) (r : Result (Unit {0}) ArenaRefusal) (T : Memory) → Releases upper S owner r T → IsShaped S T
+releases-kept : (upper : Bool) (S : Memory) (owner : ℕ) (r : Result (Unit {0}) ArenaRefusal) (T : Memory) →
+    Releases upper S owner r T → IsShaped S T
 releases-kept upper S owner (Ok u) T (inl a) = a.becomes.differs.shape
 releases-kept upper S owner (Ok u) T (inr a) = a.differs.shape
 releases-kept upper S owner (Err e) T a = unchanged S T a.0
 
-pairs-kept : (upper : Bool) (S : Memory) (strategy : Strategy) (environment least most : ℕ) (r : Result Placed ArenaRefusal) (T : Memory) → Pairs upper S strategy environment least most r T → IsShaped S T
+pairs-kept : (upper : Bool) (S : Memory) (strategy : Strategy) (environment least most : ℕ)
+    (r : Result Placed ArenaRefusal) (T : Memory) → Pairs upper S strategy environment least most r T → IsShaped S T
 pairs-kept upper S strategy environment least most (Ok placed) T a = a.3.differs.shape
 pairs-kept upper S strategy environment least most (Err e) T a = unchanged S T a.0
 
 -- ---- programs
 
-pub starts-kept : (upper : Bool) (S : Memory) (strategy : Strategy) (environment file : List ℕ) (parent : ℕ) (a : Passed) (placed : Placed) (T : Memory) →
+pub starts-kept : (upper : Bool) (S : Memory) (strategy : Strategy) (environment file : List ℕ) (parent : ℕ)
+    (a : Passed) (placed : Placed) (T : Memory) →
     Starts upper S strategy environment file parent a placed T → IsShaped S T
 starts-kept upper S strategy environment file parent a placed T s =
-    another S _ T s.memory (writes-kept S s.middle (start_writes s.middle.a20 placed environment (prefix S placed parent a) file) (pairs-kept upper S strategy _ _ _ (Ok placed) s.middle s.plans))
+    another S _ T s.memory (writes-kept S s.middle (start_writes s.middle.a20 placed environment
+    (prefix S placed parent a) file) (pairs-kept upper S strategy _ _ _ (Ok placed) s.middle s.plans))
 
-pub executes-kept : (upper : Bool) (ps : Processes) (c : Cpu) (S : Memory) (store : List (List ℕ × List ℕ)) (strategy : Strategy) (r : Result (Unit {0}) ExecRefusal) (qs : Processes) (d : Cpu) (T : Memory) →
+pub executes-kept : (upper : Bool) (ps : Processes) (c : Cpu) (S : Memory) (store : List (List ℕ ×
+    List ℕ)) (strategy : Strategy) (r : Result (Unit {0}) ExecRefusal) (qs : Processes) (d : Cpu) (T : Memory) →
     Executes upper ps c S store strategy r qs d T → IsShaped S T
 executes-kept upper ps c S store strategy (Ok x) qs d T a = starts-kept upper S strategy _ _ _ _ a.placed T a.starts
 executes-kept upper ps c S store strategy (Err e) qs d T a = unchanged S T a.2
 
-pub overlays-kept : (c : Cpu) (S : Memory) (store : List (List ℕ × List ℕ)) (r : Result (Unit {0}) ExecRefusal) (T : Memory) → Overlays c S store r T → IsShaped S T
+pub overlays-kept : (c : Cpu) (S : Memory) (store : List (List ℕ × List ℕ)) (r : Result (Unit {0}) ExecRefusal)
+    (T : Memory) → Overlays c S store r T → IsShaped S T
 overlays-kept c S store (Ok x) T a = another S _ T a.memory (search (writes-kept, shaped-same))
 overlays-kept c S store (Err e) T a = unchanged S T a.0
 
@@ -100,16 +111,21 @@ vectors-kept : (S m : Memory) (segment : ℕ) → IsShaped S m → IsShaped S (v
 unfolding vectors_back
 vectors-kept S m segment h = writes-kept S m (upwards m.a20 0 0x88 (bytes_from m segment 0x0A 12)) h
 
-ends-kept : (S : Memory) (ps : Processes) (c : Cpu) (m : Memory) (word : ℕ) (ending : Ending) (qs : Processes) (d : Cpu) (T : Memory) →
+ends-kept : (S : Memory) (ps : Processes) (c : Cpu) (m : Memory) (word : ℕ) (ending : Ending) (qs : Processes) (d : Cpu)
+    (T : Memory) →
     IsShaped S m → Ends ps c m word ending qs d T → IsShaped S T
 ends-kept S ps c m word ending qs d T h a = another S _ T a.memory (vectors-kept S m ps.present h)
 
-pub terminates-kept : (upper : Bool) (ps : Processes) (c : Cpu) (S : Memory) (code : ℕ) (r : Result Ending ArenaDestroyed) (qs : Processes) (d : Cpu) (T : Memory) →
+pub terminates-kept : (upper : Bool) (ps : Processes) (c : Cpu) (S : Memory) (code : ℕ)
+    (r : Result Ending ArenaDestroyed) (qs : Processes) (d : Cpu) (T : Memory) →
     Terminates upper ps c S code r qs d T → IsShaped S T
-terminates-kept upper ps c S code (Ok ending) qs d T a = ends-kept S ps c a.0 code ending qs d T (releases-kept upper S ps.present (Ok tt) a.0 a.1) a.2
+terminates-kept upper ps c S code (Ok ending) qs d T a =
+    ends-kept S ps c a.0 code ending qs d T (releases-kept upper S ps.present (Ok tt) a.0 a.1) a.2
 terminates-kept upper ps c S code (Err e) qs d T a = unchanged S T a.2
 
-pub keeps-kept : (upper : Bool) (ps : Processes) (c : Cpu) (S : Memory) (code paragraphs : ℕ) (r : Result Ending ArenaDestroyed) (qs : Processes) (d : Cpu) (T : Memory) →
+pub keeps-kept : (upper : Bool) (ps : Processes) (c : Cpu) (S : Memory) (code paragraphs : ℕ)
+    (r : Result Ending ArenaDestroyed) (qs : Processes) (d : Cpu) (T : Memory) →
     StaysResident upper ps c S code paragraphs r qs d T → IsShaped S T
-keeps-kept upper ps c S code paragraphs (Ok ending) qs d T a = ends-kept S ps c a.1 _ ending qs d T (resizes-kept upper S ps.present paragraphs a.0 a.1 a.2) a.4
+keeps-kept upper ps c S code paragraphs (Ok ending) qs d T a =
+    ends-kept S ps c a.1 _ ending qs d T (resizes-kept upper S ps.present paragraphs a.0 a.1 a.2) a.4
 keeps-kept upper ps c S code paragraphs (Err e) qs d T a = unchanged S T a.2

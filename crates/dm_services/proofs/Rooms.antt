@@ -80,7 +80,8 @@ poll_character-keeps s = poll-keeps s s.console.input
 
 direct_character-keeps : (s : State) → Keeps s (direct_character s)
 unfolding direct_character
-direct_character-keeps s = choice-keeps s (byte_of s.cpu Dl == 0xFF) _ _ (poll_character-keeps s) (write_character-keeps s)
+direct_character-keeps s = choice-keeps s (byte_of s.cpu Dl == 0xFF) _ _ (poll_character-keeps s)
+    (write_character-keeps s)
 
 check_input-keeps : (s : State) → Keeps s (check_input s)
 unfolding check_input
@@ -112,11 +113,13 @@ bad_handle-keeps s = same _
 
 read_handle-keeps : (s : State) → Keeps s (read_handle s)
 unfolding read_handle
-read_handle-keeps s = choice-keeps s (nat_lt s.cpu.bx 3) _ _ (choice-keeps s (waits s) _ _ (same _) (same _)) (bad_handle-keeps s)
+read_handle-keeps s = choice-keeps s (nat_lt s.cpu.bx 3) _ _ (choice-keeps s (waits s) _ _ (same _) (same _))
+    (bad_handle-keeps s)
 
 write_handle-keeps : (s : State) → Keeps s (write_handle s)
 unfolding write_handle
-write_handle-keeps s = choice-keeps s (nat_lt s.cpu.bx 3) _ _ (written-keeps s.console (bytes_from s.memory s.cpu.ds s.cpu.dx s.cpu.cx)) (bad_handle-keeps s)
+write_handle-keeps s = choice-keeps s (nat_lt s.cpu.bx 3) _ _ (written-keeps s.console
+    (bytes_from s.memory s.cpu.ds s.cpu.dx s.cpu.cx)) (bad_handle-keeps s)
 
 set_vector-keeps : (s : State) → Keeps s (set_vector s)
 unfolding set_vector
@@ -158,7 +161,8 @@ no_function-keeps : (s : State) → Keeps s (no_function s)
 unfolding no_function
 no_function-keeps s = same _
 
-executed-keeps : (s : State) (r : Result (Unit {0}) ExecRefusal) (qs : Processes) (d : Cpu) (n : Memory) → Keeps s (executed s r qs d n)
+executed-keeps : (s : State) (r : Result (Unit {0}) ExecRefusal) (qs : Processes) (d : Cpu) (n : Memory) →
+    Keeps s (executed s r qs d n)
 executed-keeps s (Ok x) qs d n = same _
 executed-keeps s (Err e) qs d n = same _
 
@@ -166,7 +170,8 @@ overlaid-keeps : (s : State) (r : Result (Unit {0}) ExecRefusal) (n : Memory) �
 overlaid-keeps s (Ok x) n = same _
 overlaid-keeps s (Err e) n = same _
 
-concluded-keeps : (s : State) (code : ℕ) (r : Result Ending ArenaDestroyed) (qs : Processes) (d : Cpu) (n : Memory) → Keeps s (concluded s code r qs d n)
+concluded-keeps : (s : State) (code : ℕ) (r : Result Ending ArenaDestroyed) (qs : Processes) (d : Cpu) (n : Memory) →
+    Keeps s (concluded s code r qs d n)
 concluded-keeps s code (Ok ending.Returned) qs d n = same _
 concluded-keeps s code (Ok ending.Exited) qs d n = same _
 concluded-keeps s code (Err e) qs d n = same _

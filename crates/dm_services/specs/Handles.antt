@@ -25,7 +25,8 @@ with_read s bytes = record s { memory = with_bytes s.memory s.cpu.ds s.cpu.dx by
 -- their count, CF = 0
 abbrev pub read_from_console : State → List ℕ → Answer
 read_from_console s bytes =
-    go (with_carry (interrupt_returned (with_ax (with_input (with_read s bytes) (drop (length bytes) s.console.input)) (length bytes))) false)
+    go (with_carry (interrupt_returned (with_ax (with_input (with_read s bytes) (drop (length bytes) s.console.input))
+    (length bytes))) false)
 
 -- whether 3Fh wants bytes that may still come: CX is above 0, no input is left, and more may come
 abbrev pub waits : State → Bool
@@ -45,7 +46,8 @@ read_handle s = if nat_lt s.cpu.bx 3 then read_unless (waits s) s else bad_handl
 -- 40h with a good handle: the CX bytes at DS:DX are written to the console; AX = CX, CF = 0
 abbrev pub write_to_console : State → Answer
 write_to_console s =
-    go (with_carry (interrupt_returned (with_ax (with_written s (bytes_from s.memory s.cpu.ds s.cpu.dx s.cpu.cx)) s.cpu.cx)) false)
+    go (with_carry (interrupt_returned (with_ax (with_written s (bytes_from s.memory s.cpu.ds s.cpu.dx s.cpu.cx))
+    s.cpu.cx)) false)
 
 -- 40h: with a handle in BX up to 2, writes the CX bytes at DS:DX to the console; AX = CX, CF = 0. Else error 6
 unfoldable pub write_handle : State → Answer

@@ -106,4 +106,7 @@ pub record StayingResident (s : State) (x : Answer) : Type 0 where
 -- ends
 unfoldable pub tell_code : State → Answer
 tell_code s =
-    go (interrupt_returned (record s { cpu = record s.cpu { ax = s.processes.code }; processes = record s.processes { code = 0 } }))
+    go (interrupt_returned (record s {
+      cpu = record s.cpu { ax = s.processes.code };
+      processes = record s.processes { code = 0 };
+    }))

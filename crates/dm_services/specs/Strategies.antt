@@ -71,7 +71,8 @@ no_such_value s = answered s (record s.cpu { ax = 1 }) s.memory true
 
 -- 58h with AL = 0: AX is the strategy's number, CF = 0
 abbrev pub strategy_reported : State → Answer
-strategy_reported s = answered s (record s.cpu { ax = number_of_area s.strategy.area + number_of_fit s.strategy.fit }) s.memory false
+strategy_reported s = answered s (record s.cpu { ax = number_of_area s.strategy.area + number_of_fit s.strategy.fit })
+    s.memory false
 
 -- 58h with AL = 1, by the strategy with the number in BX: it becomes the allocation strategy, CF = 0, and AX and memory
 -- stay; error 1, and the strategy stays, if there is none

@@ -85,7 +85,10 @@ pub(crate) fn load_program(parts: &mut Parts)
 /// Where the first program has ended, keeps its code, counts the step and returns `Exited`. Where the block list was
 /// destroyed, changes nothing and returns `Destroyed`.
 fn conclude(parts: &mut Parts, ended: Result<Ending, ArenaDestroyed>, code: u8) -> Option<Stop>
-    ensures answer { record { stop = result; state = parts.new } ≡ concluded parts.old code ended parts.old.processes parts.old.cpu parts.old.memory }
+    ensures answer { record {
+      stop = result;
+      state = parts.new;
+    } ≡ concluded parts.old code ended parts.old.processes parts.old.cpu parts.old.memory }
     ensures program { parts.new.processes ≡ parts.old.processes }
 {
     match ended {

@@ -127,7 +127,8 @@ fn tell_strategy(parts: &mut Parts)
 /// 58h with AL = 1: sets the allocation strategy to that with the number in BX; error 1, and the strategy stays, if
 /// there is none with that number. AX stays on success.
 fn set_strategy(parts: &mut Parts)
-    ensures { parts.new ≡ (Strategies.set_to parts.old (Strategies.strategy_of parts.old.upper parts.old.cpu.bx)).state }
+    ensures { parts.new ≡ (Strategies.set_to parts.old (Strategies.strategy_of parts.old.upper
+        parts.old.cpu.bx)).state }
 {
     match strategy_of(parts.cpu.bx, parts.upper) {
         Some(strategy) => {
@@ -178,7 +179,10 @@ fn make_link(parts: &mut Parts, on: bool)
 /// 58h with AL = 3: links the arena with upper memory (BX = 1), or unlinks it (BX = 0). Error 1 for any other BX, or if
 /// upper memory does not belong to the arena.
 fn set_link(parts: &mut Parts)
-    ensures { SetsLink (Strategies.wanted parts.old.upper parts.old.cpu.bx) parts.old (record { stop = None; state = parts.new }) }
+    ensures { SetsLink (Strategies.wanted parts.old.upper parts.old.cpu.bx) parts.old (record {
+      stop = None;
+      state = parts.new;
+    }) }
 {
     match wanted(parts.cpu.bx, parts.upper) {
         Some(on) => make_link(parts, on),
@@ -188,7 +192,10 @@ fn set_link(parts: &mut Parts)
 
 /// 58h: gets or sets the allocation strategy, or the link with upper memory, by AL; error 1 for an AL above 3.
 pub(crate) fn allocation_strategy(parts: &mut Parts)
-    ensures { StrategyCalls parts.old (Strategies.subfunction_of (byte_of parts.old.cpu Al)) (record { stop = None; state = parts.new }) }
+    ensures { StrategyCalls parts.old (Strategies.subfunction_of (byte_of parts.old.cpu Al)) (record {
+      stop = None;
+      state = parts.new;
+    }) }
 {
     match subfunction_of(parts.cpu.byte(ByteRegister::Al)) {
         StrategyFunction::TellStrategy => tell_strategy(parts),

@@ -30,7 +30,8 @@ get-values f a (suc n) zero h = ap f (omega arith)
 get-values f a (suc n) (suc i) h = get-values f (suc a) n i (omega arith) ∙ ap f (omega arith)
 
 pub values-more : (f : ℕ → ℕ) (a n k : ℕ) → values f a (n + k) ≡ values f a n ++ values f (a + n) k
-values-more f a zero k = let e : zero + k ≡ k = omega arith in let d : a ≡ a + zero = omega arith in ap (values f a) e ∙ ap (λ b. values f b k) d
+values-more f a zero k = let e : zero + k ≡ k = omega arith in let d : a ≡ a + zero = omega arith in ap (values f a) e
+    ∙ ap (λ b. values f b k) d
 values-more f a (suc n) k =
     let e : suc n + k ≡ suc (n + k) = omega arith in let d : suc a + n ≡ a + suc n = omega arith in
     ap (values f a) e ∙ ap (λ l. f a ∷ l) (values-more f (suc a) n k ∙ ap (λ b. values f (suc a) n ++ values f b k) d)
@@ -38,21 +39,25 @@ values-more f a (suc n) k =
 get-part : (xs : List ℕ) (b n i : ℕ) → i < n → get_or (part xs b n) i 0 ≡ get_or xs (b + i) 0
 get-part xs b n i h = get_or-take n (drop b xs) i 0 h ∙ get_or-drop b xs i 0
 
-pub values-part : (f : ℕ → ℕ) (a n : ℕ) (xs : List ℕ) (b : ℕ) → b + n ≤ length xs → ((i : ℕ) → i < n → f (a + i) ≡ get_or xs (b + i) 0) → values f a n ≡ part xs b n
+pub values-part : (f : ℕ → ℕ) (a n : ℕ) (xs : List ℕ) (b : ℕ) → b + n ≤ length xs →
+    ((i : ℕ) → i < n → f (a + i) ≡ get_or xs (b + i) 0) → values f a n ≡ part xs b n
 values-part f a n xs b fits same =
     ext_get_or 0 (values f a n) (part xs b n) (length-values f a n ∙ sym (part_length xs b n fits))
-    (λ i h. let low : i < n = omega (arith, length-values f a n, h) in get-values f a n i low ∙ same i low ∙ sym (get-part xs b n i low))
+    (λ i h. let low : i < n = omega (arith, length-values f a n, h) in get-values f a n i low ∙ same i low
+    ∙ sym (get-part xs b n i low))
 
 values-same : (f g : ℕ → ℕ) (a n b : ℕ) → ((i : ℕ) → i < n → f (a + i) ≡ g (b + i)) → values f a n ≡ values g b n
 values-same f g a n b same =
     ext_get_or 0 (values f a n) (values g b n) (length-values f a n ∙ sym (length-values g b n))
-    (λ i h. let low : i < n = omega (arith, length-values f a n, h) in get-values f a n i low ∙ same i low ∙ sym (get-values g b n i low))
+    (λ i h. let low : i < n = omega (arith, length-values f a n, h) in get-values f a n i low ∙ same i low
+    ∙ sym (get-values g b n i low))
 
 values-one : (f : ℕ → ℕ) (a n v : ℕ) → ((i : ℕ) → i < n → f (a + i) ≡ v) → values f a n ≡ replicate n v
 values-one f a n v same =
     let long : length (replicate n v) ≡ n = length-replicate n v in
     ext_get_or 0 (values f a n) (replicate n v) (length-values f a n ∙ sym long)
-    (λ i h. let low : i < n = omega (arith, length-values f a n, h) in get-values f a n i low ∙ same i low ∙ sym (get_or-replicate n i v 0 low))
+    (λ i h. let low : i < n = omega (arith, length-values f a n, h) in get-values f a n i low ∙ same i low
+    ∙ sym (get_or-replicate n i v 0 low))
 
 pub part-more : (xs : List ℕ) (at n k : ℕ) → part xs at (n + k) ≡ part xs at n ++ part xs (at + n) k
 part-more xs at n k = take-add n k (drop at xs) ∙ ap (λ l. part xs at n ++ take k l) (drop-drop n at xs)
@@ -60,10 +65,15 @@ part-more xs at n k = take-add n k (drop at xs) ∙ ap (λ l. part xs at n ++ ta
 -- places side by side: 4000h linear addresses from a multiple of 4000h on lie in one part of the map
 
 cell-same : (a i k : ℕ) → a % 0x4000 + i < 0x4000 → nat_lt (a + i) (0x4000 * k) ≡ nat_lt a (0x4000 * k)
-cell-same a i k h = elim (cases_lt a (0x4000 * k)) [ inl x ↦ let y : a + i < 0x4000 * k = omega arith in grind (arith, nat_tests) | inr x ↦ grind (arith, nat_tests) ]
+cell-same a i k h = elim (cases_lt a (0x4000 * k)) [
+  | inl x ↦ let y : a + i < 0x4000 * k = omega arith in
+      grind (arith, nat_tests)
+  | inr x ↦ grind (arith, nat_tests)
+]
 
 window-run : (w : List (Option ℕ)) (a i : ℕ) → a % 0x4000 + i < 0x4000 → 0xE0000 ≤ a
-    → shown (slice_index_or w ((a + i - 0xE0000) / 0x4000) None) ((a + i - 0xE0000) % 0x4000) ≡ shift (shown (slice_index_or w ((a - 0xE0000) / 0x4000) None) ((a - 0xE0000) % 0x4000)) i
+    → shown (slice_index_or w ((a + i - 0xE0000) / 0x4000) None) ((a + i - 0xE0000) % 0x4000)
+    ≡ shift (shown (slice_index_or w ((a - 0xE0000) / 0x4000) None) ((a - 0xE0000) % 0x4000)) i
 window-run w a i h high =
     let d = a - 0xE0000 in
     let x : a + i - 0xE0000 ≡ d + i = omega arith in
@@ -73,19 +83,63 @@ window-run w a i h high =
     rw (x, q, s) (shown-shift _ _ i)
 
 by-tests : (m : Memory) (a i : ℕ) → a % 0x4000 + i < 0x4000 → a + i < 0x10FFF0 → (b c d e f : Bool)
-    → nat_lt a 0xC0000 ≡ b → nat_lt a 0xD0000 ≡ c → nat_lt a 0xE0000 ≡ d → nat_lt a 0xF0000 ≡ e → nat_lt a 0x100000 ≡ f → place m (a + i) ≡ shift (place m a) i
+    → nat_lt a 0xC0000 ≡ b → nat_lt a 0xD0000 ≡ c → nat_lt a 0xE0000 ≡ d → nat_lt a 0xF0000 ≡ e →
+    nat_lt a 0x100000 ≡ f → place m (a + i) ≡ shift (place m a) i
 unfolding place
 by-tests m a i h top true c d e f eb ec ed ee ef = rw (cell-same a i 0x30 h, eb) refl
 by-tests m a i h top false true d e f eb ec ed ee ef = rw (cell-same a i 0x30 h, cell-same a i 0x34 h, eb, ec) refl
-by-tests m a i h top false false true e f eb ec ed ee ef = rw (cell-same a i 0x30 h, cell-same a i 0x34 h, cell-same a i 0x38 h, eb, ec, ed) refl
-by-tests m a i h top false false false true f eb ec ed ee ef = rw (cell-same a i 0x30 h, cell-same a i 0x34 h, cell-same a i 0x38 h, cell-same a i 0x3C h, eb, ec, ed, ee) (window-run m.windows a i h (grind (arith, nat_tests)))
-by-tests m a i h top false false false false true eb ec ed ee ef = (let low : 0xF0000 ≤ a = grind (arith, nat_tests) in rw (cell-same a i 0x30 h, cell-same a i 0x34 h, cell-same a i 0x38 h, cell-same a i 0x3C h, cell-same a i 0x40 h, eb, ec, ed, ee, ef) (ap Rom (omega arith)))
+by-tests m a i h top false false true e f eb ec ed ee ef = rw (
+  cell-same a i 0x30 h,
+  cell-same a i 0x34 h,
+  cell-same a i 0x38 h,
+  eb,
+  ec,
+  ed,
+) refl
+by-tests m a i h top false false false true f eb ec ed ee ef = rw (
+  cell-same a i 0x30 h,
+  cell-same a i 0x34 h,
+  cell-same a i 0x38 h,
+  cell-same a i 0x3C h,
+  eb,
+  ec,
+  ed,
+  ee,
+) (window-run m.windows a i h (grind (arith, nat_tests)))
+by-tests m a i h top false false false false true eb ec ed ee ef = (let low : 0xF0000 ≤ a = grind (arith, nat_tests) in
+    rw (
+      cell-same a i 0x30 h,
+      cell-same a i 0x34 h,
+      cell-same a i 0x38 h,
+      cell-same a i 0x3C h,
+      cell-same a i 0x40 h,
+      eb,
+      ec,
+      ed,
+      ee,
+      ef,
+    ) (ap Rom (omega arith)))
 by-tests m a i h top false false false false false eb ec ed ee ef = (
-    let one : nat_lt (a + i) 0x10FFF0 ≡ true = grind (arith, nat_tests) in let two : nat_lt a 0x10FFF0 ≡ true = grind (arith, nat_tests) in
-    rw (cell-same a i 0x30 h, cell-same a i 0x34 h, cell-same a i 0x38 h, cell-same a i 0x3C h, cell-same a i 0x40 h, eb, ec, ed, ee, ef, one, two) refl
+    let one : nat_lt (a + i) 0x10FFF0 ≡ true = grind (arith, nat_tests) in let two : nat_lt a 0x10FFF0 ≡ true =
+    grind (arith, nat_tests) in
+    rw (
+      cell-same a i 0x30 h,
+      cell-same a i 0x34 h,
+      cell-same a i 0x38 h,
+      cell-same a i 0x3C h,
+      cell-same a i 0x40 h,
+      eb,
+      ec,
+      ed,
+      ee,
+      ef,
+      one,
+      two,
+    ) refl
     )
 
-pub place-run : (m : Memory) (a i : ℕ) → a % 0x4000 + i < 0x4000 → a + i < 0x10FFF0 → place m (a + i) ≡ shift (place m a) i
+pub place-run : (m : Memory) (a i : ℕ) → a % 0x4000 + i < 0x4000 → a + i < 0x10FFF0 →
+    place m (a + i) ≡ shift (place m a) i
 place-run m a i h top = by-tests m a i h top _ _ _ _ _ refl refl refl refl refl
 
 -- the n places from p on are the memory's
@@ -99,7 +153,8 @@ IsRun m a p n = (i : ℕ) → i < n → place m (a + i) ≡ shift p i
 pub run-there : (m : Memory) (a : ℕ) (p : Place) (n : ℕ) → Fits m → IsRun m a p n → AreThere m p n
 run-there m a p n f r i h = subst (IsThere m) (r i h) (there-place m (a + i) f)
 
-pub run-of : (m : Memory) (a : ℕ) (p : Place) (n : ℕ) → place m a ≡ p → a % 0x4000 + n ≤ 0x4000 → a + n ≤ 0x10FFF0 → IsRun m a p n
+pub run-of : (m : Memory) (a : ℕ) (p : Place) (n : ℕ) → place m a ≡ p → a % 0x4000 + n ≤ 0x4000 → a + n ≤ 0x10FFF0 →
+    IsRun m a p n
 run-of m a p n e h top i low = place-run m a i (omega arith) (omega arith) ∙ ap (λ q. shift q i) e
 
 run-peek : (m : Memory) (a : ℕ) (p : Place) (n i : ℕ) → IsRun m a p n → i < n → peek m (a + i) ≡ byte_at m (shift p i)
@@ -111,9 +166,12 @@ low-fits m b n h t = let last = t (n - 1) (omega arith) in omega (arith, last, h
 pub page-fits : (m : Memory) (p k n : ℕ) → 0 < n → AreThere m (Page p k) n → k + n ≤ length (page_bytes m p)
 page-fits m p k n h t = let last = t (n - 1) (omega arith) in omega (arith, last.1, h)
 
-pub run-read : (m : Memory) (a : ℕ) (p : Place) (n : ℕ) → 0 < n → IsRun m a p n → AreThere m p n → bytes_read m a n ≡ run_bytes m p n
-run-read m a (Low b) n h r t = values-part (peek m) a n m.low b (low-fits m b n h t) (λ i low. run-peek m a (Low b) n i r low)
-run-read m a (Page p k) n h r t = values-part (peek m) a n (page_bytes m p) k (page-fits m p k n h t) (λ i low. run-peek m a (Page p k) n i r low)
+pub run-read : (m : Memory) (a : ℕ) (p : Place) (n : ℕ) → 0 < n → IsRun m a p n → AreThere m p n →
+    bytes_read m a n ≡ run_bytes m p n
+run-read m a (Low b) n h r t = values-part (peek m) a n m.low b (low-fits m b n h t)
+    (λ i low. run-peek m a (Low b) n i r low)
+run-read m a (Page p k) n h r t = values-part (peek m) a n (page_bytes m p) k (page-fits m p k n h t)
+    (λ i low. run-peek m a (Page p k) n i r low)
 run-read m a (Rom k) n h r t = values-same (peek m) rom a n k (λ i low. run-peek m a (Rom k) n i r low)
 run-read m a Nothing n h r t = values-one (peek m) a n 0xFF (λ i low. run-peek m a Nothing n i r low)
 
@@ -122,7 +180,8 @@ run-read m a Nothing n h r t = values-one (peek m) a n 0xFF (λ i low. run-peek 
 pub none-written : (xs : List ℕ) (b : ℕ) → with_part xs b 0 [] ≡ xs
 none-written xs b = let e : b + 0 ≡ b = omega arith in ap (λ k. take b xs ++ drop k xs) e ∙ take-append-drop b xs
 
-set-part : (xs vs : List ℕ) (b v k : ℕ) → b < length xs → suc b ≤ k → take (suc b) (set xs b v) ++ (vs ++ drop k (set xs b v)) ≡ take b xs ++ ((v ∷ vs) ++ drop k xs)
+set-part : (xs vs : List ℕ) (b v k : ℕ) → b < length xs → suc b ≤ k → take (suc b) (set xs b v)
+    ++ (vs ++ drop k (set xs b v)) ≡ take b xs ++ ((v ∷ vs) ++ drop k xs)
 set-part [] vs b v k h le = absurd (omega arith)
 set-part (x ∷ xs) vs zero v zero h le = absurd (omega arith)
 set-part (x ∷ xs) vs zero v (suc k) h le = refl
@@ -130,10 +189,12 @@ set-part (x ∷ xs) vs (suc b) v zero h le = absurd (omega arith)
 set-part (x ∷ xs) vs (suc b) v (suc k) h le = ap (λ l. x ∷ l) (set-part xs vs b v k (omega arith) (omega arith))
 
 -- a byte written, and the others behind it
-pub one-more : (xs vs : List ℕ) (b v : ℕ) → b < length xs → with_part (set xs b v) (suc b) (length vs) vs ≡ with_part xs b (suc (length vs)) (v ∷ vs)
+pub one-more : (xs vs : List ℕ) (b v : ℕ) → b < length xs → with_part (set xs b v) (suc b) (length vs) vs
+    ≡ with_part xs b (suc (length vs)) (v ∷ vs)
 one-more xs vs b v h =
     let e : suc b + length vs ≡ b + suc (length vs) = omega arith in
-    ap (λ k. take (suc b) (set xs b v) ++ (vs ++ drop k (set xs b v))) e ∙ set-part xs vs b v (b + suc (length vs)) h (omega arith)
+    ap (λ k. take (suc b) (set xs b v) ++ (vs ++ drop k (set xs b v))) e
+    ∙ set-part xs vs b v (b + suc (length vs)) h (omega arith)
 
 poke-at : (m : Memory) (a v : ℕ) (p : Place) (n : ℕ) → IsRun m a p n → 0 < n → poke m a v ≡ with_byte m (shift p 0) v
 unfolding poke
@@ -145,18 +206,21 @@ shift-more (Page p k) i = ap (Page p) (omega arith)
 shift-more (Rom k) i = ap Rom (omega arith)
 shift-more Nothing i = refl
 
-run-more : (m t : Memory) (a : ℕ) (p : Place) (n : ℕ) → t.windows ≡ m.windows → IsRun m a p (suc n) → IsRun t (suc a) (shift p 1) n
+run-more : (m t : Memory) (a : ℕ) (p : Place) (n : ℕ) → t.windows ≡ m.windows → IsRun m a p (suc n) →
+    IsRun t (suc a) (shift p 1) n
 run-more m t a p n w r i h =
     let e : suc a + i ≡ a + suc i = omega arith in
     place-windows m t (suc a + i) w ∙ ap (place m) e ∙ r (suc i) (omega arith) ∙ shift-more p i
 
-low-run : (vs : List ℕ) (m : Memory) (a b : ℕ) → IsRun m a (Low b) (length vs) → b + length vs ≤ length m.low → bytes_written m a vs ≡ with_run m (Low b) (length vs) vs
+low-run : (vs : List ℕ) (m : Memory) (a b : ℕ) → IsRun m a (Low b) (length vs) → b + length vs ≤ length m.low →
+    bytes_written m a vs ≡ with_run m (Low b) (length vs) vs
 low-run [] m a b r fits = ap (λ (l : List ℕ). record m { low = l }) (sym (none-written m.low b))
 low-run (v ∷ vs) m a b r fits =
     let t : Memory = record m { low = set m.low b v } in
     let here : b + 0 ≡ b = omega arith in
     let next : b + 1 ≡ suc b = omega arith in
-    let first : poke m a v ≡ t = poke-at m a v (Low b) (suc (length vs)) r (omega arith) ∙ ap (λ k. with_byte m (Low k) v) here in
+    let first : poke m a v ≡ t = poke-at m a v (Low b) (suc (length vs)) r (omega arith)
+    ∙ ap (λ k. with_byte m (Low k) v) here in
     let run = subst (λ k. IsRun t (suc a) (Low k) (length vs)) next (run-more m t a (Low b) (length vs) refl r) in
     ap (λ (x : Memory). bytes_written x (suc a) vs) first
     ∙ low-run vs t (suc a) (suc b) run (omega (arith, length-set m.low b v, fits))
@@ -170,9 +234,12 @@ same-content (c ∷ cs) (suc p) = ap (λ l. c ∷ l) (same-content cs p)
 with_contents : Memory → List (List ℕ) → Memory
 with_contents m cs = with_blocks m (record m.blocks { contents = cs })
 
-page-run : (vs : List ℕ) (m : Memory) (a p k : ℕ) → IsRun m a (Page p k) (length vs) → p < length m.blocks.contents → k + length vs ≤ length (page_bytes m p) → bytes_written m a vs ≡ with_run m (Page p k) (length vs) vs
+page-run : (vs : List ℕ) (m : Memory) (a p k : ℕ) → IsRun m a (Page p k) (length vs) → p < length m.blocks.contents →
+    k + length vs ≤ length (page_bytes m p) → bytes_written m a vs ≡ with_run m (Page p k) (length vs) vs
 unfolding with_contents
-page-run [] m a p k r live fits = ap (with_contents m) (sym (ap (set m.blocks.contents p) (none-written (page_bytes m p) k) ∙ same-content m.blocks.contents p))
+page-run [] m a p k r live fits =
+    ap (with_contents m) (sym (ap (set m.blocks.contents p) (none-written (page_bytes m p) k)
+    ∙ same-content m.blocks.contents p))
 page-run (v ∷ vs) m a p k r live fits =
     let xs = page_bytes m p in
     let cs = m.blocks.contents in
@@ -180,10 +247,16 @@ page-run (v ∷ vs) m a p k r live fits =
     let here : k + 0 ≡ k = omega arith in
     let next : k + 1 ≡ suc k = omega arith in
     let page : page_bytes t p ≡ set xs k v = get_or-set_same cs p (set xs k v) [] live in
-    let first : poke m a v ≡ t = poke-at m a v (Page p k) (suc (length vs)) r (omega arith) ∙ ap (λ j. with_byte m (Page p j) v) here in
+    let first : poke m a v ≡ t = poke-at m a v (Page p k) (suc (length vs)) r (omega arith)
+    ∙ ap (λ j. with_byte m (Page p j) v) here in
     let run = subst (λ j. IsRun t (suc a) (Page p j) (length vs)) next (run-more m t a (Page p k) (length vs) refl r) in
     ap (λ (x : Memory). bytes_written x (suc a) vs) first
-    ∙ page-run vs t (suc a) p (suc k) run (omega (arith, length-set cs p (set xs k v), live)) (omega (arith, ap length page, length-set xs k v, fits))
+    ∙ page-run vs t (suc a) p (suc k) run (omega (arith, length-set cs p (set xs k v), live)) (omega (
+      arith,
+      ap length page,
+      length-set xs k v,
+      fits,
+    ))
     ∙ ap (λ (ys : List ℕ). with_contents m (set (set cs p (set xs k v)) p (with_part ys (suc k) (length vs) vs))) page
     ∙ ap (with_contents m) (set_twice cs p (set xs k v) (with_part (set xs k v) (suc k) (length vs) vs))
     ∙ ap (λ (ys : List ℕ). with_contents m (set cs p ys)) (one-more xs vs k v (omega (arith, fits)))
@@ -200,15 +273,18 @@ nothing-run (v ∷ vs) m a r =
     ap (λ (x : Memory). bytes_written x (suc a) vs) (poke-at m a v Nothing (suc (length vs)) r (omega arith))
     ∙ nothing-run vs m (suc a) (run-more m m a Nothing (length vs) refl r)
 
-pub run-written : (vs : List ℕ) (m : Memory) (a : ℕ) (p : Place) → 0 < length vs → IsRun m a p (length vs) → AreThere m p (length vs) → bytes_written m a vs ≡ with_run m p (length vs) vs
+pub run-written : (vs : List ℕ) (m : Memory) (a : ℕ) (p : Place) → 0 < length vs → IsRun m a p (length vs) →
+    AreThere m p (length vs) → bytes_written m a vs ≡ with_run m p (length vs) vs
 run-written vs m a (Low b) h r t = low-run vs m a b r (low-fits m b (length vs) h t)
-run-written vs m a (Page p k) h r t = (let fits = page-fits m p k (length vs) h t in page-run vs m a p k r (page-there m.blocks.contents p 0 (omega (arith, fits, h))) fits)
+run-written vs m a (Page p k) h r t = (let fits = page-fits m p k (length vs) h t in
+    page-run vs m a p k r (page-there m.blocks.contents p 0 (omega (arith, fits, h))) fits)
 run-written vs m a (Rom k) h r t = rom-run vs m a k r
 run-written vs m a Nothing h r t = nothing-run vs m a r
 
 -- what is read of a run, or written to it, in the words of a copy
 
-module _ (h : Held) (a n : ℕ) (p : Place) (is : IsHeld h) (at-p : place h.memory a ≡ p) (some : 0 < n) (cell : a % 0x4000 + n ≤ 0x4000) (top : a + n ≤ 0x10FFF0) where
+module _ (h : Held) (a n : ℕ) (p : Place) (is : IsHeld h) (at-p : place h.memory a ≡ p) (some : 0
+    < n) (cell : a % 0x4000 + n ≤ 0x4000) (top : a + n ≤ 0x10FFF0) where
   runs : IsRun h.memory a p n
   runs = run-of h.memory a p n at-p cell top
 
@@ -216,14 +292,17 @@ module _ (h : Held) (a n : ℕ) (p : Place) (is : IsHeld h) (at-p : place h.memo
   all-there = run-there h.memory a p n is.fits runs
 
   pub in-run : (at : ℕ) → record h { scratch = with_part h.scratch at n (run_bytes h.memory p n) } ≡ copied_in h a at n
-  in-run at = ap (λ (xs : List ℕ). record h { scratch = with_part h.scratch at n xs }) (sym (run-read h.memory a p n some runs all-there))
+  in-run at = ap (λ (xs : List ℕ). record h { scratch = with_part h.scratch at n xs })
+      (sym (run-read h.memory a p n some runs all-there))
 
-  pub out-run : (at : ℕ) → at + n ≤ length h.scratch → record h { memory = with_run h.memory p n (part h.scratch at n) } ≡ copied_out h at a n
+  pub out-run : (at : ℕ) → at + n ≤ length h.scratch → record h { memory = with_run h.memory p n (part h.scratch at n) }
+      ≡ copied_out h at a n
   out-run at fits =
       let vs = part h.scratch at n in
       let long : length vs ≡ n = part_length h.scratch at n fits in
       let back : n ≡ length vs = sym long in
-      let done = run-written vs h.memory a p (omega (arith, some, long)) (subst (IsRun h.memory a p) back runs) (subst (AreThere h.memory p) back all-there) in
+      let done = run-written vs h.memory a p (omega (arith, some, long)) (subst (IsRun h.memory a p) back runs)
+      (subst (AreThere h.memory p) back all-there) in
       ap (λ (m : Memory). record h { memory = m }) (sym (done ∙ ap (λ k. with_run h.memory p k vs) long))
 
 pub rom-fits : (m : Memory) (k n : ℕ) → 0 < n → AreThere m (Rom k) n → k + n ≤ 0x10000
@@ -231,35 +310,49 @@ rom-fits m k n h t = let last = t (n - 1) (omega arith) in omega (arith, last, h
 
 -- one copy after another
 
-writes-more : (xs ys : List ℕ) (m : Memory) (a : ℕ) → bytes_written m a (xs ++ ys) ≡ bytes_written (bytes_written m a xs) (a + length xs) ys
+writes-more : (xs ys : List ℕ) (m : Memory) (a : ℕ) → bytes_written m a (xs ++ ys)
+    ≡ bytes_written (bytes_written m a xs) (a + length xs) ys
 writes-more [] ys m a = let e : a ≡ a + 0 = omega arith in ap (λ b. bytes_written m b ys) e
-writes-more (x ∷ xs) ys m a = let e : suc a + length xs ≡ a + suc (length xs) = omega arith in writes-more xs ys (poke m a x) (suc a) ∙ ap (λ b. bytes_written (bytes_written (poke m a x) (suc a) xs) b ys) e
+writes-more (x ∷ xs) ys m a = let e : suc a + length xs ≡ a + suc (length xs) = omega arith in
+    writes-more xs ys (poke m a x) (suc a) ∙ ap (λ b. bytes_written (bytes_written (poke m a x) (suc a) xs) b ys) e
 
 pub in-none : (h : Held) (a at : ℕ) → h ≡ copied_in h a at 0
 in-none h a at = ap (λ (s : List ℕ). record h { scratch = s }) (sym (none-written h.scratch at))
 
-pub in-more : (h : Held) (a at n k : ℕ) → at + n + k ≤ length h.scratch → copied_in (copied_in h a at n) (a + n) (at + n) k ≡ copied_in h a at (n + k)
+pub in-more : (h : Held) (a at n k : ℕ) → at + n + k ≤ length h.scratch →
+    copied_in (copied_in h a at n) (a + n) (at + n) k ≡ copied_in h a at (n + k)
 in-more h a at n k fits =
     ap (λ (s : List ℕ). record h { scratch = s })
-    (twice h.scratch (bytes_read h.memory a n) (bytes_read h.memory (a + n) k) at n k (length-values (peek h.memory) a n) (length-values (peek h.memory) (a + n) k) fits
+    (twice h.scratch (bytes_read h.memory a n) (bytes_read h.memory (a + n) k) at n k
+    (length-values (peek h.memory) a n) (length-values (peek h.memory) (a + n) k) fits
     ∙ ap (with_part h.scratch at (n + k)) (sym (values-more (peek h.memory) a n k)))
 
 pub out-none : (h : Held) (a at : ℕ) → h ≡ copied_out h at a 0
 out-none h a at = refl
 
-pub out-more : (h : Held) (a at n k : ℕ) → at + n ≤ length h.scratch → copied_out (copied_out h at a n) (at + n) (a + n) k ≡ copied_out h at a (n + k)
+pub out-more : (h : Held) (a at n k : ℕ) → at + n ≤ length h.scratch →
+    copied_out (copied_out h at a n) (at + n) (a + n) k ≡ copied_out h at a (n + k)
 out-more h a at n k fits =
     let e : a + n ≡ a + length (part h.scratch at n) = omega (arith, part_length h.scratch at n fits) in
     ap (λ (m : Memory). record h { memory = m })
     (ap (λ b. bytes_written (bytes_written h.memory a (part h.scratch at n)) b (part h.scratch (at + n) k)) e
-    ∙ sym (ap (bytes_written h.memory a) (part-more h.scratch at n k) ∙ writes-more (part h.scratch at n) (part h.scratch (at + n) k) h.memory a))
+    ∙ sym (ap (bytes_written h.memory a) (part-more h.scratch at n k)
+    ∙ writes-more (part h.scratch at n) (part h.scratch (at + n) k) h.memory a))
 
 -- one more value written behind others
-pub one-value : (f : ℕ → ℕ) (xs : List ℕ) (at a n : ℕ) → at + n < length xs → set (with_part xs at n (values f a n)) (at + n) (f (a + n)) ≡ with_part xs at (n + 1) (values f a (n + 1))
+pub one-value : (f : ℕ → ℕ) (xs : List ℕ) (at a n : ℕ) → at + n < length xs →
+    set (with_part xs at n (values f a n)) (at + n) (f (a + n)) ≡ with_part xs at (n + 1) (values f a (n + 1))
 one-value f xs at a n fits =
     let ys = with_part xs at n (values f a n) in
-    let long : length ys ≡ length xs = length-with_part xs (values f a n) at n (omega (arith, fits)) (length-values f a n) in
-    sym (none-written (set ys (at + n) (f (a + n))) (suc (at + n))) ∙ one-more ys [] (at + n) (f (a + n)) (omega (arith, long, fits))
+    let long : length ys ≡ length xs = length-with_part xs (values f a n) at n (omega (
+      arith,
+      fits,
+    )) (length-values f a n) in
+    sym (none-written (set ys (at + n) (f (a + n))) (suc (at + n))) ∙ one-more ys [] (at + n) (f (a + n)) (omega (
+      arith,
+      long,
+      fits,
+    ))
     ∙ twice xs (values f a n) (f (a + n) ∷ []) at n 1 (length-values f a n) refl (omega (arith, fits))
     ∙ ap (with_part xs at (n + 1)) (sym (values-more f a n 1))
 
@@ -269,7 +362,8 @@ rom-past k h = grind (arith, nat_tests)
 
 -- the ROM's bytes up to the last that is not empty, and empty ones behind
 pub rom-split : (xs : List ℕ) (at o len n : ℕ) → n ≡ min (0x1021 - o) len → at + len ≤ length xs
-    → with_part (with_part xs at n (values rom o n)) (at + n) (len - n) (replicate (len - n) 0xFF) ≡ with_part xs at len (values rom o len)
+    → with_part (with_part xs at n (values rom o n)) (at + n) (len - n) (replicate (len - n) 0xFF)
+    ≡ with_part xs at len (values rom o len)
 rom-split xs at o len n e fits =
     let k = len - n in
     let whole : n + k ≡ len = omega (arith, e) in

@@ -25,7 +25,15 @@ pub place-shaped : (S T : Memory) → IsShaped S T → (a : ℕ) → place T a �
 place-shaped S T s a = place-windows S T a s.windows
 
 pub shaped-same : (S : Memory) → IsShaped S S
-shaped-same S = record { a20 = refl; windows = refl; ram_size = refl; units = refl; places = refl; page_count = refl; page_sizes = λ page. refl }
+shaped-same S = record {
+  a20 = refl;
+  windows = refl;
+  ram_size = refl;
+  units = refl;
+  places = refl;
+  page_count = refl;
+  page_sizes = λ page. refl;
+}
 
 pub shaped-then : (S T U : Memory) → IsShaped S T → IsShaped T U → IsShaped S U
 shaped-then S T U s t = record {
@@ -42,19 +50,22 @@ set-other : (xs : List ℕ) (i k v : ℕ) → k ≢ i → get_or (set xs i v) k 
 set-other xs i k v ne = rw get_or-set_other refl
 
 -- a list of pages with one byte of one page set
-page_set-length : (pages : List (List ℕ)) (p i v q : ℕ) → length (get_or (set pages p (set (get_or pages p []) i v)) q []) ≡ length (get_or pages q [])
+page_set-length : (pages : List (List ℕ)) (p i v q : ℕ) →
+    length (get_or (set pages p (set (get_or pages p []) i v)) q []) ≡ length (get_or pages q [])
 page_set-length [] p i v q = refl
 page_set-length (xs ∷ pages) zero i v zero = length-set xs i v
 page_set-length (xs ∷ pages) zero i v (suc q) = refl
 page_set-length (xs ∷ pages) (suc p) i v zero = refl
 page_set-length (xs ∷ pages) (suc p) i v (suc q) = page_set-length pages p i v q
 
-page_set-same : (pages : List (List ℕ)) (p i v : ℕ) → p < length pages → i < length (get_or pages p []) → get_or (get_or (set pages p (set (get_or pages p []) i v)) p []) i 0 ≡ v
+page_set-same : (pages : List (List ℕ)) (p i v : ℕ) → p < length pages → i < length (get_or pages p []) →
+    get_or (get_or (set pages p (set (get_or pages p []) i v)) p []) i 0 ≡ v
 page_set-same [] p i v h j = absurd (omega arith)
 page_set-same (xs ∷ pages) zero i v h j = rw (get_or-set_same xs i v 0 j) refl
 page_set-same (xs ∷ pages) (suc p) i v h j = page_set-same pages p i v (omega arith) j
 
-page_set-other : (pages : List (List ℕ)) (p i v q k : ℕ) → (q ≡ p → k ≢ i) → get_or (get_or (set pages p (set (get_or pages p []) i v)) q []) k 0 ≡ get_or (get_or pages q []) k 0
+page_set-other : (pages : List (List ℕ)) (p i v q k : ℕ) → (q ≡ p → k ≢ i) →
+    get_or (get_or (set pages p (set (get_or pages p []) i v)) q []) k 0 ≡ get_or (get_or pages q []) k 0
 page_set-other [] p i v q k ne = refl
 page_set-other (xs ∷ pages) zero i v zero k ne = set-other xs i k v (ne refl)
 page_set-other (xs ∷ pages) zero i v (suc q) k ne = refl
@@ -68,8 +79,24 @@ page-there (xs ∷ pages) zero k h = omega arith
 page-there (xs ∷ pages) (suc p) k h = let more = page-there pages p k h in omega arith
 
 pub shaped-with : (S : Memory) (p : Place) (v : ℕ) → IsShaped S (with_byte S p v)
-shaped-with S (Low a) v = record { a20 = refl; windows = refl; ram_size = length-set S.low a v; units = refl; places = refl; page_count = refl; page_sizes = λ page. refl }
-shaped-with S (Page p k) v = record { a20 = refl; windows = refl; ram_size = refl; units = refl; places = refl; page_count = length-set S.blocks.contents p (set (page_bytes S p) k v); page_sizes = λ page. page_set-length S.blocks.contents p k v page }
+shaped-with S (Low a) v = record {
+  a20 = refl;
+  windows = refl;
+  ram_size = length-set S.low a v;
+  units = refl;
+  places = refl;
+  page_count = refl;
+  page_sizes = λ page. refl;
+}
+shaped-with S (Page p k) v = record {
+  a20 = refl;
+  windows = refl;
+  ram_size = refl;
+  units = refl;
+  places = refl;
+  page_count = length-set S.blocks.contents p (set (page_bytes S p) k v);
+  page_sizes = λ page. page_set-length S.blocks.contents p k v page;
+}
 shaped-with S (Rom k) v = shaped-same S
 shaped-with S Nothing v = shaped-same S
 
@@ -94,11 +121,13 @@ kept-with S (Page p i) Nothing v ne = refl
 kept-with S (Rom i) q v ne = refl
 kept-with S Nothing q v ne = refl
 
-there-window : (m : Memory) (w : Option ℕ) (k : ℕ) → IfSome w (λ page. IsPage m page) → k < 0x4000 → IsThere m (shown w k)
+there-window : (m : Memory) (w : Option ℕ) (k : ℕ) → IfSome w (λ page. IsPage m page) → k < 0x4000 →
+    IsThere m (shown w k)
 there-window m None k e h = tt
 there-window m (Some page) k e h = (e.0, omega (arith, e.1, h))
 
-there-either : (m : Memory) (b : Bool) (p q : Place) → (b ≡ true → IsThere m p) → (b ≡ false → IsThere m q) → IsThere m (if b then p else q)
+there-either : (m : Memory) (b : Bool) (p q : Place) → (b ≡ true → IsThere m p) → (b ≡ false → IsThere m q) →
+    IsThere m (if b then p else q)
 there-either m true p q h k = h refl
 there-either m false p q h k = k refl
 
@@ -110,7 +139,8 @@ there-place m a f =
     there-either m (nat_lt a 0xC0000) (Low a) _ (λ h. grind (arith, nat_tests)) (λ _.
     there-either m (nat_lt a 0xD0000) Nothing _ (λ _. tt) (λ _.
     there-either m (nat_lt a 0xE0000) (Low a) _ (λ h. grind (arith, nat_tests)) (λ _.
-    there-either m (nat_lt a 0xF0000) _ _ (λ _. there-window m _ _ (f.pages_there ((a - 0xE0000) / 0x4000)) (omega arith)) (λ _.
+    there-either m (nat_lt a 0xF0000) _ _ (λ _. there-window m _ _ (f.pages_there ((a - 0xE0000) / 0x4000))
+    (omega arith)) (λ _.
     there-either m (nat_lt a 0x100000) (Rom (a - 0xF0000)) _ (λ h. grind (arith, nat_tests)) (λ _.
     there-either m (nat_lt a 0x10FFF0) (Low a) Nothing (λ h. grind (arith, nat_tests)) (λ _. tt))))))
 
@@ -171,22 +201,87 @@ shown-aligned : (o : Option ℕ) (k : ℕ) → k % 16 ≡ 0 → IsAligned (shown
 shown-aligned None k e = tt
 shown-aligned (Some p) k e = e
 
-window-shift : (w : List (Option ℕ)) (h i : ℕ) → i < 16 → 0xE0000 ≤ 16 * h → shown (slice_index_or w ((16 * h + i - 0xE0000) / 0x4000) None) ((16 * h + i - 0xE0000) % 0x4000) ≡ shift (shown (slice_index_or w ((16 * h - 0xE0000) / 0x4000) None) ((16 * h - 0xE0000) % 0x4000)) i
+window-shift : (w : List (Option ℕ)) (h i : ℕ) → i < 16 → 0xE0000 ≤ 16 * h →
+    shown (slice_index_or w ((16 * h + i - 0xE0000) / 0x4000) None) ((16 * h + i - 0xE0000) % 0x4000)
+    ≡ shift (shown (slice_index_or w ((16 * h - 0xE0000) / 0x4000) None) ((16 * h - 0xE0000) % 0x4000)) i
 window-shift w h i small high =
     let m = h - 0xE000 in
     let a : 16 * h + i - 0xE0000 ≡ 16 * m + i = omega arith in
     let b : 16 * h - 0xE0000 ≡ 16 * m = omega arith in
     rw (a, b, quotient-same m i small, rest-more m i small) (shown-shift _ _ i)
 
-by-tests : (m : Memory) (h i : ℕ) → i < 16 → (a b c d e f : Bool) → nat_lt (16 * h) 0xC0000 ≡ a → nat_lt (16 * h) 0xD0000 ≡ b → nat_lt (16 * h) 0xE0000 ≡ c → nat_lt (16 * h) 0xF0000 ≡ d → nat_lt (16 * h) 0x100000 ≡ e → nat_lt (16 * h) 0x10FFF0 ≡ f → place m (16 * h + i) ≡ shift (place m (16 * h)) i
+by-tests : (m : Memory) (h i : ℕ) → i < 16 → (a b c d e f : Bool) → nat_lt (16 * h) 0xC0000 ≡ a →
+    nat_lt (16 * h) 0xD0000 ≡ b → nat_lt (16 * h) 0xE0000 ≡ c → nat_lt (16 * h) 0xF0000 ≡ d →
+    nat_lt (16 * h) 0x100000 ≡ e → nat_lt (16 * h) 0x10FFF0 ≡ f → place m (16 * h + i) ≡ shift (place m (16 * h)) i
 unfolding place
 by-tests m h i small true b c d e f ea eb ec ed ee ef = rw (test-same h i 0xC000 small, ea) refl
-by-tests m h i small false true c d e f ea eb ec ed ee ef = rw (test-same h i 0xC000 small, test-same h i 0xD000 small, ea, eb) refl
-by-tests m h i small false false true d e f ea eb ec ed ee ef = rw (test-same h i 0xC000 small, test-same h i 0xD000 small, test-same h i 0xE000 small, ea, eb, ec) refl
-by-tests m h i small false false false true e f ea eb ec ed ee ef = rw (test-same h i 0xC000 small, test-same h i 0xD000 small, test-same h i 0xE000 small, test-same h i 0xF000 small, ea, eb, ec, ed) (window-shift m.windows h i small (grind (arith, nat_tests)))
-by-tests m h i small false false false false true f ea eb ec ed ee ef = (let low : 0xF0000 ≤ 16 * h = grind (arith, nat_tests) in rw (test-same h i 0xC000 small, test-same h i 0xD000 small, test-same h i 0xE000 small, test-same h i 0xF000 small, test-same h i 0x10000 small, ea, eb, ec, ed, ee) (ap Rom (omega arith)))
-by-tests m h i small false false false false false true ea eb ec ed ee ef = rw (test-same h i 0xC000 small, test-same h i 0xD000 small, test-same h i 0xE000 small, test-same h i 0xF000 small, test-same h i 0x10000 small, test-same h i 0x10FFF small, ea, eb, ec, ed, ee, ef) refl
-by-tests m h i small false false false false false false ea eb ec ed ee ef = rw (test-same h i 0xC000 small, test-same h i 0xD000 small, test-same h i 0xE000 small, test-same h i 0xF000 small, test-same h i 0x10000 small, test-same h i 0x10FFF small, ea, eb, ec, ed, ee, ef) refl
+by-tests m h i small false true c d e f ea eb ec ed ee ef = rw (
+  test-same h i 0xC000 small,
+  test-same h i 0xD000 small,
+  ea,
+  eb,
+) refl
+by-tests m h i small false false true d e f ea eb ec ed ee ef = rw (
+  test-same h i 0xC000 small,
+  test-same h i 0xD000 small,
+  test-same h i 0xE000 small,
+  ea,
+  eb,
+  ec,
+) refl
+by-tests m h i small false false false true e f ea eb ec ed ee ef = rw (
+  test-same h i 0xC000 small,
+  test-same h i 0xD000 small,
+  test-same h i 0xE000 small,
+  test-same h i 0xF000 small,
+  ea,
+  eb,
+  ec,
+  ed,
+) (window-shift m.windows h i small (grind (arith, nat_tests)))
+by-tests m h i small false false false false true f ea eb ec ed ee ef =
+    (let low : 0xF0000 ≤ 16 * h = grind (arith, nat_tests) in rw (
+      test-same h i 0xC000 small,
+      test-same h i 0xD000 small,
+      test-same h i 0xE000 small,
+      test-same h i 0xF000 small,
+      test-same h i 0x10000 small,
+      ea,
+      eb,
+      ec,
+      ed,
+      ee,
+    ) (ap Rom (omega arith)))
+by-tests m h i small false false false false false true ea eb ec ed ee ef =
+    rw (
+      test-same h i 0xC000 small,
+      test-same h i 0xD000 small,
+      test-same h i 0xE000 small,
+      test-same h i 0xF000 small,
+      test-same h i 0x10000 small,
+      test-same h i 0x10FFF small,
+      ea,
+      eb,
+      ec,
+      ed,
+      ee,
+      ef,
+    ) refl
+by-tests m h i small false false false false false false ea eb ec ed ee ef =
+    rw (
+      test-same h i 0xC000 small,
+      test-same h i 0xD000 small,
+      test-same h i 0xE000 small,
+      test-same h i 0xF000 small,
+      test-same h i 0x10000 small,
+      test-same h i 0x10FFF small,
+      ea,
+      eb,
+      ec,
+      ed,
+      ee,
+      ef,
+    ) refl
 
 -- the bytes of a paragraph have places side by side
 paragraph-shift : (m : Memory) (h i : ℕ) → i < 16 → place m (16 * h + i) ≡ shift (place m (16 * h)) i
@@ -202,7 +297,8 @@ paragraph-aligned m h =
     aligned-either (nat_lt (16 * h) 0xC0000) (Low (16 * h)) _ (omega arith) (λ _.
     aligned-either (nat_lt (16 * h) 0xD0000) Nothing _ tt (λ _.
     aligned-either (nat_lt (16 * h) 0xE0000) (Low (16 * h)) _ (omega arith) (λ k.
-    aligned-either (nat_lt (16 * h) 0xF0000) _ _ (shown-aligned _ _ (let high : 0xE0000 ≤ 16 * h = grind (arith, nat_tests) in omega arith)) (λ _.
+    aligned-either (nat_lt (16 * h) 0xF0000) _ _ (shown-aligned _ _ (let high : 0xE0000 ≤ 16 * h =
+    grind (arith, nat_tests) in omega arith)) (λ _.
     aligned-either (nat_lt (16 * h) 0x100000) (Rom (16 * h - 0xF0000)) _ tt (λ _.
     aligned-either (nat_lt (16 * h) 0x10FFF0) (Low (16 * h)) Nothing (omega arith) (λ _. tt))))))
 
@@ -213,8 +309,10 @@ shift-writable (Rom a) i w = w
 shift-writable Nothing i w = w
 
 -- where a paragraph's first byte is kept, all of its bytes are
-pub paragraph-writable : (m : Memory) (h i : ℕ) → i < 16 → IsWritable (place m (16 * h)) → IsWritable (place m (16 * h + i))
-paragraph-writable m h i small w = subst IsWritable (sym (paragraph-shift m h i small)) (shift-writable (place m (16 * h)) i w)
+pub paragraph-writable : (m : Memory) (h i : ℕ) → i < 16 → IsWritable (place m (16 * h)) →
+    IsWritable (place m (16 * h + i))
+paragraph-writable m h i small w = subst IsWritable (sym (paragraph-shift m h i small))
+    (shift-writable (place m (16 * h)) i w)
 
 page-first : (p k q i : ℕ) → Page p k ≡ Page q i → p ≡ q
 page-first p k q i e = cc
@@ -222,9 +320,12 @@ page-first p k q i e = cc
 page-second : (p k q i : ℕ) → Page p k ≡ Page q i → k ≡ i
 page-second p k q i e = cc
 
-shift-apart : (p q : Place) (i j : ℕ) → i < 16 → j < 16 → IsAligned p → IsAligned q → IsWritable p → shift p i ≡ shift q j → (p ≡ q) × (i ≡ j)
-shift-apart (Low a) (Low b) i j si sj ap' aq w e = (let x = low-injective (a + i) (b + j) e in (ap Low (omega arith), omega arith))
-shift-apart (Page p k) (Page q l) i j si sj ap' aq w e = (let x = page-second p (k + i) q (l + j) e in let y = page-first p (k + i) q (l + j) e in (page-of p k q l y (omega arith), omega arith))
+shift-apart : (p q : Place) (i j : ℕ) → i < 16 → j < 16 → IsAligned p → IsAligned q → IsWritable p →
+    shift p i ≡ shift q j → (p ≡ q) × (i ≡ j)
+shift-apart (Low a) (Low b) i j si sj ap' aq w e = (let x = low-injective (a + i) (b + j) e in
+    (ap Low (omega arith), omega arith))
+shift-apart (Page p k) (Page q l) i j si sj ap' aq w e = (let x = page-second p (k + i) q (l + j) e in let y =
+    page-first p (k + i) q (l + j) e in (page-of p k q l y (omega arith), omega arith))
 shift-apart (Low a) (Page q l) i j si sj ap' aq w e = absurd (cc)
 shift-apart (Low a) (Rom l) i j si sj ap' aq w e = absurd (cc)
 shift-apart (Low a) Nothing i j si sj ap' aq w e = absurd (cc)
@@ -235,12 +336,16 @@ shift-apart (Rom k) q i j si sj ap' aq w e = absurd w
 shift-apart Nothing q i j si sj ap' aq w e = absurd w
 
 -- two paragraphs have no byte at one place, or they have the same place
-pub paragraph-apart : (m : Memory) (h g i j : ℕ) → i < 16 → j < 16 → IsWritable (place m (16 * h)) → place m (16 * h + i) ≡ place m (16 * g + j) → (place m (16 * h) ≡ place m (16 * g)) × (i ≡ j)
+pub paragraph-apart : (m : Memory) (h g i j : ℕ) → i < 16 → j < 16 → IsWritable (place m (16 * h)) →
+    place m (16 * h + i) ≡ place m (16 * g + j) → (place m (16 * h) ≡ place m (16 * g)) × (i ≡ j)
 paragraph-apart m h g i j si sj w e =
-    shift-apart (place m (16 * h)) (place m (16 * g)) i j si sj (paragraph-aligned m h) (paragraph-aligned m g) w (sym (paragraph-shift m h i si) ∙ e ∙ paragraph-shift m g j sj)
+    shift-apart (place m (16 * h)) (place m (16 * g)) i j si sj (paragraph-aligned m h) (paragraph-aligned m g) w
+    (sym (paragraph-shift m h i si) ∙ e ∙ paragraph-shift m g j sj)
 
-pub poked-kept : (S : Memory) (a v : ℕ) (T : Memory) (c : ℕ) → IsPoked S a v T → place S c ≢ place S a → peek T c ≡ peek S c
-poked-kept S a v T c p ne = peek-place T c ∙ ap (byte_at T) (place-shaped S T p.shape c) ∙ p.kept _ ne ∙ sym (peek-place S c)
+pub poked-kept : (S : Memory) (a v : ℕ) (T : Memory) (c : ℕ) → IsPoked S a v T → place S c ≢ place S a →
+    peek T c ≡ peek S c
+poked-kept S a v T c p ne = peek-place T c ∙ ap (byte_at T) (place-shaped S T p.shape c) ∙ p.kept _ ne
+    ∙ sym (peek-place S c)
 
 nat-decide : (a b : ℕ) → (a ≡ b) ⊎ (a ≢ b)
 nat-decide a b = elim (cases_lt a b) [
@@ -253,8 +358,16 @@ rom-injective a b e = cc
 
 -- two places are one, or they are not
 pub place-decide : (p q : Place) → (p ≡ q) ⊎ (p ≢ q)
-place-decide (Low a) (Low b) = elim (nat-decide a b) [ inl e ↦ inl (ap Low e) | inr n ↦ inr (λ e. n (low-injective a b e)) ]
-place-decide (Rom a) (Rom b) = elim (nat-decide a b) [ inl e ↦ inl (ap Rom e) | inr n ↦ inr (λ e. n (rom-injective a b e)) ]
+place-decide (Low a) (Low b) = elim (nat-decide a b) [
+  | inl e ↦ inl (ap Low e)
+  | inr n ↦
+      inr (λ e. n (low-injective a b e))
+]
+place-decide (Rom a) (Rom b) = elim (nat-decide a b) [
+  | inl e ↦ inl (ap Rom e)
+  | inr n ↦
+      inr (λ e. n (rom-injective a b e))
+]
 place-decide (Page p k) (Page q i) = elim (nat-decide p q) [
   | inl e ↦ elim (nat-decide k i) [ inl f ↦ inl (page-of p k q i e f) | inr n ↦ inr (λ f. n (page-second p k q i f)) ]
   | inr n ↦ inr (λ f. n (page-first p k q i f))
@@ -277,9 +390,16 @@ place-decide Nothing (Rom b) = inr (λ e. absurd (cc))
 pub memory-same : (S T U : Memory) → IsShaped S T → IsShaped S U → ((p : Place) → byte_at T p ≡ byte_at U p) → T ≡ U
 memory-same S T U s t e =
     let low : T.low ≡ U.low = ext_get_or 0 T.low U.low (s.ram_size ∙ sym t.ram_size) (λ k h. e (Low k)) in
-    let pages : T.blocks.contents ≡ U.blocks.contents = ext_get_or [] T.blocks.contents U.blocks.contents (s.page_count ∙ sym t.page_count) (λ p h. ext_get_or 0 (page_bytes T p) (page_bytes U p) (s.page_sizes p ∙ sym (t.page_sizes p)) (λ k j. e (Page p k))) in
+    let pages : T.blocks.contents ≡ U.blocks.contents = ext_get_or [] T.blocks.contents U.blocks.contents (s.page_count
+    ∙ sym t.page_count) (λ p h. ext_get_or 0 (page_bytes T p) (page_bytes U p) (s.page_sizes p
+    ∙ sym (t.page_sizes p)) (λ k j. e (Page p k))) in
     let units : T.blocks.units ≡ U.blocks.units = s.units ∙ sym t.units in
     let places : T.blocks.places ≡ U.blocks.places = s.places ∙ sym t.places in
     let windows : T.windows ≡ U.windows = s.windows ∙ sym t.windows in
     let a20 : T.a20 ≡ U.a20 = s.a20 ∙ sym t.a20 in
-    λ i. record { low = low i; blocks = record { units = units i; places = places i; contents = pages i }; windows = windows i; a20 = a20 i }
+    λ i. record {
+      low = low i;
+      blocks = record { units = units i; places = places i; contents = pages i };
+      windows = windows i;
+      a20 = a20 i;
+    }

@@ -16,7 +16,8 @@ pub record LaidBelow (low ram : List ℕ) (n : ℕ) : Type 0 where
 pub laid-none : (low : List ℕ) → LaidBelow low low 0
 laid-none low = record { size = refl; done = λ a h. absurd (omega arith); rest = λ a h. refl }
 
-pub laid-more : (low ram : List ℕ) (n v : ℕ) → n < length low → v ≡ start_byte n → LaidBelow low ram n → LaidBelow low (set ram n v) (n + 1)
+pub laid-more : (low ram : List ℕ) (n v : ℕ) → n < length low → v ≡ start_byte n → LaidBelow low ram n →
+    LaidBelow low (set ram n v) (n + 1)
 laid-more low ram n v h e s =
     let size = s.size in
     record {
@@ -29,13 +30,18 @@ laid-more low ram n v h e s =
     }
 
 pub laid-all : (low ram : List ℕ) (n : ℕ) → n ≡ 0x1005 → LaidBelow low ram n → IsLaidOver low ram
-laid-all low ram n e s = record { size = s.size; laid = λ a h. s.done a (omega arith); rest = λ a h. s.rest a (omega arith) }
+laid-all low ram n e s = record {
+  size = s.size;
+  laid = λ a h. s.done a (omega arith);
+  rest = λ a h. s.rest a (omega arith);
+}
 
 zeros-get : (n a : ℕ) → get_or (zeros_of n) a 0 ≡ 0
 unfolding zeros_of
 zeros-get n a = elim (cases_lt a n) [
   | inl low ↦ get_or-replicate n a 0 0 low
-  | inr high ↦ let size : length {A = ℕ} (replicate n 0) ≡ n = length-replicate n 0 in get_or_past (replicate n 0) a 0 (omega arith)
+  | inr high ↦ let size : length {A = ℕ} (replicate n 0) ≡ n = length-replicate n 0 in
+      get_or_past (replicate n 0) a 0 (omega arith)
 ]
 
 zeros-length : (n : ℕ) → length (zeros_of n) ≡ n

@@ -30,9 +30,13 @@ copied_out h at a n = record h { memory = bytes_written h.memory a (part h.scrat
 -- h after the n bytes of a block from its byte `from` on have been copied into the scratch bytes from `at` on
 -- (Space.copy_block_in)
 abbrev pub block_copied_in : Held → ℕ → ℕ → ℕ → ℕ → Held
-block_copied_in h block from at n = record h { scratch = with_part h.scratch at n (part (page_bytes h.memory block) from n) }
+block_copied_in h block from at n =
+    record h { scratch = with_part h.scratch at n (part (page_bytes h.memory block) from n) }
 
 -- h after the n scratch bytes from `at` on have been copied into a block from its byte `to` on (Space.copy_block_out)
 abbrev pub block_copied_out : Held → ℕ → ℕ → ℕ → ℕ → Held
 block_copied_out h at block to n =
-    record h { memory = with_blocks h.memory (with_content h.memory.blocks block (with_part (page_bytes h.memory block) to n (part h.scratch at n))) }
+    record h {
+      memory = with_blocks h.memory (with_content h.memory.blocks block
+          (with_part (page_bytes h.memory block) to n (part h.scratch at n)));
+    }

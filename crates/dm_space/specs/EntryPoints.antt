@@ -53,4 +53,5 @@ entry_point_at_offset offset =
 unfoldable pub entry_point_at : ℕ → ℕ → Option EntryPoint
 entry_point_at segment offset =
     if segment == entry_segment then entry_point_at_offset offset else
-    if segment == expanded_memory_segment then (if offset == expanded_memory_offset then Some (Driver ExpandedMemory) else None) else None
+    if segment == expanded_memory_segment then (if offset == expanded_memory_offset then Some (Driver ExpandedMemory)
+    else None) else None

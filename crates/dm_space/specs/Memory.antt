@@ -35,7 +35,8 @@ place m a =
     if nat_lt a 0xC0000 then Low a else
     if nat_lt a 0xD0000 then Nothing else
     if nat_lt a 0xE0000 then Low a else
-    if nat_lt a 0xF0000 then shown (slice_index_or m.windows ((a - 0xE0000) / 0x4000) None) ((a - 0xE0000) % 0x4000) else
+    if nat_lt a 0xF0000 then shown (slice_index_or m.windows ((a - 0xE0000) / 0x4000) None) ((a - 0xE0000) % 0x4000)
+    else
     if nat_lt a 0x100000 then Rom (a - 0xF0000) else
     if nat_lt a 0x10FFF0 then Low a else Nothing
 

@@ -29,6 +29,7 @@ pub record IsShaped (S T : Memory) : Type 0 where
 -- addresses
 abbrev pub IsSpot : Memory → Place → ℕ → Type 0
 IsSpot m (Low a) spot = (a < 0x110000) × (spot ≡ a)
-IsSpot m (Page page k) spot = (b : Extent) × IsAt m.blocks page b × (k < b.units * 1024) × (spot ≡ 0x310000 + b.base * 1024 + k)
+IsSpot m (Page page k) spot = (b : Extent) × IsAt m.blocks page b × (k < b.units * 1024) ×
+    (spot ≡ 0x310000 + b.base * 1024 + k)
 IsSpot m (Rom k) spot = ⊥
 IsSpot m Nothing spot = ⊥

@@ -38,7 +38,8 @@ pub record IsUnseen (change : Memory → Memory) : Type 0 where
   pub peek_same : (m : Memory) (a : ℕ) → peek (change m) a ≡ peek m a
   pub poke_same : (m : Memory) (a v : ℕ) → poke (change m) a v ≡ change (poke m a v)
   pub shape_same : (S T : Memory) → IsShaped S T → IsShaped (change S) (change T)
-  pub byte_same : (S T : Memory) (p : Place) → IsShaped S T → byte_at T p ≡ byte_at S p → byte_at (change T) p ≡ byte_at (change S) p
+  pub byte_same : (S T : Memory) (p : Place) → IsShaped S T → byte_at T p ≡ byte_at S p →
+      byte_at (change T) p ≡ byte_at (change S) p
 
 -- other bytes in the blocks that no window shows are a change that no program sees
 abbrev pub UnseenPagesAreUnseen : Type 0

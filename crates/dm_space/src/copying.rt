@@ -95,7 +95,8 @@ impl Space {
     /// Copies `len` bytes of a block, from its byte `from` on, into the scratch bytes from `at` on. The memory and the
     /// other scratch bytes stay.
     pub fn copy_block_in(&mut self, block: Block, from: usize, at: usize, len: usize)
-        requires block { IsLive self.old.memory.blocks block × (from + len ≤ length (page_bytes self.old.memory block)) }
+        requires block { IsLive self.old.memory.blocks block × (from + len
+            ≤ length (page_bytes self.old.memory block)) }
         requires scratch { at + len ≤ 0x200000 }
         ensures { self.new ≡ block_copied_in self.old block from at len }
     {

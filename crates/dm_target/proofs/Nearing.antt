@@ -13,7 +13,8 @@ neither : (b x : Bool) → (if b then true else x) ≡ false → (b ≡ false) �
 neither true x e = absurd (false≢true (sym e))
 neither false x e = (refl, e)
 
-one_append : (ps qs : List Breakpoint) (s o : ℕ) → is_one_of (ps ++ qs) s o ≡ false → (is_one_of ps s o ≡ false) × (is_one_of qs s o ≡ false)
+one_append : (ps qs : List Breakpoint) (s o : ℕ) → is_one_of (ps ++ qs) s o ≡ false → (is_one_of ps s o ≡ false) ×
+    (is_one_of qs s o ≡ false)
 one_append [] qs s o e = (refl, e)
 one_append (p ∷ ps) qs s o e =
     let h = neither (p.offset == o && p.segment == s) (is_one_of (ps ++ qs) s o) e in
@@ -36,7 +37,8 @@ not_equal p q h = elim (cases_eq p q) [
   | inr other ↦ grind (arith, nat_tests)
 ]
 
-point_other : (a20 : Bool) (s o p : ℕ) → s < 65536 → o < 65536 → is_one_of (pairs_at s p) s o ≡ false → (p == linear a20 s o) ≡ false
+point_other : (a20 : Bool) (s o p : ℕ) → s < 65536 → o < 65536 → is_one_of (pairs_at s p) s o ≡ false →
+    (p == linear a20 s o) ≡ false
 point_other true s o p seg small e =
     let h = one_append (pair_at s p) (pair_at s (p + 1048576)) s o e in
     not_equal p (s * 16 + o) (pair_other s o p small h.0)
@@ -48,7 +50,8 @@ point_other false s o p seg small e =
     ])
 
 -- a place of a segment that is none of the pairs is at no breakpoint
-pub points_other : (points : List ℕ) (a20 : Bool) (s o : ℕ) → s < 65536 → o < 65536 → is_one_of (pairs_of s points) s o ≡ false → is_among points (linear a20 s o) ≡ false
+pub points_other : (points : List ℕ) (a20 : Bool) (s o : ℕ) → s < 65536 → o < 65536 →
+    is_one_of (pairs_of s points) s o ≡ false → is_among points (linear a20 s o) ≡ false
 points_other [] a20 s o seg small e = refl
 points_other (p ∷ ps) a20 s o seg small e =
     let h = one_append (pairs_at s p) (pairs_of s ps) s o e in

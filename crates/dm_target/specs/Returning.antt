@@ -19,7 +19,8 @@ Misses watches s = (t : State) → IsRun s 1 AllSteps t → Hits watches s t Non
 -- s is a hit, which is told as this: the step from it hits a watchpoint; or s stands at a breakpoint, and the step hits
 -- none
 pub data Meets (points : List ℕ) (watches : List Point) (s : State) : Undone → Type 0 where
-  hits : (point : Point) (t : State) → IsRun s 1 AllSteps t → Hits watches s t (Some point) → Meets points watches s (Hit point)
+  hits : (point : Point) (t : State) → IsRun s 1 AllSteps t → Hits watches s t (Some point) →
+      Meets points watches s (Hit point)
   stands : is_among points (code_address s) ≡ true → Misses watches s → Meets points watches s Back
 
 -- s is no hit
@@ -35,7 +36,9 @@ AreClear points watches p from end = (k : ℕ) (s : State) → from ≤ k → k 
 -- is none, it goes back to its beginning (`to_start`); where it stands there already, it stays (`begun`)
 pub data Returns (points : List ℕ) (watches : List Point) (p : Past) : Undone → Past → Type 0 where
   begun : p.machine.steps ≤ p.beginning.steps → Returns points watches p Begun p
-  to_start : (q : Past) → p.beginning.steps < p.machine.steps → GoesBack p p.beginning.steps q → AreClear points watches p p.beginning.steps p.machine.steps
+  to_start : (q : Past) → p.beginning.steps < p.machine.steps → GoesBack p p.beginning.steps q →
+      AreClear points watches p p.beginning.steps p.machine.steps
       → Returns points watches p Begun q
-  met : (k : ℕ) (what : Undone) (q : Past) → p.beginning.steps ≤ k → k < p.machine.steps → GoesBack p k q → Meets points watches q.machine what
+  met : (k : ℕ) (what : Undone) (q : Past) → p.beginning.steps ≤ k → k < p.machine.steps → GoesBack p k q →
+      Meets points watches q.machine what
       → AreClear points watches p (k + 1) p.machine.steps → Returns points watches p what q

@@ -19,9 +19,12 @@ use Rattle.dm_target.specs.Watching.{is_changed, is_touched}
 -- the first of these watchpoints, in their order, that the step from s hit, which led to t; None if it hit none. A
 -- service or driver acts in the step (`acted`), or an instruction is performed (`performed`)
 pub record HitBy (watches : List Point) (s t : State) (hit : Option Point) : Type 0 where
-  pub acted : (what : EntryPoint) → entry_point_at s.cpu.cs s.cpu.ip ≡ Some what → hit ≡ find (is_changed t.memory s.memory) watches
-  pub performed : (i : Ins) (length : ℕ) → entry_point_at s.cpu.cs s.cpu.ip ≡ None → BeginsWith (fetched s.memory s.cpu) i length
-      → hit ≡ find (is_touched s.memory.a20 (reads (guest s.cpu s.memory) i length) (writes (guest s.cpu s.memory) i length)) watches
+  pub acted : (what : EntryPoint) → entry_point_at s.cpu.cs s.cpu.ip ≡ Some what →
+      hit ≡ find (is_changed t.memory s.memory) watches
+  pub performed : (i : Ins) (length : ℕ) → entry_point_at s.cpu.cs s.cpu.ip ≡ None →
+      BeginsWith (fetched s.memory s.cpu) i length
+      → hit ≡ find (is_touched s.memory.a20 (reads (guest s.cpu s.memory) i length)
+      (writes (guest s.cpu s.memory) i length)) watches
 
 -- what a step that hit this, or nothing, is told as
 abbrev pub undone_by : Option Point → Undone
@@ -32,5 +35,6 @@ undone_by (Some point) = Hit point
 -- step
 pub data Undoes (watches : List Point) (p : Past) : Undone → Past → Type 0 where
   begun : p.machine.steps ≤ p.beginning.steps → Undoes watches p Begun p
-  undone : (hit : Option Point) (q : Past) → p.beginning.steps < p.machine.steps → GoesBack p (p.machine.steps - 1) q → HitBy watches q.machine p.machine hit
+  undone : (hit : Option Point) (q : Past) → p.beginning.steps < p.machine.steps → GoesBack p (p.machine.steps - 1) q →
+      HitBy watches q.machine p.machine hit
       → Undoes watches p (undone_by hit) q

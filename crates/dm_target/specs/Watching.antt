@@ -55,7 +55,10 @@ is_changed m n p = by_access p.access false (not (reads_as n p.address (watched_
 -- driver acts in the step (`acted`), or an instruction is performed (`performed`)
 pub data Hits (watches : List Point) (s t : State) (hit : Option Point) : Type 0 where
   unwatched : watches ≡ [] → hit ≡ None → Hits watches s t hit
-  acted : (what : EntryPoint) → entry_point_at s.cpu.cs s.cpu.ip ≡ Some what → hit ≡ find (is_changed s.memory t.memory) watches → Hits watches s t hit
-  performed : (i : Ins) (length : ℕ) → entry_point_at s.cpu.cs s.cpu.ip ≡ None → BeginsWith (fetched s.memory s.cpu) i length
-      → hit ≡ find (is_touched s.memory.a20 (reads (guest s.cpu s.memory) i length) (writes (guest s.cpu s.memory) i length)) watches
+  acted : (what : EntryPoint) → entry_point_at s.cpu.cs s.cpu.ip ≡ Some what →
+      hit ≡ find (is_changed s.memory t.memory) watches → Hits watches s t hit
+  performed : (i : Ins) (length : ℕ) → entry_point_at s.cpu.cs s.cpu.ip ≡ None →
+      BeginsWith (fetched s.memory s.cpu) i length
+      → hit ≡ find (is_touched s.memory.a20 (reads (guest s.cpu s.memory) i length)
+      (writes (guest s.cpu s.memory) i length)) watches
       → Hits watches s t hit

@@ -61,7 +61,9 @@ fn look_further(
 ) -> Result<(Option<u64>, bool), AllocError>
     requires { branch.old.machine.steps < end }
     ensures more { IfOk result (λ r. r.1 ≡ false → branch.new.machine.steps < end) }
-    ensures looked { IfOk result (λ r. (o : State) → BecomesBy o [] branch.old.machine → Reaches o end → Stands points.now watches.now o branch.old.machine last → IsLookedAt points.now watches.now o end branch.new.machine r.0 r.1) }
+    ensures looked { IfOk result (λ r. (o : State) → BecomesBy o [] branch.old.machine → Reaches o end →
+        Stands points.now watches.now o branch.old.machine last →
+        IsLookedAt points.now watches.now o end branch.new.machine r.0 r.1) }
 {
     let at = branch.machine().steps();
     match go_on(alloc, branch, end - at, None, points, watches) {
@@ -97,7 +99,8 @@ fn survey(
     watches: &[Point],
 ) -> Result<Option<Found>, AllocError>
     requires { branch.old.machine.steps < end }
-    ensures { IfOk result (λ found. Reaches branch.old.machine end → IsSurvey points.now watches.now branch.old.machine end found) }
+    ensures { IfOk result (λ found. Reaches branch.old.machine end →
+        IsSurvey points.now watches.now branch.old.machine end found) }
 {
     let mut last = stand(branch, end, points, None).0;
     for _ in 0..HITS {
@@ -203,7 +206,8 @@ fn find_last(
 
 /// What the branch's state is told as, which is a hit. An `Err` is a failed allocation; a step may have been made.
 fn told(alloc: Global, branch: &mut History, watches: &[Point]) -> Result<Undone, AllocError>
-    ensures { IfOk result (λ what. (points : List ℕ) → IsMet points watches.now branch.old.machine → Meets points watches.now branch.old.machine what) }
+    ensures { IfOk result (λ what. (points : List ℕ) → IsMet points watches.now branch.old.machine →
+        Meets points watches.now branch.old.machine what) }
 {
     match go_on(alloc, branch, 1, None, &[], watches) {
         Pause::Hit(point) => Ok(Undone::Hit(point)),
@@ -224,7 +228,8 @@ fn told_at(
 ) -> Result<Undone, AllocError>
     requires since { history.now.beginning.steps ≤ step }
     requires before { step < history.now.machine.steps }
-    ensures { IfOk result (λ what. (points : List ℕ) (s : State) → Was history.now step s → IsMet points watches.now s → Meets points watches.now s what) }
+    ensures { IfOk result (λ what. (points : List ℕ) (s : State) → Was history.now step s → IsMet points watches.now s →
+        Meets points watches.now s what) }
 {
     let _now = history.machine().steps();
     let mut branch = history.branch(step, step + 1)?;

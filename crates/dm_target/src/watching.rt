@@ -98,7 +98,9 @@ fn first_touched(a20: bool, touched: &Touched, watches: &[Point]) -> Option<Poin
 
 /// The first of these watchpoints that the instruction at CS:IP hits; None also if the bytes there are no instruction.
 pub(crate) fn first_hit(machine: &Machine, watches: &[Point]) -> Option<Point>
-    ensures { (i : Ins) (length : ℕ) → BeginsWith (fetched machine.now.memory machine.now.cpu) i length → result ≡ find (is_touched machine.now.memory.a20 (reads (guest machine.now.cpu machine.now.memory) i length) (writes (guest machine.now.cpu machine.now.memory) i length)) watches.now }
+    ensures { (i : Ins) (length : ℕ) → BeginsWith (fetched machine.now.memory machine.now.cpu) i length →
+        result ≡ find (is_touched machine.now.memory.a20 (reads (guest machine.now.cpu machine.now.memory) i length)
+        (writes (guest machine.now.cpu machine.now.memory) i length)) watches.now }
 {
     let cpu = machine.cpu();
     let space = machine.space();
@@ -162,7 +164,8 @@ fn is_changed(space: &Space, point: &Point, before: &[u8]) -> bool
 /// The first of these watchpoints that a service or driver hits, by the bytes that were kept before.
 pub(crate) fn first_changed(space: &Space, watches: &[Point], before: &[u8]) -> Option<Point>
     requires { (m : Memory) × (before.now ≡ all_bytes m watches.now) }
-    ensures { (m : Memory) → before.now ≡ all_bytes m watches.now → result ≡ find (is_changed m space.now.memory) watches.now }
+    ensures { (m : Memory) → before.now ≡ all_bytes m watches.now → result ≡ find (is_changed m
+        space.now.memory) watches.now }
 {
     let mut rest = before;
     for point in watches {
@@ -202,7 +205,8 @@ fn look_at_instruction(history: &mut History, watches: &[Point]) -> Option<Pause
 
 /// Makes the step of a service or driver, and looks at what it changes; makes none if the watched bytes cannot be kept.
 fn look_at_call(alloc: Global, history: &mut History, watches: &[Point]) -> Option<Pause>
-    requires there { (what : EntryPoint) × (entry_point_at history.old.machine.cpu.cs history.old.machine.cpu.ip ≡ Some what) }
+    requires there { (what : EntryPoint) × (entry_point_at history.old.machine.cpu.cs history.old.machine.cpu.ip
+        ≡ Some what) }
     requires watched { watches.now ≢ [] }
     ensures looks { Looks watches.now history.old.machine result history.new.machine }
     ensures beginning { history.new.beginning ≡ history.old.beginning }

@@ -19,7 +19,8 @@ use Rattle.dm_touches.specs.Laws.{KeepsOthers}
 set_other : (xs : List ℕ) (i k v : ℕ) → k ≢ i → get_or (set xs i v) k 0 ≡ get_or xs k 0
 set_other xs i k v ne = rw get_or-set_other refl
 
-page_set_other : (pages : List (List ℕ)) (p i v q k : ℕ) → (q ≡ p → k ≢ i) → get_or (get_or (set pages p (set (get_or pages p []) i v)) q []) k 0 ≡ get_or (get_or pages q []) k 0
+page_set_other : (pages : List (List ℕ)) (p i v q k : ℕ) → (q ≡ p → k ≢ i) →
+    get_or (get_or (set pages p (set (get_or pages p []) i v)) q []) k 0 ≡ get_or (get_or pages q []) k 0
 page_set_other [] p i v q k ne = refl
 page_set_other (xs ∷ pages) zero i v zero k ne = set_other xs i k v (ne refl)
 page_set_other (xs ∷ pages) zero i v (suc q) k ne = refl
@@ -64,13 +65,16 @@ back_of : (P : FarAddress → Type 0) (xs ys : List FarAddress) → All P (xs ++
 back_of P [] ys a = a
 back_of P (x ∷ xs) ys a = back_of P xs ys (All-tail P x (xs ++ ys) a)
 
-moved : (m n : Memory) → IsShaped m n → (q : Place) (fs : List FarAddress) → All (λ (f : FarAddress). byte_place m f ≢ q) fs → All (λ (f : FarAddress). byte_place n f ≢ q) fs
+moved : (m n : Memory) → IsShaped m n → (q : Place) (fs : List FarAddress) →
+    All (λ (f : FarAddress). byte_place m f ≢ q) fs → All (λ (f : FarAddress). byte_place n f ≢ q) fs
 moved m n s q [] a = All-nil (λ (f : FarAddress). byte_place n f ≢ q)
 moved m n s q (f ∷ fs) a =
     let P : FarAddress → Type 0 = λ g. byte_place m g ≢ q in
-    All-cons (λ (g : FarAddress). byte_place n g ≢ q) f fs (λ e. All-head P f fs a (sym (same_place m n s f) ∙ e)) (moved m n s q fs (All-tail P f fs a))
+    All-cons (λ (g : FarAddress). byte_place n g ≢ q) f fs (λ e. All-head P f fs a (sym (same_place m n s f)
+    ∙ e)) (moved m n s q fs (All-tail P f fs a))
 
-pub keeps_then : (m n o : Memory) (xs ys : List FarAddress) → KeepsOthers m n xs → KeepsOthers n o ys → KeepsOthers m o (xs ++ ys)
+pub keeps_then : (m n o : Memory) (xs ys : List FarAddress) → KeepsOthers m n xs → KeepsOthers n o ys →
+    KeepsOthers m o (xs ++ ys)
 keeps_then m n o xs ys k l = record {
   shape = shaped-then m n o k.shape l.shape;
   kept = λ q a. (let P : FarAddress → Type 0 = λ f. byte_place m f ≢ q in
@@ -93,13 +97,17 @@ pub keeps_word : (m : Memory) (s o v : ℕ) → KeepsOthers m (poke16 m s o v) (
 keeps_word m s o v =
     let n : Memory = poke m (linear m.a20 s o) (v % 256) in
     let low : KeepsOthers m n (far s o ∷ []) = byte_keeps m (linear m.a20 s o) (v % 256) (far s o) refl in
-    let same : linear m.a20 s (up o 1) ≡ linear n.a20 s (up o 1) = ap (λ (b : Bool). linear b s (up o 1)) (sym low.shape.a20) in
-    keeps_then m n _ (far s o ∷ []) (far s (up o 1) ∷ []) low (byte_keeps n (linear m.a20 s (up o 1)) (v / 256) (far s (up o 1)) same)
+    let same : linear m.a20 s (up o 1) ≡ linear n.a20 s (up o 1) =
+    ap (λ (b : Bool). linear b s (up o 1)) (sym low.shape.a20) in
+    keeps_then m n _ (far s o ∷ []) (far s (up o 1) ∷ []) low (byte_keeps n (linear m.a20 s (up o 1)) (v / 256)
+    (far s (up o 1)) same)
 
 -- one element that may be missing
-pub keeps_one : (m n : Memory) (e : Option Element) → KeepsOthers m n (bytes_if e) → KeepsOthers m n (bytes_of (one_element e))
+pub keeps_one : (m n : Memory) (e : Option Element) → KeepsOthers m n (bytes_if e) →
+    KeepsOthers m n (bytes_of (one_element e))
 keeps_one m n e k = keeps_as m n _ _ (sym (append-nil (bytes_if e ++ []) ∙ append-nil (bytes_if e))) k
 
 -- two elements that may be missing
-pub keeps_two : (m n : Memory) (a b : Option Element) → KeepsOthers m n (bytes_if a ++ bytes_if b) → KeepsOthers m n (bytes_of (two_elements a b))
+pub keeps_two : (m n : Memory) (a b : Option Element) → KeepsOthers m n (bytes_if a ++ bytes_if b) →
+    KeepsOthers m n (bytes_of (two_elements a b))
 keeps_two m n a b k = keeps_as m n _ _ (sym (append-nil (bytes_if a ++ bytes_if b))) k

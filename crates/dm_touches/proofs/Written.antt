@@ -35,50 +35,68 @@ use Rattle.dm_touches.proofs.Operands.{Addresses, keeps_operand, keeps_operands,
 
 -- ---- choices
 
-choice_keeps : (m : Memory) (b : Bool) (g h : Guest) (fs : List FarAddress) → KeepsOthers m g.memory fs → KeepsOthers m h.memory fs → KeepsOthers m (cond b g h).memory fs
+choice_keeps : (m : Memory) (b : Bool) (g h : Guest) (fs : List FarAddress) → KeepsOthers m g.memory fs →
+    KeepsOthers m h.memory fs → KeepsOthers m (cond b g h).memory fs
 choice_keeps m true g h fs p q = p
 choice_keeps m false g h fs p q = q
 
-jump_keeps : (taken : Bool) (g : Guest) (override : Option SegmentRegister) (a : Operand) → KeepsOthers g.memory (jumped_where taken g override a).memory []
+jump_keeps : (taken : Bool) (g : Guest) (override : Option SegmentRegister) (a : Operand) →
+    KeepsOthers g.memory (jumped_where taken g override a).memory []
 unfolding jumped_where jumped
 jump_keeps taken g override a = choice_keeps g.memory taken _ g [] (keeps_all g.memory) (keeps_all g.memory)
 
-into_keeps : (b : Bool) (g : Guest) → KeepsOthers g.memory (if b then interrupt g 4 else g).memory (bytes_of (if b then pushed_by_interrupt g.cpu else nothing))
+into_keeps : (b : Bool) (g : Guest) → KeepsOthers g.memory (if b then interrupt g 4 else
+    g).memory (bytes_of (if b then pushed_by_interrupt g.cpu else nothing))
 into_keeps true g = keeps_interrupt g 4
 into_keeps false g = keeps_all g.memory
 
-division_keeps : (w : Width) (g : Guest) (o : Option Division) → KeepsOthers g.memory (after_division w g o).memory (bytes_of (writes_dividing g.cpu o))
+division_keeps : (w : Width) (g : Guest) (o : Option Division) →
+    KeepsOthers g.memory (after_division w g o).memory (bytes_of (writes_dividing g.cpu o))
 unfolding after_division
 division_keeps w g None = keeps_interrupt g 0
 division_keeps w g (Some d) = keeps_all g.memory
 
 -- ---- strings
 
-once_keeps : (w : Width) (g : Guest) (override : Option SegmentRegister) (operation : StringOperation) → KeepsOthers g.memory (once w g override operation).memory (bytes_of (writes_of_string w g.cpu operation))
+once_keeps : (w : Width) (g : Guest) (override : Option SegmentRegister) (operation : StringOperation) →
+    KeepsOthers g.memory (once w g override operation).memory (bytes_of (writes_of_string w g.cpu operation))
 unfolding once
-once_keeps w g override string.Move = keeps_one g.memory _ (destination w g.cpu) (keeps_written w g.memory g.cpu.es g.cpu.di _)
+once_keeps w g override string.Move = keeps_one g.memory _ (destination w g.cpu)
+    (keeps_written w g.memory g.cpu.es g.cpu.di _)
 once_keeps w g override string.Compare = keeps_all g.memory
-once_keeps w g override string.Store = keeps_one g.memory _ (destination w g.cpu) (keeps_written w g.memory g.cpu.es g.cpu.di _)
+once_keeps w g override string.Store = keeps_one g.memory _ (destination w g.cpu)
+    (keeps_written w g.memory g.cpu.es g.cpu.di _)
 once_keeps w g override string.Load = keeps_all g.memory
 once_keeps w g override string.Scan = keeps_all g.memory
 
-unless_keeps : (b : Bool) (g h : Guest) (e : Elements) → KeepsOthers g.memory h.memory (bytes_of e) → KeepsOthers g.memory (if b then g else h).memory (bytes_of (if not b then e else nothing))
+unless_keeps : (b : Bool) (g h : Guest) (e : Elements) → KeepsOthers g.memory h.memory (bytes_of e) →
+    KeepsOthers g.memory (if b then g else h).memory (bytes_of (if not b then e else nothing))
 unless_keeps true g h e k = keeps_all g.memory
 unless_keeps false g h e k = k
 
-string_keeps : (w : Width) (g : Guest) (override : Option SegmentRegister) (o : Option Repeat) (operation : StringOperation) (start : ℕ) → KeepsOthers g.memory (string_effect w g override o operation start).memory (bytes_of (if does_work g.cpu o then writes_of_string w g.cpu operation else nothing))
+string_keeps : (w : Width) (g : Guest) (override : Option SegmentRegister) (o : Option Repeat)
+    (operation : StringOperation) (start : ℕ) →
+    KeepsOthers g.memory (string_effect w g override o operation start).memory (bytes_of (if does_work g.cpu o then
+    writes_of_string w g.cpu operation else nothing))
 unfolding string_effect
 string_keeps w g override None operation start = once_keeps w g override operation
-string_keeps w g override (Some repeat) operation start = unless_keeps (g.cpu.cx == 0) g _ _ (once_keeps w g override operation)
+string_keeps w g override (Some repeat) operation start =
+    unless_keeps (g.cpu.cx == 0) g _ _ (once_keeps w g override operation)
 
 -- ---- each instruction
 
-operation_effect_keeps : (g : Guest) (p : Prefixes) (start : ℕ) (m : Mnemonic) (a b : Operand) → KeepsOthers g.memory (operation_effect g p start (operation_of m) a b).memory (bytes_of (writes_by g p (access_of m) a b))
-unfolding operation_of access_of writes_by move_effect moved exchanged pointer_loaded port_input stack_effect popped_into flags_popped arithmetic sum_into difference_into compared logic_into tested incremented decremented negated complemented shifted multiplied divided jumped_if looped transferred jumped far_jumped called far_called returned far_returned interrupt_effect interrupt_return push
+operation_effect_keeps : (g : Guest) (p : Prefixes) (start : ℕ) (m : Mnemonic) (a b : Operand) →
+    KeepsOthers g.memory (operation_effect g p start (operation_of m) a b).memory
+    (bytes_of (writes_by g p (access_of m) a b))
+unfolding operation_of access_of writes_by move_effect moved exchanged pointer_loaded port_input stack_effect
+    popped_into flags_popped arithmetic sum_into difference_into compared logic_into tested incremented decremented
+    negated complemented shifted multiplied divided jumped_if looped transferred jumped far_jumped called far_called
+    returned far_returned interrupt_effect interrupt_return push
 operation_effect_keeps g p start op.Push a b = keeps_push g _
 operation_effect_keeps g p start op.Pushf a b = keeps_push g _
 operation_effect_keeps g p start op.Call a b = keeps_push g _
-operation_effect_keeps g p start op.CallFar a b = keeps_two g.memory _ (pushed g.cpu) (pushed_second g.cpu) (keeps_pushes g _ _)
+operation_effect_keeps g p start op.CallFar a b = keeps_two g.memory _ (pushed g.cpu) (pushed_second g.cpu)
+    (keeps_pushes g _ _)
 operation_effect_keeps g p start op.Int a b = keeps_interrupt g _
 operation_effect_keeps g p start op.Int3 a b = keeps_interrupt g 3
 operation_effect_keeps g p start op.Into a b = into_keeps g.cpu.flags.overflow g
@@ -148,8 +166,18 @@ operation_effect_keeps g p start op.Lodsb a b = string_keeps _ g p.segment p.rep
 operation_effect_keeps g p start op.Lodsw a b = string_keeps _ g p.segment p.repeat string.Load start
 operation_effect_keeps g p start op.Scasb a b = string_keeps _ g p.segment p.repeat string.Scan start
 operation_effect_keeps g p start op.Scasw a b = string_keeps _ g p.segment p.repeat string.Scan start
-operation_effect_keeps g p start _ a b = keeps_operand g _ p.segment a _ (record { bx = refl; bp = refl; si = refl; di = refl; es = refl; cs = refl; ss = refl; ds = refl }) refl
+operation_effect_keeps g p start _ a b = keeps_operand g _ p.segment a _ (record {
+  bx = refl;
+  bp = refl;
+  si = refl;
+  di = refl;
+  es = refl;
+  cs = refl;
+  ss = refl;
+  ds = refl;
+}) refl
 
 pub writes_listed : WritesAreListed
 unfolding effect writes
-writes_listed g i length = operation_effect_keeps (at_ip g (up g.cpu.ip length)) i.prefixes g.cpu.ip i.action.mnemonic i.action.first i.action.second
+writes_listed g i length = operation_effect_keeps (at_ip g (up g.cpu.ip length)) i.prefixes g.cpu.ip i.action.mnemonic
+    i.action.first i.action.second

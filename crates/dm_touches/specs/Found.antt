@@ -44,7 +44,8 @@ free_read a20 fs b = if_some (λ f. FreeRead (up b.segment 1) f.segment f.offset
 
 -- the finding that memory of the block is written to while the block is free
 abbrev pub free_written : Bool → List FarAddress → Header → List Finding
-free_written a20 fs b = if_some (λ f. FreeWritten (up b.segment 1) f.segment f.offset) (first_that a20 (is_in_free b) fs)
+free_written a20 fs b = if_some (λ f. FreeWritten (up b.segment 1) f.segment f.offset)
+    (first_that a20 (is_in_free b) fs)
 
 -- the finding that bytes 5 to 15 of the header are written to
 abbrev pub tail_written : Bool → List FarAddress → Header → List Finding
@@ -60,7 +61,8 @@ of_header a20 rs ws b = free_read a20 rs b ++ free_written a20 ws b ++ tail_writ
 abbrev pub window_lost : Memory → List FarAddress → ℕ → List Finding
 window_lost m ws window =
     if is_some (slice_index_or m.windows window None) then [] else
-    if_some (λ f. WindowLost window f.segment f.offset) (first_that m.a20 (is_between (0xE0000 + 0x4000 * window) (0xE0000 + 0x4000 * window + 0x4000)) ws)
+    if_some (λ f. WindowLost window f.segment f.offset) (first_that m.a20 (is_between (0xE0000 + 0x4000 * window)
+    (0xE0000 + 0x4000 * window + 0x4000)) ws)
 
 -- the finding that the ROM is written to
 abbrev pub rom_written : Bool → List FarAddress → List Finding
@@ -68,7 +70,8 @@ rom_written a20 ws = if_some (λ f. RomWritten f.segment f.offset) (first_that a
 
 -- the finding that a byte is written to between upper memory and the memory below it, where there is none
 abbrev pub nothing_written : Bool → List FarAddress → List Finding
-nothing_written a20 ws = if_some (λ f. NothingWritten f.segment f.offset) (first_that a20 (is_between 0xC0000 0xD0000) ws)
+nothing_written a20 ws = if_some (λ f. NothingWritten f.segment f.offset)
+    (first_that a20 (is_between 0xC0000 0xD0000) ws)
 
 -- what is found of writes by the map of memory alone
 abbrev pub of_places : Memory → List FarAddress → List Finding

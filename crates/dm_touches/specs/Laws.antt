@@ -17,4 +17,5 @@ pub record KeepsOthers (m n : Memory) (fs : List FarAddress) : Type 0 where
 
 -- a byte that an instruction changes is among those that it writes; and it leaves the map as it is
 abbrev pub WritesAreListed : Type 0
-WritesAreListed = (g : Guest) (i : Ins) (length : ℕ) → KeepsOthers g.memory (effect g i length).memory (bytes_of (writes g i length))
+WritesAreListed = (g : Guest) (i : Ins) (length : ℕ) → KeepsOthers g.memory (effect g i length).memory
+    (bytes_of (writes g i length))

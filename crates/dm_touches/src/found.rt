@@ -118,7 +118,8 @@ pub fn put_of_header(
     touched: &Touched,
     header: &Header,
 ) -> Result<(), AllocError>
-    ensures { OnOk result (out.new.items ≡ out.old.items ++ of_header a20 (bytes_of touched.now.reads) (bytes_of touched.now.writes) header.now) }
+    ensures { OnOk result (out.new.items ≡ out.old.items ++ of_header a20 (bytes_of touched.now.reads)
+        (bytes_of touched.now.writes) header.now) }
 {
     let block = header.segment.wrapping_add(1);
     if let Some(byte) = first_in_free(a20, &touched.reads, header) {

@@ -308,7 +308,8 @@ fn reads_by(
 #[inline(never)]
 #[tactic(auto, unfolding(dm_cpu::specs::Operands::with_operand))]
 fn with_operand(cpu: &Cpu, operand: &Operand, value: u16) -> Cpu
-    ensures { (m : Memory) (any : Option SegmentRegister) → result ≡ (with_operand (guest cpu.now m) any operand.now value).cpu }
+    ensures { (m : Memory) (any : Option SegmentRegister) → result ≡ (with_operand (guest cpu.now m) any operand.now
+        value).cpu }
 {
     let mut changed = *cpu;
     match *operand {
@@ -328,7 +329,8 @@ fn second_exchanged(
     first: &Operand,
     second: &Operand,
 ) -> Option<Element>
-    ensures { result ≡ element_of (with_operand (guest cpu.now space.now.memory) override_.now first.now (value_of (guest cpu.now space.now.memory) override_.now second.now)).cpu override_.now second.now }
+    ensures { result ≡ element_of (with_operand (guest cpu.now space.now.memory) override_.now first.now
+        (value_of (guest cpu.now space.now.memory) override_.now second.now)).cpu override_.now second.now }
 {
     let value = operands::value(&Registers::from_cpu(cpu), space, override_, second);
     element_of(&with_operand(cpu, first, value), *override_, second)

@@ -19,26 +19,32 @@ record IsStuck (m : Memory) (F before : List Header) (h : ℕ) (P : List Header)
   none : (e : ListedHeader) → Follows m F (before ++ P) t e → ⊥
 
 -- a header that others follow is one of the list
-among : (before : List Header) (q : Header) (Q : List Header) (g : ℕ) → HasHeader ((before ++ []) ++ q ∷ []) g → HasHeader (before ++ q ∷ Q) g
+among : (before : List Header) (q : Header) (Q : List Header) (g : ℕ) → HasHeader ((before ++ []) ++ q ∷ []) g →
+    HasHeader (before ++ q ∷ Q) g
 among before q Q g w = elim (has_either (before ++ []) (q ∷ []) g w) [
-  | inl i ↦ has_left before (q ∷ Q) g (let F : List Header → Type 0 = λ X. HasHeader X g in subst F (append-nil before) i)
+  | inl i ↦ has_left before (q ∷ Q) g (let F : List Header → Type 0 = λ X. HasHeader X g in
+      subst F (append-nil before) i)
   | inr r ↦ has_right before (q ∷ Q) g (elim r [ inl s ↦ inl s | inr z ↦ absurd z ])
 ]
 
 -- a header behind the others follows them
-follows : (m : Memory) (F before : List Header) (h t : ℕ) (q : Header) (Q : List Header) → h ≡ t → q.segment ≡ h → IsHeader m q 0x4D → IsClear m (F ++ (before ++ q ∷ Q)) → AreApart F (before ++ q ∷ Q) → Follows m F (before ++ []) t (record { header = q; last = false })
+follows : (m : Memory) (F before : List Header) (h t : ℕ) (q : Header) (Q : List Header) → h ≡ t → q.segment ≡ h →
+    IsHeader m q 0x4D → IsClear m (F ++ (before ++ q ∷ Q)) → AreApart F (before ++ q ∷ Q) →
+    Follows m F (before ++ []) t (record { header = q; last = false })
 follows m F before h t q Q e at x c a = record {
   at = at ∙ e;
   header = x;
   apart = λ g w v. a g w (among before q Q g v);
-  clear = clear_within m (F ++ (before ++ q ∷ Q)) (F ++ ((before ++ []) ++ q ∷ [])) (λ g w. elim (has_either F ((before ++ []) ++ q ∷ []) g w) [
-    | inl i ↦ has_left F (before ++ q ∷ Q) g i
-    | inr r ↦ has_right F (before ++ q ∷ Q) g (among before q Q g r)
-  ]) c;
+  clear = clear_within m (F ++ (before ++ q ∷ Q)) (F ++ ((before ++ []) ++ q ∷ []))
+      (λ g w. elim (has_either F ((before ++ []) ++ q ∷ []) g w) [
+        | inl i ↦ has_left F (before ++ q ∷ Q) g i
+        | inr r ↦ has_right F (before ++ q ∷ Q) g (among before q Q g r)
+      ]) c;
 }
 
 -- one header further
-further : (m : Memory) (F before : List Header) (h : ℕ) (p : Header) (P : List Header) (t : ℕ) → IsStuck m F before h (p ∷ P) t → IsStuck m F (before ++ p ∷ []) (next p) P t
+further : (m : Memory) (F before : List Header) (h : ℕ) (p : Header) (P : List Header) (t : ℕ) →
+    IsStuck m F before h (p ∷ P) t → IsStuck m F (before ++ p ∷ []) (next p) P t
 further m F before h p P t b =
     let same = sym (append_assoc before (p ∷ []) P) in
     let C : List Header → Type 0 = λ X. IsClear m (F ++ X) in
@@ -50,36 +56,50 @@ record SamePath (P Q : List Header) (t u : ℕ) : Type 0 where
   headers : P ≡ Q
   at : t ≡ u
 
-stuck_once : (m : Memory) (F before : List Header) (h : ℕ) (P : List Header) (t : ℕ) (Q : List Header) (u : ℕ) → IsStuck m F before h P t → IsStuck m F before h Q u → SamePath P Q t u
+stuck_once : (m : Memory) (F before : List Header) (h : ℕ) (P : List Header) (t : ℕ) (Q : List Header) (u : ℕ) →
+    IsStuck m F before h P t → IsStuck m F before h Q u → SamePath P Q t u
 stuck_once m F before h [] t [] u a b = record { headers = refl; at = sym a.path ∙ b.path }
-stuck_once m F before h [] t (q ∷ Q) u a b = absurd (a.none (record { header = q; last = false }) (follows m F before h t q Q a.path b.path.0 b.path.1 b.clear b.apart))
-stuck_once m F before h (p ∷ P) t [] u a b = absurd (b.none (record { header = p; last = false }) (follows m F before h u p P b.path a.path.0 a.path.1 a.clear a.apart))
+stuck_once m F before h [] t (q ∷ Q) u a b =
+    absurd (a.none (record { header = q; last = false }) (follows m F before h t q Q a.path b.path.0 b.path.1 b.clear
+    b.apart))
+stuck_once m F before h (p ∷ P) t [] u a b =
+    absurd (b.none (record { header = p; last = false }) (follows m F before h u p P b.path a.path.0 a.path.1 a.clear
+    a.apart))
 stuck_once m F before h (p ∷ P) t (q ∷ Q) u a b =
     let one = (header-unique m p q 0x4D 0x4D a.path.1 b.path.1 (a.path.0 ∙ sym b.path.0)).0 in
     let G : Header → Type 0 = λ x. IsStuck m F (before ++ x ∷ []) (next x) P t in
-    let rest = stuck_once m F (before ++ q ∷ []) (next q) P t Q u (subst G one (further m F before h p P t a)) (further m F before h q Q u b) in
+    let rest = stuck_once m F (before ++ q ∷ []) (next q) P t Q u (subst G one (further m F before h p P t a))
+    (further m F before h q Q u b) in
     record { headers = ap (λ (x : Header). x ∷ P) one ∙ ap (λ (X : List Header). q ∷ X) rest.headers; at = rest.at }
 
 -- ---- one list
 
-stuck : (m : Memory) (F : List Header) (start : ℕ) (a : List ℕ) (x : IsCutShort m F start a) → IsStuck m F [] start x.headers x.at
+stuck : (m : Memory) (F : List Header) (start : ℕ) (a : List ℕ) (x : IsCutShort m F start a) →
+    IsStuck m F [] start x.headers x.at
 stuck m F start a x = record { path = x.leads.path; clear = x.leads.clear; apart = x.leads.apart; none = x.none }
 
-cut_once : (m : Memory) (F : List Header) (start : ℕ) (a b : List ℕ) → IsCutShort m F start a → IsCutShort m F start b → a ≡ b
+cut_once : (m : Memory) (F : List Header) (start : ℕ) (a b : List ℕ) → IsCutShort m F start a → IsCutShort m F start b →
+    a ≡ b
 cut_once m F start a b x y =
     let s = stuck_once m F [] start x.headers x.at y.headers y.at (stuck m F start a x) (stuck m F start b y) in
-    x.is ∙ ap (λ (X : List Header). front_text X ++ destroyed_line x.at) s.headers ∙ ap (λ (k : ℕ). front_text y.headers ++ destroyed_line k) s.at ∙ sym y.is
+    x.is ∙ ap (λ (X : List Header). front_text X ++ destroyed_line x.at) s.headers ∙ ap (λ (k : ℕ). front_text y.headers
+    ++ destroyed_line k) s.at ∙ sym y.is
 
-one_list : (m : Memory) (F : List Header) (start : ℕ) (L M : List Header) (a b : List ℕ) → IsWhole m F start L a → IsWhole m F start M b → L ≡ M
+one_list : (m : Memory) (F : List Header) (start : ℕ) (L M : List Header) (a b : List ℕ) → IsWhole m F start L a →
+    IsWhole m F start M b → L ≡ M
 one_list m F start L M a b x y = chain_unique m start L M x.list.0 y.list.0
 
-whole_once : (m : Memory) (F : List Header) (start : ℕ) (L M : List Header) (a b : List ℕ) → IsWhole m F start L a → IsWhole m F start M b → a ≡ b
-whole_once m F start L M a b x y = x.is ∙ ap (λ (X : List Header). list_text X ++ end_line) (one_list m F start L M a b x y) ∙ sym y.is
+whole_once : (m : Memory) (F : List Header) (start : ℕ) (L M : List Header) (a b : List ℕ) → IsWhole m F start L a →
+    IsWhole m F start M b → a ≡ b
+whole_once m F start L M a b x y = x.is ∙ ap (λ (X : List Header). list_text X
+    ++ end_line) (one_list m F start L M a b x y) ∙ sym y.is
 
-either : (m : Memory) (F : List Header) (start : ℕ) (L : List Header) (a b : List ℕ) → IsWhole m F start L a → IsCutShort m F start b → ⊥
+either : (m : Memory) (F : List Header) (start : ℕ) (L : List Header) (a b : List ℕ) → IsWhole m F start L a →
+    IsCutShort m F start b → ⊥
 either m F start L a b x y = no_arena m F start y.headers y.at y.leads y.none L x.list
 
-list_once : (m : Memory) (F : List Header) (start : ℕ) (a b : List ℕ) → IsListText m F start a → IsListText m F start b → a ≡ b
+list_once : (m : Memory) (F : List Header) (start : ℕ) (a b : List ℕ) → IsListText m F start a →
+    IsListText m F start b → a ≡ b
 list_once m F start a b (whole L x) (whole M y) = whole_once m F start L M a b x y
 list_once m F start a b (whole L x) (cut_short y) = absurd (either m F start L a b x y)
 list_once m F start a b (cut_short x) (whole M y) = absurd (either m F start M b a y x)
@@ -96,9 +116,11 @@ arena_once upper m a b (destroyed x) (alone M y off) = absurd (either m [] first
 arena_once upper m a b (destroyed x) (parted M first second y on v e) = absurd (either m [] first_header M first a y x)
 arena_once upper m a b (alone L x off) (destroyed y) = absurd (either m [] first_header L a b x y)
 arena_once upper m a b (alone L x off) (alone M y z) = whole_once m [] first_header L M a b x y
-arena_once upper m a b (alone L x off) (parted M first second y on v e) = absurd (not_both upper L M (one_list m [] first_header L M a first x y) off on)
+arena_once upper m a b (alone L x off) (parted M first second y on v e) =
+    absurd (not_both upper L M (one_list m [] first_header L M a first x y) off on)
 arena_once upper m a b (parted L first second x on u e) (destroyed y) = absurd (either m [] first_header L first b x y)
-arena_once upper m a b (parted L first second x on u e) (alone M y off) = absurd (not_both upper M L (one_list m [] first_header M L b first y x) off on)
+arena_once upper m a b (parted L first second x on u e) (alone M y off) =
+    absurd (not_both upper M L (one_list m [] first_header M L b first y x) off on)
 arena_once upper m a b (parted L first second x on u e) (parted M other rest y set v f) =
     let F : List Header → Type 0 = λ X. IsListText m X link_header second in
     let below = whole_once m [] first_header L M first other x y in

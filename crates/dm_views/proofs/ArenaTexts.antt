@@ -16,7 +16,8 @@ use Rattle.dm_views.specs.inner.Telling.{TellsList}
 
 front_more : (P : List Header) (b : Header) → front_text (P ++ b ∷ []) ≡ front_text P ++ header_line 0x4D b
 front_more [] b = append-nil (header_line 0x4D b)
-front_more (c ∷ P) b = ap (λ (x : List ℕ). header_line 0x4D c ++ x) (front_more P b) ∙ sym (append_assoc (header_line 0x4D c) (front_text P) (header_line 0x4D b))
+front_more (c ∷ P) b = ap (λ (x : List ℕ). header_line 0x4D c ++ x) (front_more P b)
+    ∙ sym (append_assoc (header_line 0x4D c) (front_text P) (header_line 0x4D b))
 
 signed_front : (P : List Header) (b : Header) → signature (P ++ b ∷ []) ≡ 0x4D
 signed_front [] b = refl
@@ -43,45 +44,65 @@ behind_clear m true F a = a.1
 
 -- behind the headers F, the headers of a list told so far, and where the next one has to stand
 pub data HasTold (m : Memory) (F : List Header) (start : ℕ) (at : Option ℕ) (text : List ℕ) : Type 0 where
-  on_way : (P : List Header) (t : ℕ) → at ≡ Some t → text ≡ front_text P → Leads m F start P t → HasTold m F start at text
+  on_way : (P : List Header) (t : ℕ) → at ≡ Some t → text ≡ front_text P → Leads m F start P t →
+      HasTold m F start at text
   over : (L : List Header) → at ≡ None → text ≡ list_text L → IsArenaBehind m F start L → HasTold m F start at text
 
-told_none : (m : Memory) (second : Bool) (F : List Header) (at : Option ℕ) → IsBehind m second F → at ≡ Some (start_of second) → HasTold m F (start_of second) at []
+told_none : (m : Memory) (second : Bool) (F : List Header) (at : Option ℕ) → IsBehind m second F →
+    at ≡ Some (start_of second) → HasTold m F (start_of second) at []
 told_none m second F at b e =
     let G : List Header → Type 0 = λ X. IsClear m X in
-    on_way [] (start_of second) e refl (record { path = refl; clear = subst G (sym (append-nil F)) (behind_clear m second F b); apart = λ g w v. v })
+    on_way [] (start_of second) e refl (record {
+      path = refl;
+      clear = subst G (sym (append-nil F)) (behind_clear m second F b);
+      apart = λ g w v. v;
+    })
 
-path_more : (S : Memory) (h : ℕ) (P : List Header) (t : ℕ) (b : Header) → Path S h P t → b.segment ≡ t → IsHeader S b 0x4D → Path S h (P ++ b ∷ []) (next b)
+path_more : (S : Memory) (h : ℕ) (P : List Header) (t : ℕ) (b : Header) → Path S h P t → b.segment ≡ t →
+    IsHeader S b 0x4D → Path S h (P ++ b ∷ []) (next b)
 path_more S h [] t b p at x = (at ∙ sym p, x, refl)
 path_more S h (q ∷ P) t b p at x = (p.0, p.1, path_more S (next q) P t b p.2 at x)
 
 -- a header that others follow, or the last one
-leads_more : (m : Memory) (F : List Header) (start : ℕ) (P : List Header) (t : ℕ) (e : ListedHeader) → Leads m F start P t → Follows m F P t e → e.last ≡ false → Leads m F start (P ++ e.header ∷ []) (next e.header)
+leads_more : (m : Memory) (F : List Header) (start : ℕ) (P : List Header) (t : ℕ) (e : ListedHeader) →
+    Leads m F start P t → Follows m F P t e → e.last ≡ false → Leads m F start (P ++ e.header ∷ []) (next e.header)
 leads_more m F start P t e l f more = record {
-  path = path_more m start P t e.header l.path f.at (subst (λ (s : ℕ). IsHeader m e.header s) (ap signature_byte more) f.header);
+  path = path_more m start P t e.header l.path f.at (subst (λ (s : ℕ). IsHeader m e.header s)
+      (ap signature_byte more) f.header);
   clear = f.clear;
   apart = f.apart;
 }
 
-told_by : (m : Memory) (F : List Header) (start : ℕ) (P : List Header) (t : ℕ) (e : ListedHeader) (r : Bool) (at : Option ℕ) (text : List ℕ) → e.last ≡ r → Leads m F start P t → Follows m F P t e → Closes m F start P e → at ≡ (if e.last then None else Some (next e.header)) → text ≡ front_text P ++ header_line (signature_byte e.last) e.header → HasTold m F start at text
+told_by : (m : Memory) (F : List Header) (start : ℕ) (P : List Header) (t : ℕ) (e : ListedHeader) (r : Bool)
+    (at : Option ℕ) (text : List ℕ) → e.last ≡ r → Leads m F start P t → Follows m F P t e → Closes m F start P e →
+    at ≡ (if e.last then None else Some (next e.header)) → text ≡ front_text P
+    ++ header_line (signature_byte e.last) e.header → HasTold m F start at text
 told_by m F start P t e true at text is l f c next-is same =
     over (P ++ e.header ∷ []) (next-is ∙ ap (λ (b : Bool). if b then None else Some (next e.header)) is)
-    (same ∙ ap (λ (b : Bool). front_text P ++ header_line (signature_byte b) e.header) is ∙ sym (list_last P e.header)) (c is)
+    (same ∙ ap (λ (b : Bool). front_text P ++ header_line (signature_byte b) e.header) is
+    ∙ sym (list_last P e.header)) (c is)
 told_by m F start P t e false at text is l f c next-is same =
-    on_way (P ++ e.header ∷ []) (next e.header) (next-is ∙ ap (λ (b : Bool). if b then None else Some (next e.header)) is)
-    (same ∙ ap (λ (b : Bool). front_text P ++ header_line (signature_byte b) e.header) is ∙ sym (front_more P e.header)) (leads_more m F start P t e l f is)
+    on_way (P ++ e.header ∷ []) (next e.header) (next-is ∙ ap (λ (b : Bool). if b then None else
+    Some (next e.header)) is)
+    (same ∙ ap (λ (b : Bool). front_text P ++ header_line (signature_byte b) e.header) is
+    ∙ sym (front_more P e.header)) (leads_more m F start P t e l f is)
 
-at_segment : (m : Memory) (F : List Header) (start : ℕ) (at after : Option ℕ) (s : Met) (t : ℕ) → at ≡ Some t → IsMet m F start at s after → IsMetFrom m F start t s after
+at_segment : (m : Memory) (F : List Header) (start : ℕ) (at after : Option ℕ) (s : Met) (t : ℕ) → at ≡ Some t →
+    IsMet m F start at s after → IsMetFrom m F start t s after
 at_segment m F start at after s t e h = subst (λ (o : Option ℕ). IsMet m F start o s after) e h
 
-at_end : (m : Memory) (F : List Header) (start : ℕ) (at after : Option ℕ) (s : Met) → at ≡ None → IsMet m F start at s after → IsMet m F start None s after
+at_end : (m : Memory) (F : List Header) (start : ℕ) (at after : Option ℕ) (s : Met) → at ≡ None →
+    IsMet m F start at s after → IsMet m F start None s after
 at_end m F start at after s e h = subst (λ (o : Option ℕ). IsMet m F start o s after) e h
 
-one_told : (m : Memory) (F : List Header) (start : ℕ) (at after : Option ℕ) (e : ListedHeader) (text new : List ℕ) → HasTold m F start at text → IsMet m F start at (met.Told e) after → new ≡ text ++ header_line (signature_byte e.last) e.header → HasTold m F start after new
+one_told : (m : Memory) (F : List Header) (start : ℕ) (at after : Option ℕ) (e : ListedHeader) (text new : List ℕ) →
+    HasTold m F start at text → IsMet m F start at (met.Told e) after → new ≡ text
+    ++ header_line (signature_byte e.last) e.header → HasTold m F start after new
 one_told m F start at after e text new (on_way P t is same l) h k =
     let s = at_segment m F start at after (met.Told e) t is h in
     let f = s.1 P l in
-    told_by m F start P t e e.last after new refl l f.0 f.1 s.0 (k ∙ ap (λ (x : List ℕ). x ++ header_line (signature_byte e.last) e.header) same)
+    told_by m F start P t e e.last after new refl l f.0 f.1 s.0 (k ∙ ap (λ (x : List ℕ). x
+    ++ header_line (signature_byte e.last) e.header) same)
 one_told m F start at after e text new (over L is same a) h k = absurd (at_end m F start at after (met.Told e) is h)
 
 -- how far the walk can still go
@@ -89,15 +110,19 @@ abbrev pub ahead : Option ℕ → ℕ
 ahead None = 0
 ahead (Some t) = 65536 - t
 
-ahead_by : (t : ℕ) (e : ListedHeader) (r : Bool) (after : Option ℕ) → e.last ≡ r → after ≡ (if e.last then None else Some (next e.header)) → e.header.segment ≡ t → e.header.segment + 1 + e.header.size ≤ 0xFFFF → ahead after < 65536 - t
+ahead_by : (t : ℕ) (e : ListedHeader) (r : Bool) (after : Option ℕ) → e.last ≡ r →
+    after ≡ (if e.last then None else Some (next e.header)) → e.header.segment ≡ t →
+    e.header.segment + 1 + e.header.size ≤ 0xFFFF → ahead after < 65536 - t
 ahead_by t e true after is next-is at fits =
     let none : ahead after ≡ 0 = ap ahead (next-is ∙ ap (λ (b : Bool). if b then None else Some (next e.header)) is) in
     omega arith
 ahead_by t e false after is next-is at fits =
-    let some : ahead after ≡ 65536 - (e.header.segment + 1 + e.header.size) = ap ahead (next-is ∙ ap (λ (b : Bool). if b then None else Some (next e.header)) is) in
+    let some : ahead after ≡ 65536 - (e.header.segment + 1 + e.header.size) =
+    ap ahead (next-is ∙ ap (λ (b : Bool). if b then None else Some (next e.header)) is) in
     omega arith
 
-told_nearer : (m : Memory) (F : List Header) (start : ℕ) (at after : Option ℕ) (e : ListedHeader) (text : List ℕ) → HasTold m F start at text → IsMet m F start at (met.Told e) after → ahead after < ahead at
+told_nearer : (m : Memory) (F : List Header) (start : ℕ) (at after : Option ℕ) (e : ListedHeader) (text : List ℕ) →
+    HasTold m F start at text → IsMet m F start at (met.Told e) after → ahead after < ahead at
 told_nearer m F start at after e text (on_way P t is same l) h =
     let s = at_segment m F start at after (met.Told e) t is h in
     let f = s.1 P l in
@@ -107,15 +132,21 @@ told_nearer m F start at after e text (over L is same a) h = absurd (at_end m F 
 
 -- ---- the end
 
-told_all : (m : Memory) (F : List Header) (start : ℕ) (at after : Option ℕ) (text : List ℕ) → HasTold m F start at text → IsMet m F start at met.End after → (L : List Header) × IsWhole m F start L (text ++ end_line)
+told_all : (m : Memory) (F : List Header) (start : ℕ) (at after : Option ℕ) (text : List ℕ) →
+    HasTold m F start at text → IsMet m F start at met.End after → (L : List Header) ×
+    IsWhole m F start L (text ++ end_line)
 told_all m F start at after text (on_way P t is same l) h = absurd (at_segment m F start at after met.End t is h)
-told_all m F start at after text (over L is same a) h = (L, record { list = a; is = ap (λ (x : List ℕ). x ++ end_line) same })
+told_all m F start at after text (over L is same a) h =
+    (L, record { list = a; is = ap (λ (x : List ℕ). x ++ end_line) same })
 
-ended_at : (m : Memory) (F : List Header) (start : ℕ) (at after : Option ℕ) (text : List ℕ) → HasTold m F start at text → IsMet m F start at met.End after → after ≡ None
+ended_at : (m : Memory) (F : List Header) (start : ℕ) (at after : Option ℕ) (text : List ℕ) →
+    HasTold m F start at text → IsMet m F start at met.End after → after ≡ None
 ended_at m F start at after text (on_way P t is same l) h = absurd (at_segment m F start at after met.End t is h)
 ended_at m F start at after text (over L is same a) h = at_end m F start at after met.End is h
 
-told_destroyed : (m : Memory) (F : List Header) (start : ℕ) (at after : Option ℕ) (segment : ℕ) (text : List ℕ) → HasTold m F start at text → IsMet m F start at (met.Destroyed segment) after → IsCutShort m F start (text ++ destroyed_line segment)
+told_destroyed : (m : Memory) (F : List Header) (start : ℕ) (at after : Option ℕ) (segment : ℕ) (text : List ℕ) →
+    HasTold m F start at text → IsMet m F start at (met.Destroyed segment) after →
+    IsCutShort m F start (text ++ destroyed_line segment)
 told_destroyed m F start at after segment text (on_way P t is same l) h =
     let s = at_segment m F start at after (met.Destroyed segment) t is h in
     record {
@@ -125,7 +156,8 @@ told_destroyed m F start at after segment text (on_way P t is same l) h =
       none = s.3 P l;
       is = ap (λ (x : List ℕ). x ++ destroyed_line segment) same ∙ ap (λ (n : ℕ). front_text P ++ destroyed_line n) s.0;
     }
-told_destroyed m F start at after segment text (over L is same a) h = absurd (at_end m F start at after (met.Destroyed segment) is h)
+told_destroyed m F start at after segment text (over L is same a) h =
+    absurd (at_end m F start at after (met.Destroyed segment) is h)
 
 -- ---- the walk
 
@@ -138,36 +170,56 @@ pub record Telling (w : Walking) (old : List ℕ) (v : Walking) (out : List ℕ)
   pub told : (F : List Header) → IsBehind w.memory w.second F → HasTold w.memory F (start_of w.second) v.at text
 
 pub telling_none : (w : Walking) (old : List ℕ) → w.at ≡ Some (start_of w.second) → Telling w old w old
-telling_none w old e = record { memory = refl; second = refl; text = []; is = sym (append-nil old); told = λ F b. told_none w.memory w.second F w.at b e }
+telling_none w old e = record {
+  memory = refl;
+  second = refl;
+  text = [];
+  is = sym (append-nil old);
+  told = λ F b. told_none w.memory w.second F w.at b e;
+}
 
 -- the headers behind which a step walks
-front_of : (w : Walking) (old out : List ℕ) (v : Walking) (s : Met) (after : Option ℕ) → Telling w old v out → MeetsNext v s after → (F : List Header) × IsBehind w.memory w.second F × IsMet w.memory F (start_of w.second) v.at s after
+front_of : (w : Walking) (old out : List ℕ) (v : Walking) (s : Met) (after : Option ℕ) → Telling w old v out →
+    MeetsNext v s after → (F : List Header) × IsBehind w.memory w.second F ×
+    IsMet w.memory F (start_of w.second) v.at s after
 front_of w old out v s after h k =
-    let begins : IsBehind w.memory w.second k.front = subst (λ (m : Memory). IsBehind m w.second k.front) h.memory (subst (λ (b : Bool). IsBehind v.memory b k.front) h.second k.behind) in
-    let steps : IsMet v.memory k.front (start_of w.second) v.at s after = subst (λ (b : Bool). IsMet v.memory k.front (start_of b) v.at s after) h.second k.meets in
+    let begins : IsBehind w.memory w.second k.front = subst (λ (m : Memory). IsBehind m w.second k.front) h.memory
+    (subst (λ (b : Bool). IsBehind v.memory b k.front) h.second k.behind) in
+    let steps : IsMet v.memory k.front (start_of w.second) v.at s after =
+    subst (λ (b : Bool). IsMet v.memory k.front (start_of b) v.at s after) h.second k.meets in
     (k.front, begins, subst (λ (m : Memory). IsMet m k.front (start_of w.second) v.at s after) h.memory steps)
 
 -- it is a step behind all such headers
-step_of : (w : Walking) (old out : List ℕ) (v : Walking) (s : Met) (after : Option ℕ) → Telling w old v out → MeetsNext v s after → (F : List Header) → IsBehind w.memory w.second F → IsMet w.memory F (start_of w.second) v.at s after
+step_of : (w : Walking) (old out : List ℕ) (v : Walking) (s : Met) (after : Option ℕ) → Telling w old v out →
+    MeetsNext v s after → (F : List Header) → IsBehind w.memory w.second F →
+    IsMet w.memory F (start_of w.second) v.at s after
 step_of w old out v s after h k F b =
     let f = front_of w old out v s after h k in
-    subst (λ (X : List Header). IsMet w.memory X (start_of w.second) v.at s after) (behind_once w.memory w.second f.0 F f.1 b) f.2
+    subst (λ (X : List Header). IsMet w.memory X (start_of w.second) v.at s after)
+    (behind_once w.memory w.second f.0 F f.1 b) f.2
 
-pub telling_more : (w : Walking) (old out new : List ℕ) (v u : Walking) (e : ListedHeader) → Telling w old v out → u.memory ≡ v.memory → u.second ≡ v.second → MeetsNext v (met.Told e) u.at → new ≡ out ++ header_line (signature_byte e.last) e.header → Telling w old u new
+pub telling_more : (w : Walking) (old out new : List ℕ) (v u : Walking) (e : ListedHeader) → Telling w old v out →
+    u.memory ≡ v.memory → u.second ≡ v.second → MeetsNext v (met.Told e) u.at → new ≡ out
+    ++ header_line (signature_byte e.last) e.header → Telling w old u new
 telling_more w old out new v u e h same begins s k = record {
   memory = same ∙ h.memory;
   second = begins ∙ h.second;
   text = h.text ++ header_line (signature_byte e.last) e.header;
-  is = k ∙ ap (λ (x : List ℕ). x ++ header_line (signature_byte e.last) e.header) h.is ∙ append_assoc old h.text (header_line (signature_byte e.last) e.header);
-  told = λ F b. one_told w.memory F (start_of w.second) v.at u.at e h.text (h.text ++ header_line (signature_byte e.last) e.header) (h.told F b) (step_of w old out v (met.Told e) u.at h s F b) refl;
+  is = k ∙ ap (λ (x : List ℕ). x ++ header_line (signature_byte e.last) e.header) h.is
+      ∙ append_assoc old h.text (header_line (signature_byte e.last) e.header);
+  told = λ F b. one_told w.memory F (start_of w.second) v.at u.at e h.text (h.text
+      ++ header_line (signature_byte e.last) e.header) (h.told F b) (step_of w old out v (met.Told e) u.at h s F b)
+      refl;
 }
 
-pub telling_nearer : (w : Walking) (old out : List ℕ) (v u : Walking) (e : ListedHeader) → Telling w old v out → MeetsNext v (met.Told e) u.at → ahead u.at < ahead v.at
+pub telling_nearer : (w : Walking) (old out : List ℕ) (v u : Walking) (e : ListedHeader) → Telling w old v out →
+    MeetsNext v (met.Told e) u.at → ahead u.at < ahead v.at
 telling_nearer w old out v u e h s =
     let f = front_of w old out v (met.Told e) u.at h s in
     told_nearer w.memory f.0 (start_of w.second) v.at u.at e h.text (h.told f.0 f.1) f.2
 
-pub telling_all : (w : Walking) (old out new : List ℕ) (v u : Walking) → Telling w old v out → u.memory ≡ v.memory → u.second ≡ v.second → MeetsNext v met.End u.at → new ≡ out ++ end_line → TellsList w (Some u) old new
+pub telling_all : (w : Walking) (old out new : List ℕ) (v u : Walking) → Telling w old v out → u.memory ≡ v.memory →
+    u.second ≡ v.second → MeetsNext v met.End u.at → new ≡ out ++ end_line → TellsList w (Some u) old new
 telling_all w old out new v u h same begins s k =
     let f = front_of w old out v met.End u.at h s in (
       h.text ++ end_line,
@@ -176,13 +228,16 @@ telling_all w old out new v u h same begins s k =
         same ∙ h.memory,
         begins ∙ h.second,
         ended_at w.memory f.0 (start_of w.second) v.at u.at h.text (h.told f.0 f.1) f.2,
-        told_all w.memory F (start_of w.second) v.at u.at h.text (h.told F b) (step_of w old out v met.End u.at h s F b),
+        told_all w.memory F (start_of w.second) v.at u.at h.text (h.told F b)
+            (step_of w old out v met.End u.at h s F b),
       ),
     )
 
-pub telling_destroyed : (w : Walking) (old out new : List ℕ) (v u : Walking) (segment : ℕ) → Telling w old v out → MeetsNext v (met.Destroyed segment) u.at → new ≡ out ++ destroyed_line segment → TellsList w None old new
+pub telling_destroyed : (w : Walking) (old out new : List ℕ) (v u : Walking) (segment : ℕ) → Telling w old v out →
+    MeetsNext v (met.Destroyed segment) u.at → new ≡ out ++ destroyed_line segment → TellsList w None old new
 telling_destroyed w old out new v u segment h s k = (
   h.text ++ destroyed_line segment,
   k ∙ ap (λ (x : List ℕ). x ++ destroyed_line segment) h.is ∙ append_assoc old h.text (destroyed_line segment),
-  λ F b. told_destroyed w.memory F (start_of w.second) v.at u.at segment h.text (h.told F b) (step_of w old out v (met.Destroyed segment) u.at h s F b),
+  λ F b. told_destroyed w.memory F (start_of w.second) v.at u.at segment h.text (h.told F b)
+      (step_of w old out v (met.Destroyed segment) u.at h s F b),
 )

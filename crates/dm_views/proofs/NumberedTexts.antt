@@ -11,11 +11,14 @@ numbered_next : (f : ℕ → List ℕ) (n : ℕ) → in_turn f (n + 1) ≡ in_tu
 unfolding in_turn
 numbered_next f n = rw add-one refl
 
-pub numbered_more : (old out new : List ℕ) (f : ℕ → List ℕ) (n : ℕ) → out ≡ old ++ in_turn f n → new ≡ out ++ f n → new ≡ old ++ in_turn f (n + 1)
+pub numbered_more : (old out new : List ℕ) (f : ℕ → List ℕ) (n : ℕ) → out ≡ old ++ in_turn f n → new ≡ out ++ f n →
+    new ≡ old ++ in_turn f (n + 1)
 numbered_more old out new f n e k =
-    k ∙ ap (λ (x : List ℕ). x ++ f n) e ∙ append_assoc old (in_turn f n) (f n) ∙ ap (λ (x : List ℕ). old ++ x) (sym (numbered_next f n))
+    k ∙ ap (λ (x : List ℕ). x ++ f n) e ∙ append_assoc old (in_turn f n) (f n) ∙ ap (λ (x : List ℕ). old
+    ++ x) (sym (numbered_next f n))
 
-pub numbered_all : (old out : List ℕ) (f : ℕ → List ℕ) (n m : ℕ) → n ≡ m → out ≡ old ++ in_turn f n → out ≡ old ++ in_turn f m
+pub numbered_all : (old out : List ℕ) (f : ℕ → List ℕ) (n m : ℕ) → n ≡ m → out ≡ old ++ in_turn f n → out ≡ old
+    ++ in_turn f m
 numbered_all old out f n m e k = k ∙ ap (λ (i : ℕ). old ++ in_turn f i) e
 
 -- an offset that has wrapped wraps no further

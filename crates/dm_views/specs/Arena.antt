@@ -10,7 +10,8 @@ use Rattle.dm_views.specs.Digits.{four_digits}
 
 -- the line of a header: segment, signature `signed`, owner, and size in paragraphs
 abbrev pub header_line : ℕ → Header → List ℕ
-header_line signed b = four_digits b.segment ++ (32 ∷ signed ∷ 32 ∷ []) ++ four_digits b.owner ++ codes " " ++ four_digits b.size ++ 10 ∷ []
+header_line signed b = four_digits b.segment ++ (32 ∷ signed ∷ 32 ∷ []) ++ four_digits b.owner ++ codes " "
+    ++ four_digits b.size ++ 10 ∷ []
 
 -- the lines of a whole list: the last header has the signature `Z`, the others `M`
 abbrev pub list_text : List Header → List ℕ
@@ -59,4 +60,5 @@ pub data IsListText (m : Memory) (F : List Header) (start : ℕ) (text : List �
 pub data IsArenaText (upper : Bool) (m : Memory) (text : List ℕ) : Type 0 where
   destroyed : IsCutShort m [] first_header text → IsArenaText upper m text
   alone : (L : List Header) → IsWhole m [] first_header L text → is_parted upper L ≡ false → IsArenaText upper m text
-  parted : (L : List Header) (first second : List ℕ) → IsWhole m [] first_header L first → is_parted upper L ≡ true → IsListText m L link_header second → text ≡ first ++ (unlinked_line ++ second) → IsArenaText upper m text
+  parted : (L : List Header) (first second : List ℕ) → IsWhole m [] first_header L first → is_parted upper L ≡ true →
+      IsListText m L link_header second → text ≡ first ++ (unlinked_line ++ second) → IsArenaText upper m text

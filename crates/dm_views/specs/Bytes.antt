@@ -21,7 +21,8 @@ as_text m segment offset k = printable (byte_after m segment offset k) ∷ []
 -- one line with `count` bytes from segment:offset on: the address, the bytes in digits, and the bytes as characters
 abbrev pub line_text : Memory → ℕ → ℕ → ℕ → List ℕ
 line_text m segment offset count =
-    address_text segment offset ++ in_turn (in_digits m segment offset) count ++ codes "  " ++ in_turn (as_text m segment offset) count ++ 10 ∷ []
+    address_text segment offset ++ in_turn (in_digits m segment offset) count ++ codes "  "
+    ++ in_turn (as_text m segment offset) count ++ 10 ∷ []
 
 -- line j (from 0) of the listing of `count` bytes from segment:offset on: 16 bytes, or in the last line what is left
 abbrev pub line_at : Memory → ℕ → ℕ → ℕ → ℕ → List ℕ

@@ -12,12 +12,14 @@ use Rattle.dm_views.specs.Digits.{two_digits, four_digits, eight_digits, in_turn
 
 -- the line of an extended memory block: handle, linear address, size in KiB, lock count
 abbrev pub block_line : ℕ → ℕ → ℕ → ℕ → List ℕ
-block_line number base kib locks = four_digits number ++ codes " " ++ eight_digits base ++ codes " " ++ four_digits kib ++ codes " " ++ two_digits locks ++ 10 ∷ []
+block_line number base kib locks = four_digits number ++ codes " " ++ eight_digits base ++ codes " " ++ four_digits kib
+    ++ codes " " ++ two_digits locks ++ 10 ∷ []
 
 -- the line of the block of handle `before + 1`; no text if the handle is not in use. Handles count from 1
 abbrev pub block_text : Tables → Memory → ℕ → List ℕ
 block_text xms m before =
-    option_map_or (λ (h : Handle). block_line (before + 1) (begin_address m h.block) h.kib h.locks) (slot xms (before + 1)) []
+    option_map_or (λ (h : Handle). block_line (before + 1) (begin_address m h.block) h.kib h.locks)
+    (slot xms (before + 1)) []
 
 -- the line of an upper memory block: segment and size in paragraphs; no text for None
 abbrev pub upper_line : Option Upper → List ℕ
@@ -30,7 +32,8 @@ upper_text xms k = upper_line (slice_get xms.uppers k)
 
 -- the line that says whether A20 is on (`on`) and whether the high memory area is used (`taken`)
 abbrev pub switches_text : Bool → Bool → List ℕ
-switches_text on taken = (if on then codes "A20 on" else codes "A20 off") ++ (if taken then codes " HMA used" ++ 10 ∷ [] else codes " HMA free" ++ 10 ∷ [])
+switches_text on taken = (if on then codes "A20 on" else codes "A20 off") ++ (if taken then codes " HMA used" ++ 10 ∷ []
+    else codes " HMA free" ++ 10 ∷ [])
 
 -- the listing of extended memory: a line for each of its 64 handles that is in use, one for each of at most 64 upper
 -- memory blocks, and that of A20 and the high memory area

@@ -8,7 +8,8 @@ use Rattle.dm_views.specs.Arena.{IsArenaText}
 
 -- one memory has one listing of n instructions from an address on
 abbrev pub CodeHasOneText : Type 0
-CodeHasOneText = (m : Memory) (segment offset n : ℕ) (a b : List ℕ) → IsCode m segment offset n a → IsCode m segment offset n b → a ≡ b
+CodeHasOneText = (m : Memory) (segment offset n : ℕ) (a b : List ℕ) → IsCode m segment offset n a →
+    IsCode m segment offset n b → a ≡ b
 
 -- the same registers and memory have one listing of the registers
 abbrev pub RegistersHaveOneText : Type 0

@@ -14,7 +14,8 @@ use Rattle.dm_views.specs.Digits.{two_digits, four_digits, in_turn}
 
 -- the line of a handle in use: its number, how many pages it has, and the eight bytes of its name, all in hexadecimal
 abbrev pub holding_text : ℕ → Holding → List ℕ
-holding_text number h = four_digits number ++ codes " " ++ four_digits h.pages ++ codes " " ++ flat_map two_digits h.name ++ 10 ∷ []
+holding_text number h = four_digits number ++ codes " " ++ four_digits h.pages ++ codes " "
+    ++ flat_map two_digits h.name ++ 10 ∷ []
 
 -- the line of the handle with this number; no text if it is not in use
 abbrev pub handle_text : Tables → ℕ → List ℕ

@@ -84,7 +84,9 @@ fn put_list<'a>(out: &mut Vec<u8>, headers: Headers<'a>) -> Result<Option<Header
 fn put_unlinked(out: &mut Vec<u8>, first: Headers<'_>) -> Result<(), AllocError>
     requires first { first.second ≡ false }
     requires over { first.at ≡ None }
-    ensures { OnOk result ((text : List ℕ) × (out.new.items ≡ out.old.items ++ (unlinked_line ++ text)) × ((L : List Header) → IsArena first.entry.memory first_header L → IsListText first.entry.memory L link_header text)) }
+    ensures { OnOk result ((text : List ℕ) × (out.new.items ≡ out.old.items ++ (unlinked_line ++ text)) ×
+        ((L : List Header) → IsArena first.entry.memory first_header L →
+        IsListText first.entry.memory L link_header text)) }
 {
     out.extend_from_slice(b"unlinked\n")?;
     put_list(out, first.walk_second())?;
@@ -101,7 +103,8 @@ fn put_unlinked(out: &mut Vec<u8>, first: Headers<'_>) -> Result<(), AllocError>
 ///
 /// A failed allocation.
 pub fn put_arena(out: &mut Vec<u8>, space: &Space, upper: bool) -> Result<(), AllocError>
-    ensures { OnOk result ((text : List ℕ) × (out.new.items ≡ out.old.items ++ text) × IsArenaText upper space.now.memory text) }
+    ensures { OnOk result ((text : List ℕ) × (out.new.items ≡ out.old.items ++ text) ×
+        IsArenaText upper space.now.memory text) }
 {
     let Some(first) = put_list(out, walk(space))? else {
         return Ok(());

@@ -70,7 +70,8 @@ pub(crate) fn put_line(
     segment: u16,
     offset: u16,
 ) -> Result<u16, AllocError>
-    ensures { IfOk result (λ k. (line : List ℕ) × (out.new.items ≡ out.old.items ++ line) × IsLine space.now.memory segment offset k line) }
+    ensures { IfOk result (λ k. (line : List ℕ) × (out.new.items ≡ out.old.items ++ line) ×
+        IsLine space.now.memory segment offset k line) }
 {
     let bytes = space.sixteen_bytes(segment, offset);
     let Some((ins, len)) = decode(&bytes) else {
@@ -96,7 +97,8 @@ pub fn put_code(
     offset: u16,
     count: u16,
 ) -> Result<(), AllocError>
-    ensures { OnOk result ((text : List ℕ) × (out.new.items ≡ out.old.items ++ text) × IsCode space.now.memory segment offset count text) }
+    ensures { OnOk result ((text : List ℕ) × (out.new.items ≡ out.old.items ++ text) ×
+        IsCode space.now.memory segment offset count text) }
 {
     let mut at = offset;
     for _ in 0..count {

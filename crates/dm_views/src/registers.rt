@@ -84,7 +84,8 @@ fn special(cpu: &Cpu) -> [Field; 6]
 ///
 /// A failed allocation.
 pub fn put_registers(out: &mut Vec<u8>, cpu: &Cpu, space: &Space) -> Result<(), AllocError>
-    ensures { OnOk result ((text : List ℕ) × (out.new.items ≡ out.old.items ++ text) × IsRegistersText cpu.now space.now.memory text) }
+    ensures { OnOk result ((text : List ℕ) × (out.new.items ≡ out.old.items ++ text) ×
+        IsRegistersText cpu.now space.now.memory text) }
 {
     put_fields(out, &general(cpu))?;
     put_fields(out, &special(cpu))?;

@@ -14,4 +14,5 @@ no_base s i h n = either (get_or s.places i None) refl
     either (Some b) e = absurd (n (h, (b, e)))
 
 pub nothing_there : (m : Memory) (i : ℕ) → i < 576 → (IsLive m.blocks i → IsTrue false) → 0x110000 ≡ begin_address m i
-nothing_there m i h n = ap (λ k. 0x110000 + 0x400 * k) (sym (no_base m.blocks i h (λ live. let e = n live in let z : ⊥ = cc in z)))
+nothing_there m i h n = ap (λ k. 0x110000 + 0x400 * k) (sym (no_base m.blocks i h (λ live. let e = n live in let z : ⊥ =
+    cc in z)))

@@ -27,9 +27,11 @@ use Rattle.dm_xms.proofs.Consistent.{set_at, taken_new, not_live, allocated}
 
 -- ---- where no gap holds a block, each gap is smaller
 
-smaller : (g : Run) (gs : List Run) (u : ℕ) (b : Bool) → nat_le u g.size ≡ b → (first_fit gs u ≡ None → largest gs < u) → cond b (Some g.low) (first_fit gs u) ≡ None → max g.size (largest gs) < u
+smaller : (g : Run) (gs : List Run) (u : ℕ) (b : Bool) → nat_le u g.size ≡ b → (first_fit gs u ≡ None →
+    largest gs < u) → cond b (Some g.low) (first_fit gs u) ≡ None → max g.size (largest gs) < u
 smaller g gs u true e rest none = absurd (none-some g.low (sym none))
-smaller g gs u false e rest none = let le = rest none in let lt : g.size < u = grind (arith, nat_tests, e) in omega (arith, le, lt)
+smaller g gs u false e rest none = let le = rest none in let lt : g.size < u = grind (arith, nat_tests, e) in
+    omega (arith, le, lt)
 
 none_fits : (gs : List Run) (u : ℕ) → 0 < u → first_fit gs u ≡ None → largest gs < u
 none_fits [] u pos none = omega (arith, pos)
@@ -37,7 +39,8 @@ none_fits (g ∷ gs) u pos none = smaller g gs u (nat_le u g.size) refl (none_fi
 
 no_gap : (ps : List (Option Extent)) (n u : ℕ) → AreBased ps → lowest ps n u ≡ None → largest (gaps ps n) < u
 no_gap ps n zero based none = absurd (none-some 0 (sym none ∙ lowest_zero ps n))
-no_gap ps n (suc u) based none = none_fits (gaps ps n) (suc u) (omega arith) (fit_is_lowest ps n (suc u) (gaps ps n) (omega arith) (gaps_are ps n based) ∙ none)
+no_gap ps n (suc u) based none = none_fits (gaps ps n) (suc u) (omega arith) (fit_is_lowest ps n (suc u) (gaps ps n)
+    (omega arith) (gaps_are ps n based) ∙ none)
 
 -- ---- where a handle is free, so is a number
 
@@ -49,15 +52,26 @@ all_used : (ps : List (Option Extent)) → first_empty ps ≡ None → count_by 
 all_used [] none = refl
 all_used (None ∷ ps) none = absurd (none-some 0 (sym none))
 all_used (Some b ∷ ps) none =
-    let rest = all_used ps (no_next (first_empty ps) none) in omega (arith, sum_by-cons (λ (o : Option Extent). cond (is_some o) 1 0) (Some b) ps, rest)
+    let rest = all_used ps (no_next (first_empty ps) none) in omega (
+      arith,
+      sum_by-cons (λ (o : Option Extent). cond (is_some o) 1 0) (Some b) ps,
+      rest,
+    )
 
-one_free : (hs : List (Option Handle)) (k : ℕ) → k < length hs → is_none (get_or hs k None) ≡ true → count_by is_some hs < length hs
+one_free : (hs : List (Option Handle)) (k : ℕ) → k < length hs → is_none (get_or hs k None) ≡ true →
+    count_by is_some hs < length hs
 one_free [] k lt none = absurd (omega (arith, lt))
-one_free (None ∷ hs) k lt none = omega (arith, sum_by-cons (λ (o : Option Handle). cond (is_some o) 1 0) None hs, count_by-le-length is_some hs)
+one_free (None ∷ hs) k lt none = omega (
+  arith,
+  sum_by-cons (λ (o : Option Handle). cond (is_some o) 1 0) None hs,
+  count_by-le-length is_some hs,
+)
 one_free (Some h ∷ hs) zero lt none = cc
-one_free (Some h ∷ hs) (suc k) lt none = let rest = one_free hs k (omega (arith, lt)) none in omega (arith, sum_by-cons (λ (o : Option Handle). cond (is_some o) 1 0) (Some h) hs, rest)
+one_free (Some h ∷ hs) (suc k) lt none = let rest = one_free hs k (omega (arith, lt)) none in
+    omega (arith, sum_by-cons (λ (o : Option Handle). cond (is_some o) 1 0) (Some h) hs, rest)
 
-has_number : (x : Extended) (k : ℕ) → IsConsistent x → HasNumbers x → position is_none x.xms.handles ≡ Some k → first_empty x.memory.blocks.places ≡ None → ⊥
+has_number : (x : Extended) (k : ℕ) → IsConsistent x → HasNumbers x → position is_none x.xms.handles ≡ Some k →
+    first_empty x.memory.blocks.places ≡ None → ⊥
 has_number x k l few at none =
     let there = position-Some is_none x.xms.handles k None at in
     let used = one_free x.xms.handles k there.0 there.1 in
@@ -68,7 +82,8 @@ not_taken s u None p e = inl refl
 not_taken s u (Some i) None e = inr refl
 not_taken s u (Some i) (Some b) e = absurd (none-some _ (sym e))
 
-too_large : (x : Extended) (kib k : ℕ) → IsConsistent x → HasNumbers x → position is_none x.xms.handles ≡ Some k → taken x.memory.blocks kib ≡ None → largest_gap x < kib
+too_large : (x : Extended) (kib k : ℕ) → IsConsistent x → HasNumbers x → position is_none x.xms.handles ≡ Some k →
+    taken x.memory.blocks kib ≡ None → largest_gap x < kib
 too_large x kib k l few at none =
     let s = x.memory.blocks in
     elim (not_taken s kib (first_empty s.places) (lowest s.places s.units kib) none) [
@@ -87,8 +102,10 @@ is_free : (o : Option Handle) → is_none o ≡ true → o ≡ None
 is_free None e = refl
 is_free (Some h) e = cc
 
-given : (x : Extended) (kib k : ℕ) (p : ℕ × Blocks) → IsConsistent x → position is_none x.xms.handles ≡ Some k → taken x.memory.blocks kib ≡ Some p
-    → HasNewBlock x (leaving x (with_slot x.xms (k + 1) (Some (record { block = p.0; kib = kib; locks = 0 }))) p.1) (k + 1) kib
+given : (x : Extended) (kib k : ℕ) (p : ℕ × Blocks) → IsConsistent x → position is_none x.xms.handles ≡ Some k →
+    taken x.memory.blocks kib ≡ Some p
+    → HasNewBlock x (leaving x (with_slot x.xms (k + 1) (Some (record { block = p.0; kib = kib; locks = 0 }))) p.1)
+    (k + 1) kib
 given x kib k p l at is =
     let h : Handle = record { block = p.0; kib = kib; locks = 0 } in
     let there = position-Some is_none x.xms.handles k None at in
@@ -97,7 +114,8 @@ given x kib k p l at is =
     record {
       block = p.0;
       unused = slot_behind x.xms.handles k ∙ is_free (handle_at x.xms.handles k) there.1;
-      entry = slot_behind (set x.xms.handles (k + 1 - 1) (Some h)) k ∙ ap (λ j. handle_at (set x.xms.handles j (Some h)) k) back ∙ set_at x k (Some h) there.0;
+      entry = slot_behind (set x.xms.handles (k + 1 - 1) (Some h)) k
+          ∙ ap (λ j. handle_at (set x.xms.handles j (Some h)) k) back ∙ set_at x k (Some h) there.0;
       before = not_live x.memory.blocks p.0 n.free;
       live = (omega (arith, n.within, l.places), (n.place, n.at));
       bytes = n.bytes (omega (arith, n.within, l.places, l.contents));
@@ -106,7 +124,8 @@ given x kib k p l at is =
 
 -- ---- the call
 
-needed : {A : Type 0} (x : Extended) (kib : ℕ) (o : Option A) (e : Status) (f : A → Result (ℕ × Extended) Status) → (o ≡ None → Gives x kib (Err e)) → ((v : A) → o ≡ Some v → Gives x kib (f v)) → Gives x kib (need o e f)
+needed : {A : Type 0} (x : Extended) (kib : ℕ) (o : Option A) (e : Status) (f : A → Result (ℕ × Extended) Status) →
+    (o ≡ None → Gives x kib (Err e)) → ((v : A) → o ≡ Some v → Gives x kib (f v)) → Gives x kib (need o e f)
 needed x kib None e f p q = p refl
 needed x kib (Some v) e f p q = q v refl
 
@@ -114,4 +133,5 @@ pub block_comes : BlockComes
 unfolding allocate
 block_comes x kib l few =
     needed x kib (position is_none x.xms.handles) NoHandleLeft _ (λ none. inl (refl, none)) (λ k at.
-    needed x kib (taken x.memory.blocks kib) NoMemory _ (λ none. inr (refl, too_large x kib k l few at none)) (λ p is. given x kib k p l at is))
+    needed x kib (taken x.memory.blocks kib) NoMemory _ (λ none. inr (refl, too_large x kib k l few at none))
+    (λ p is. given x kib k p l at is))

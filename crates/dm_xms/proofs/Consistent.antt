@@ -43,7 +43,8 @@ pub record IsChanged (s t : Blocks) (i : ℕ) : Type 0 where
   pub places : length t.places ≡ length s.places
   pub contents : length t.contents ≡ length s.contents
 
-pub changed_block : (s : Blocks) (i : ℕ) (b : Option Extent) (xs : List ℕ) → IsChanged s (record { units = s.units; places = set s.places i b; contents = set s.contents i xs }) i
+pub changed_block : (s : Blocks) (i : ℕ) (b : Option Extent) (xs : List ℕ) →
+    IsChanged s (record { units = s.units; places = set s.places i b; contents = set s.contents i xs }) i
 changed_block s i b xs = record {
   others = λ j ne. get_or-set_other s.places i j b None ne;
   kept = λ j ne. get_or-set_other s.contents i j xs [] ne;
@@ -54,7 +55,8 @@ changed_block s i b xs = record {
 pub live_stays : (s t : Blocks) (i j : ℕ) → IsChanged s t i → j ≢ i → IsLive s j → IsLive t j
 live_stays s t i j c ne l = (l.0, (l.1.0, c.others j ne ∙ l.1.1))
 
-stays : (m : Memory) (t : Blocks) (i : ℕ) (h : Handle) → IsChanged m.blocks t i → h.block ≢ i → IsExtended m h → IsExtended (with_blocks m t) h
+stays : (m : Memory) (t : Blocks) (i : ℕ) (h : Handle) → IsChanged m.blocks t i → h.block ≢ i → IsExtended m h →
+    IsExtended (with_blocks m t) h
 stays m t i h c ne e = record {
   live = live_stays m.blocks t i h.block c ne e.live;
   size = ap length (c.kept h.block ne) ∙ e.size;
@@ -82,38 +84,48 @@ pub record IsTurn (x : Extended) (k i : ℕ) (new : Option Handle) (t : Blocks) 
 abbrev pub turned : Extended → ℕ → Option Handle → Blocks → Extended
 turned x k new t = record { xms = record x.xms { handles = set x.xms.handles k new }; memory = with_blocks x.memory t }
 
-pub set_at : (x : Extended) (k : ℕ) (new : Option Handle) → k < length x.xms.handles → handle_at (set x.xms.handles k new) k ≡ new
+pub set_at : (x : Extended) (k : ℕ) (new : Option Handle) → k < length x.xms.handles →
+    handle_at (set x.xms.handles k new) k ≡ new
 set_at x k new h = get_or-set_same x.xms.handles k new None h
 
-pub set_beside : (x : Extended) (k j : ℕ) (new : Option Handle) → j ≢ k → handle_at (set x.xms.handles k new) j ≡ handle_at x.xms.handles j
+pub set_beside : (x : Extended) (k j : ℕ) (new : Option Handle) → j ≢ k → handle_at (set x.xms.handles k new) j
+    ≡ handle_at x.xms.handles j
 set_beside x k j new ne = get_or-set_other x.xms.handles k j new None ne
 
-both_hold : (o : Option Handle) (P Q R : Handle → Type 0) → ((h : Handle) → P h → Q h → R h) → IfSome o P → IfSome o Q → IfSome o R
+both_hold : (o : Option Handle) (P Q R : Handle → Type 0) → ((h : Handle) → P h → Q h → R h) → IfSome o P → IfSome o Q →
+    IfSome o R
 both_hold None P Q R f p q = tt
 both_hold (Some h) P Q R f p q = f h p q
 
-blocks_turned : (x : Extended) (k i : ℕ) (new : Option Handle) (t : Blocks) → IsConsistent x → IsTurn x k i new t → (j : ℕ) → IfSome (handle_at (set x.xms.handles k new) j) (IsExtended (with_blocks x.memory t))
+blocks_turned : (x : Extended) (k i : ℕ) (new : Option Handle) (t : Blocks) → IsConsistent x → IsTurn x k i new t →
+    (j : ℕ) → IfSome (handle_at (set x.xms.handles k new) j) (IsExtended (with_blocks x.memory t))
 blocks_turned x k i new t l u j = elim (cases_eq j k) [
   | inl e ↦
-      let at : handle_at (set x.xms.handles k new) j ≡ new = ap (handle_at (set x.xms.handles k new)) e ∙ set_at x k new u.within in
+      let at : handle_at (set x.xms.handles k new) j ≡ new = ap (handle_at (set x.xms.handles k new)) e
+      ∙ set_at x k new u.within in
       let P : Option Handle → Type 0 = λ o. IfSome o (IsExtended (with_blocks x.memory t)) in
       subst P (sym at) (if_handle new _ _ (λ h p. p.1) u.new_block)
   | inr ne ↦
       let P : Option Handle → Type 0 = λ o. IfSome o (IsExtended (with_blocks x.memory t)) in
-      subst P (sym (set_beside x k j new ne)) (both_hold (handle_at x.xms.handles j) _ _ _ (λ h p q. stays x.memory t i h u.changed p q) (u.others j ne) (l.blocks j))
+      subst P (sym (set_beside x k j new ne)) (both_hold (handle_at x.xms.handles j) _ _ _
+      (λ h p q. stays x.memory t i h u.changed p q) (u.others j ne) (l.blocks j))
 ]
 
-other_way : (o n : Option Handle) (i : ℕ) (m : Memory) (t : Blocks) → IfSome o (λ h. h.block ≢ i) → HasBlock m t i n → IfSome o (λ h. HasOther h n)
+other_way : (o n : Option Handle) (i : ℕ) (m : Memory) (t : Blocks) → IfSome o (λ h. h.block ≢ i) → HasBlock m t i n →
+    IfSome o (λ h. HasOther h n)
 other_way None n i m t p q = tt
 other_way (Some h) None i m t p q = tt
 other_way (Some h) (Some g) i m t p q = λ e. p (sym e ∙ q.0)
 
-this_way : (n o : Option Handle) (i : ℕ) (m : Memory) (t : Blocks) → HasBlock m t i n → IfSome o (λ h. h.block ≢ i) → IfSome n (λ h. HasOther h o)
+this_way : (n o : Option Handle) (i : ℕ) (m : Memory) (t : Blocks) → HasBlock m t i n → IfSome o (λ h. h.block ≢ i) →
+    IfSome n (λ h. HasOther h o)
 this_way None o i m t q p = tt
 this_way (Some g) None i m t q p = tt
 this_way (Some g) (Some h) i m t q p = λ e. p (e ∙ q.0)
 
-apart_turned : (x : Extended) (k i : ℕ) (new : Option Handle) (t : Blocks) → IsConsistent x → IsTurn x k i new t → (j n : ℕ) → j ≢ n → IfSome (handle_at (set x.xms.handles k new) j) (λ h. HasOther h (handle_at (set x.xms.handles k new) n))
+apart_turned : (x : Extended) (k i : ℕ) (new : Option Handle) (t : Blocks) → IsConsistent x → IsTurn x k i new t →
+    (j n : ℕ) → j ≢ n → IfSome (handle_at (set x.xms.handles k new) j) (λ h. HasOther h
+    (handle_at (set x.xms.handles k new) n))
 apart_turned x k i new t l u j n ne =
     let hs = set x.xms.handles k new in
     let Two : Option Handle → Option Handle → Type 0 = λ a b. IfSome a (λ h. HasOther h b) in
@@ -121,19 +133,25 @@ apart_turned x k i new t l u j n ne =
       | inl e ↦
           let at : handle_at hs j ≡ new = ap (handle_at hs) e ∙ set_at x k new u.within in
           let beside : n ≢ k = λ f. ne (e ∙ sym f) in
-          subst (λ a. Two a (handle_at hs n)) (sym at) (subst (λ b. Two new b) (sym (set_beside x k n new beside)) (this_way new (handle_at x.xms.handles n) i x.memory t u.new_block (u.others n beside)))
+          subst (λ a. Two a (handle_at hs n)) (sym at) (subst (λ b. Two new b) (sym (set_beside x k n new beside))
+          (this_way new (handle_at x.xms.handles n) i x.memory t u.new_block (u.others n beside)))
       | inr f ↦ elim (cases_eq n k) [
         | inl e ↦
             let at : handle_at hs n ≡ new = ap (handle_at hs) e ∙ set_at x k new u.within in
-            subst (λ b. Two (handle_at hs j) b) (sym at) (subst (λ a. Two a new) (sym (set_beside x k j new f)) (other_way (handle_at x.xms.handles j) new i x.memory t (u.others j f) u.new_block))
-        | inr g ↦ subst (λ b. Two (handle_at hs j) b) (sym (set_beside x k n new g)) (subst (λ a. Two a (handle_at x.xms.handles n)) (sym (set_beside x k j new f)) (l.apart j n ne))
+            subst (λ b. Two (handle_at hs j) b) (sym at) (subst (λ a. Two a new) (sym (set_beside x k j new f))
+            (other_way (handle_at x.xms.handles j) new i x.memory t (u.others j f) u.new_block))
+        | inr g ↦ subst (λ b. Two (handle_at hs j) b) (sym (set_beside x k n new g))
+            (subst (λ a. Two a (handle_at x.xms.handles n)) (sym (set_beside x k j new f)) (l.apart j n ne))
       ]
     ]
 
-shown_turned : (x : Extended) (t : Blocks) (i : ℕ) → IsConsistent x → IsChanged x.memory.blocks t i → shows x.memory.windows i ≡ false → (b : ℕ) → shows x.memory.windows b ≡ true → IsLive t b
-shown_turned x t i l c hidden b s = live_stays x.memory.blocks t i b c (λ e. true≢false (sym s ∙ ap (shows x.memory.windows) e ∙ hidden)) (l.shown b s)
+shown_turned : (x : Extended) (t : Blocks) (i : ℕ) → IsConsistent x → IsChanged x.memory.blocks t i →
+    shows x.memory.windows i ≡ false → (b : ℕ) → shows x.memory.windows b ≡ true → IsLive t b
+shown_turned x t i l c hidden b s = live_stays x.memory.blocks t i b c (λ e. true≢false (sym s
+    ∙ ap (shows x.memory.windows) e ∙ hidden)) (l.shown b s)
 
-turn_consistent : (x : Extended) (k i : ℕ) (new : Option Handle) (t : Blocks) → IsConsistent x → IsTurn x k i new t → IsConsistent (turned x k new t)
+turn_consistent : (x : Extended) (k i : ℕ) (new : Option Handle) (t : Blocks) → IsConsistent x → IsTurn x k i new t →
+    IsConsistent (turned x k new t)
 turn_consistent x k i new t l u = record {
   places = u.changed.places ∙ l.places;
   contents = u.changed.contents ∙ l.contents;
@@ -150,11 +168,13 @@ turn_consistent x k i new t l u = record {
 pub record Keeps {A : Type 0} (x : Extended) (r : Result (A × Extended) Status) : Type 0 where
   pub kept : IsConsistent (state_after x r)
 
-if_keeps : {A : Type 0} (x : Extended) (b : Bool) (r s : Result (A × Extended) Status) → Keeps x r → Keeps x s → Keeps x (cond b r s)
+if_keeps : {A : Type 0} (x : Extended) (b : Bool) (r s : Result (A × Extended) Status) → Keeps x r → Keeps x s →
+    Keeps x (cond b r s)
 if_keeps x true r s p q = p
 if_keeps x false r s p q = q
 
-need_keeps : {A B : Type 0} (x : Extended) (o : Option A) (e : Status) (f : A → Result (B × Extended) Status) → IsConsistent x → ((v : A) → o ≡ Some v → Keeps x (f v)) → Keeps x (need o e f)
+need_keeps : {A B : Type 0} (x : Extended) (o : Option A) (e : Status) (f : A → Result (B × Extended) Status) →
+    IsConsistent x → ((v : A) → o ≡ Some v → Keeps x (f v)) → Keeps x (need o e f)
 need_keeps x None e f l h = record { kept = l }
 need_keeps x (Some v) e f l h = h v refl
 
@@ -166,11 +186,13 @@ refused x e l = record { kept = l }
 pub record KeepsTables {A E : Type 0} (x : Extended) (r : Result (A × Tables) E) : Type 0 where
   pub kept : IsConsistent (extended (state_after x.xms r) x.memory)
 
-if_tables : {A E : Type 0} (x : Extended) (b : Bool) (r s : Result (A × Tables) E) → KeepsTables x r → KeepsTables x s → KeepsTables x (cond b r s)
+if_tables : {A E : Type 0} (x : Extended) (b : Bool) (r s : Result (A × Tables) E) → KeepsTables x r → KeepsTables x s →
+    KeepsTables x (cond b r s)
 if_tables x true r s p q = p
 if_tables x false r s p q = q
 
-need_tables : {A B E : Type 0} (x : Extended) (o : Option A) (e : E) (f : A → Result (B × Tables) E) → IsConsistent x → ((v : A) → o ≡ Some v → KeepsTables x (f v)) → KeepsTables x (need o e f)
+need_tables : {A B E : Type 0} (x : Extended) (o : Option A) (e : E) (f : A → Result (B × Tables) E) → IsConsistent x →
+    ((v : A) → o ≡ Some v → KeepsTables x (f v)) → KeepsTables x (need o e f)
 need_tables x None e f l h = record { kept = l }
 need_tables x (Some v) e f l h = h v refl
 
@@ -180,27 +202,54 @@ refused_tables x e l = record { kept = l }
 -- ---- the high memory area and upper memory
 
 with_area : (x : Extended) (b : Bool) → IsConsistent x → IsConsistent (extended (record x.xms { area = b }) x.memory)
-with_area x b l = record { places = l.places; contents = l.contents; based = l.based; handles = l.handles; blocks = l.blocks; apart = l.apart; shown = l.shown; line = l.line }
+with_area x b l = record {
+  places = l.places;
+  contents = l.contents;
+  based = l.based;
+  handles = l.handles;
+  blocks = l.blocks;
+  apart = l.apart;
+  shown = l.shown;
+  line = l.line;
+}
 
-with_blocks_above : (x : Extended) (us : List Upper) → IsConsistent x → IsConsistent (extended (with_uppers x.xms us) x.memory)
-with_blocks_above x us l = record { places = l.places; contents = l.contents; based = l.based; handles = l.handles; blocks = l.blocks; apart = l.apart; shown = l.shown; line = l.line }
+with_blocks_above : (x : Extended) (us : List Upper) → IsConsistent x →
+    IsConsistent (extended (with_uppers x.xms us) x.memory)
+with_blocks_above x us l = record {
+  places = l.places;
+  contents = l.contents;
+  based = l.based;
+  handles = l.handles;
+  blocks = l.blocks;
+  apart = l.apart;
+  shown = l.shown;
+  line = l.line;
+}
 
 take_keeps : (x : Extended) → IsConsistent x → KeepsTables x (take_area x.xms)
 unfolding take_area
-take_keeps x l = if_tables x x.xms.area (Err AreaTaken) _ (refused_tables x AreaTaken l) (record { kept = with_area x true l })
+take_keeps x l = if_tables x x.xms.area (Err AreaTaken) _ (refused_tables x AreaTaken l)
+    (record { kept = with_area x true l })
 
 release_keeps : (x : Extended) → IsConsistent x → KeepsTables x (release_area x.xms)
 unfolding release_area
-release_keeps x l = if_tables x x.xms.area _ (Err AreaNotTaken) (record { kept = with_area x false l }) (refused_tables x AreaNotTaken l)
+release_keeps x l = if_tables x x.xms.area _ (Err AreaNotTaken) (record { kept = with_area x false l })
+    (refused_tables x AreaNotTaken l)
 
 new_keeps : (x : Extended) (n : ℕ) (o : Option ℕ) → IsConsistent x → KeepsTables x (new_upper x.xms n o)
 new_keeps x n None l = refused_tables x (refusal.Smaller (largest_upper x.xms.uppers)) l
-new_keeps x n (Some p) l = record { kept = with_blocks_above x (inserted (record { segment = first_segment + p; paragraphs = n }) x.xms.uppers) l }
+new_keeps x n (Some p) l = record {
+  kept = with_blocks_above x (inserted (record {
+    segment = first_segment + p;
+    paragraphs = n;
+  }) x.xms.uppers) l;
+}
 
 request_keeps : (x : Extended) (n : ℕ) → IsConsistent x → KeepsTables x (request_upper x.xms n)
 unfolding request_upper
 request_keeps x n l =
-    if_tables x ((length x.xms.uppers == 64) || (largest_upper x.xms.uppers == 0)) (Err refusal.NoneFree) _ (refused_tables x refusal.NoneFree l)
+    if_tables x ((length x.xms.uppers == 64) || (largest_upper x.xms.uppers == 0)) (Err refusal.NoneFree) _
+    (refused_tables x refusal.NoneFree l)
     (new_keeps x (at_least_one n) (lowest_upper x.xms.uppers (at_least_one n)) l)
 
 release_upper_keeps : (x : Extended) (segment : ℕ) → IsConsistent x → KeepsTables x (release_upper x.xms segment)
@@ -213,13 +262,20 @@ resize_upper_keeps : (x : Extended) (segment n : ℕ) → IsConsistent x → Kee
 unfolding resize_upper
 resize_upper_keeps x segment n l =
     need_tables x (position (begins_at segment) x.xms.uppers) refusal.Unknown _ l (λ k e.
-    if_tables x (nat_lt (room x.xms.uppers k segment) (at_least_one n)) (Err (refusal.Smaller (room x.xms.uppers k segment))) _
+    if_tables x (nat_lt (room x.xms.uppers k segment) (at_least_one n))
+    (Err (refusal.Smaller (room x.xms.uppers k segment))) _
     (refused_tables x (refusal.Smaller (room x.xms.uppers k segment)) l)
-    (record { kept = with_blocks_above x (set x.xms.uppers k (record { segment = segment; paragraphs = at_least_one n })) l }))
+    (record {
+      kept = with_blocks_above x (set x.xms.uppers k (record {
+        segment = segment;
+        paragraphs = at_least_one n;
+      })) l;
+    }))
 
 -- ---- handles in use
 
-slot_cases : (hs : List (Option Handle)) (n : ℕ) (b : Bool) (s : Handle) → cond b None (handle_at hs (n - 1)) ≡ Some s → handle_at hs (n - 1) ≡ Some s
+slot_cases : (hs : List (Option Handle)) (n : ℕ) (b : Bool) (s : Handle) → cond b None (handle_at hs (n - 1)) ≡ Some s →
+    handle_at hs (n - 1) ≡ Some s
 slot_cases hs n true s e = absurd (none-some s e)
 slot_cases hs n false s e = e
 
@@ -231,12 +287,15 @@ there_at [] k s e = absurd (none-some s e)
 there_at (h ∷ hs) zero s e = omega arith
 there_at (h ∷ hs) (suc k) s e = omega (arith, there_at hs k s e)
 
-extended_at : (x : Extended) (k : ℕ) (s : Handle) → IsConsistent x → handle_at x.xms.handles k ≡ Some s → IsExtended x.memory s
+extended_at : (x : Extended) (k : ℕ) (s : Handle) → IsConsistent x → handle_at x.xms.handles k ≡ Some s →
+    IsExtended x.memory s
 extended_at x k s l e = subst (λ (o : Option Handle). IfSome o (IsExtended x.memory)) e (l.blocks k)
 
 -- the blocks of the other handles are others
-others_at : (x : Extended) (k : ℕ) (s : Handle) → IsConsistent x → handle_at x.xms.handles k ≡ Some s → (j : ℕ) → j ≢ k → IfSome (handle_at x.xms.handles j) (λ h. h.block ≢ s.block)
-others_at x k s l e j ne = subst (λ (o : Option Handle). IfSome o (λ a. HasOther a (handle_at x.xms.handles j))) e (l.apart k j (λ f. ne (sym f)))
+others_at : (x : Extended) (k : ℕ) (s : Handle) → IsConsistent x → handle_at x.xms.handles k ≡ Some s → (j : ℕ) →
+    j ≢ k → IfSome (handle_at x.xms.handles j) (λ h. h.block ≢ s.block)
+others_at x k s l e j ne = subst (λ (o : Option Handle). IfSome o (λ a. HasOther a (handle_at x.xms.handles j))) e
+    (l.apart k j (λ f. ne (sym f)))
 
 -- ---- a block comes
 
@@ -248,7 +307,8 @@ pub record IsNew (s : Blocks) (u i : ℕ) (t : Blocks) : Type 0 where
   pub bytes : i < length s.contents → get_or t.contents i [] ≡ zeros u
   pub changed : IsChanged s t i
 
-new_block : (s : Blocks) (u i : ℕ) (b : Extent) → (i < length s.places) × (get_or s.places i None ≡ None) → IsNew s u i (with_block s i b (zeros u))
+new_block : (s : Blocks) (u i : ℕ) (b : Extent) → (i < length s.places) × (get_or s.places i None ≡ None) →
+    IsNew s u i (with_block s i b (zeros u))
 new_block s u i b v = record {
   free = v.1;
   within = v.0;
@@ -258,13 +318,15 @@ new_block s u i b v = record {
   changed = changed_block s i (Some b) (zeros u);
 }
 
-placed_new : (s : Blocks) (u : ℕ) (o p : Option ℕ) (i : ℕ) (t : Blocks) → first_empty s.places ≡ o → placed s u o p ≡ Some (i, t) → IsNew s u i t
+placed_new : (s : Blocks) (u : ℕ) (o p : Option ℕ) (i : ℕ) (t : Blocks) → first_empty s.places ≡ o →
+    placed s u o p ≡ Some (i, t) → IsNew s u i t
 placed_new s u None p i t e h = absurd (none-some (i, t) h)
 placed_new s u (Some k) None i t e h = absurd (none-some (i, t) h)
 placed_new s u (Some k) (Some p) i t e h =
     let new : Blocks = with_block s k (record { base = p; units = u }) (zeros u) in
     let same = same_Some (k, new) (i, t) h in
-    subst (λ (x : ℕ × Blocks). IsNew s u x.0 x.1) same (new_block s u k (record { base = p; units = u }) (vacant s.places k e))
+    subst (λ (x : ℕ × Blocks). IsNew s u x.0 x.1) same (new_block s u k (record { base = p; units = u })
+    (vacant s.places k e))
 
 pub taken_new : (s : Blocks) (u i : ℕ) (t : Blocks) → taken s u ≡ Some (i, t) → IsNew s u i t
 taken_new s u i t h = placed_new s u (first_empty s.places) (lowest s.places s.units u) i t refl h
@@ -272,22 +334,26 @@ taken_new s u i t h = placed_new s u (first_empty s.places) (lowest s.places s.u
 pub not_live : (s : Blocks) (i : ℕ) → get_or s.places i None ≡ None → IsLive s i → ⊥
 not_live s i free live = none-some live.1.0 (sym free ∙ live.1.1)
 
-not_shown : (x : Extended) (i : ℕ) (b : Bool) → shows x.memory.windows i ≡ b → IsConsistent x → get_or x.memory.blocks.places i None ≡ None → shows x.memory.windows i ≡ false
+not_shown : (x : Extended) (i : ℕ) (b : Bool) → shows x.memory.windows i ≡ b → IsConsistent x →
+    get_or x.memory.blocks.places i None ≡ None → shows x.memory.windows i ≡ false
 not_shown x i true e l free = absurd (not_live x.memory.blocks i free (l.shown i e))
 not_shown x i false e l free = e
 
-comes : (x : Extended) (k kib i : ℕ) (t : Blocks) → IsConsistent x → k < length x.xms.handles → AreBased t.places → IsNew x.memory.blocks kib i t → IsTurn x k i (Some (record { block = i; kib = kib; locks = 0 })) t
+comes : (x : Extended) (k kib i : ℕ) (t : Blocks) → IsConsistent x → k < length x.xms.handles → AreBased t.places →
+    IsNew x.memory.blocks kib i t → IsTurn x k i (Some (record { block = i; kib = kib; locks = 0 })) t
 comes x k kib i t l within based n =
     let hidden = not_shown x i (shows x.memory.windows i) refl l n.free in
     record {
       within = within;
       changed = n.changed;
-      others = λ j ne. if_handle (handle_at x.xms.handles j) (IsExtended x.memory) (λ h. h.block ≢ i) (λ h p f. not_live x.memory.blocks i n.free (subst (IsLive x.memory.blocks) f p.live)) (l.blocks j);
+      others = λ j ne. if_handle (handle_at x.xms.handles j) (IsExtended x.memory) (λ h. h.block ≢ i)
+          (λ h p f. not_live x.memory.blocks i n.free (subst (IsLive x.memory.blocks) f p.live)) (l.blocks j);
       new_block = (
         refl,
         record {
           live = (omega (arith, n.within, l.places), (n.place, n.at));
-          size = ap length (n.bytes (omega (arith, n.within, l.places, l.contents))) ∙ length-replicate (kib * 1024) 0 ∙ omega arith;
+          size = ap length (n.bytes (omega (arith, n.within, l.places, l.contents))) ∙ length-replicate (kib * 1024) 0
+              ∙ omega arith;
           hidden = hidden;
         },
       );
@@ -296,13 +362,15 @@ comes x k kib i t l within based n =
     }
 
 -- a free handle and a new block are consistent with the rest
-pub allocated : (x : Extended) (kib k : ℕ) (p : ℕ × Blocks) → IsConsistent x → position is_none x.xms.handles ≡ Some k → taken x.memory.blocks kib ≡ Some p
+pub allocated : (x : Extended) (kib k : ℕ) (p : ℕ × Blocks) → IsConsistent x → position is_none x.xms.handles ≡ Some k →
+    taken x.memory.blocks kib ≡ Some p
     → IsConsistent (leaving x (with_slot x.xms (k + 1) (Some (record { block = p.0; kib = kib; locks = 0 }))) p.1)
 allocated x kib k p l at is =
     let h : Option Handle = Some (record { block = p.0; kib = kib; locks = 0 }) in
     let there = position-Some is_none x.xms.handles k None at in
     let same : k ≡ k + 1 - 1 = omega arith in
-    let made : IsConsistent (turned x k h p.1) = turn_consistent x k p.0 h p.1 l (comes x k kib p.0 p.1 l there.0 (taken_based x.memory.blocks kib p.0 p.1 is l.based) (taken_new x.memory.blocks kib p.0 p.1 is)) in
+    let made : IsConsistent (turned x k h p.1) = turn_consistent x k p.0 h p.1 l (comes x k kib p.0 p.1 l there.0
+    (taken_based x.memory.blocks kib p.0 p.1 is l.based) (taken_new x.memory.blocks kib p.0 p.1 is)) in
     subst (λ j. IsConsistent (turned x j h p.1)) same made
 
 allocate_keeps : (x : Extended) (kib : ℕ) → IsConsistent x → Keeps x (allocate x kib)
@@ -313,7 +381,8 @@ allocate_keeps x kib l =
 
 -- ---- a block goes
 
-goes : (x : Extended) (k : ℕ) (s : Handle) → IsConsistent x → handle_at x.xms.handles k ≡ Some s → IsTurn x k s.block None (without x.memory.blocks s.block)
+goes : (x : Extended) (k : ℕ) (s : Handle) → IsConsistent x → handle_at x.xms.handles k ≡ Some s →
+    IsTurn x k s.block None (without x.memory.blocks s.block)
 goes x k s l e = record {
   within = there_at x.xms.handles k s e;
   changed = changed_block x.memory.blocks s.block None [];
@@ -329,14 +398,18 @@ deallocate_keeps x n l =
     need_keeps x (slot x.xms n) UnknownHandle _ l (λ s e.
     if_keeps x (nat_lt 0 s.locks) (Err Locked) _ (refused x Locked l)
     (let at = slot_at x.xms n s e in
-    record { kept = turn_consistent x (n - 1) s.block None (without x.memory.blocks s.block) l (goes x (n - 1) s l at) }))
+    record {
+      kept = turn_consistent x (n - 1) s.block None (without x.memory.blocks s.block) l (goes x
+          (n - 1) s l at);
+    }))
 
 -- ---- locks
 
 pub same_pool : (s : Blocks) (i : ℕ) → IsChanged s s i
 same_pool s i = record { others = λ j ne. refl; kept = λ j ne. refl; places = refl; contents = refl }
 
-locks_change : (x : Extended) (k locks : ℕ) (s : Handle) → IsConsistent x → handle_at x.xms.handles k ≡ Some s → IsConsistent (turned x k (Some (record s { locks = locks })) x.memory.blocks)
+locks_change : (x : Extended) (k locks : ℕ) (s : Handle) → IsConsistent x → handle_at x.xms.handles k ≡ Some s →
+    IsConsistent (turned x k (Some (record s { locks = locks })) x.memory.blocks)
 locks_change x k locks s l e =
     let old = extended_at x k s l e in
     turn_consistent x k s.block (Some (record s { locks = locks })) x.memory.blocks l (record {
@@ -388,11 +461,13 @@ at_base_sized s i u (Some p) t e =
     } in
     subst (IsResized s i u) (same_Some (with_block s i b xs) t e) made
 
-pub at_sized : (s : Blocks) (i u : ℕ) (o : Option Extent) (t : Blocks) → resized_from s i u o ≡ Some t → IsResized s i u t
+pub at_sized : (s : Blocks) (i u : ℕ) (o : Option Extent) (t : Blocks) → resized_from s i u o ≡ Some t →
+    IsResized s i u t
 at_sized s i u None t e = absurd (none-some t e)
 at_sized s i u (Some b) t e = at_base_sized s i u (new_base s i b u) t e
 
-grows : (x : Extended) (k kib : ℕ) (s : Handle) (t : Blocks) → IsConsistent x → handle_at x.xms.handles k ≡ Some s → resized x.memory.blocks s.block kib ≡ Some t → IsTurn x k s.block (Some (record s { kib = kib })) t
+grows : (x : Extended) (k kib : ℕ) (s : Handle) (t : Blocks) → IsConsistent x → handle_at x.xms.handles k ≡ Some s →
+    resized x.memory.blocks s.block kib ≡ Some t → IsTurn x k s.block (Some (record s { kib = kib })) t
 grows x k kib s t l e r =
     let old = extended_at x k s l e in
     let z = at_sized x.memory.blocks s.block kib (get_or x.memory.blocks.places s.block None) t r in
@@ -418,7 +493,10 @@ reallocate_keeps x n kib l =
     need_keeps x (slot x.xms n) UnknownHandle _ l (λ s e.
     if_keeps x (nat_lt 0 s.locks) (Err Locked) _ (refused x Locked l)
     (need_keeps x (resized x.memory.blocks s.block kib) NoMemory _ l (λ t r.
-    record { kept = turn_consistent x (n - 1) s.block (Some (record s { kib = kib })) t l (grows x (n - 1) kib s t l (slot_at x.xms n s e) r) })))
+    record {
+      kept = turn_consistent x (n - 1) s.block (Some (record s { kib = kib })) t l (grows x (n - 1) kib s t l
+          (slot_at x.xms n s e) r);
+    })))
 
 -- ---- A20
 
@@ -428,7 +506,12 @@ switched_keeps x global local l = record {
   contents = l.contents;
   based = l.based;
   handles = l.handles;
-  blocks = λ k. if_handle (handle_at x.xms.handles k) (IsExtended x.memory) (IsExtended (with_a20 x.memory (is_on global local))) (λ h p. record { live = p.live; size = p.size; hidden = p.hidden }) (l.blocks k);
+  blocks = λ k. if_handle (handle_at x.xms.handles k) (IsExtended x.memory)
+      (IsExtended (with_a20 x.memory (is_on global local))) (λ h p. record {
+        live = p.live;
+        size = p.size;
+        hidden = p.hidden;
+      }) (l.blocks k);
   apart = l.apart;
   shown = l.shown;
   line = refl;
@@ -442,7 +525,8 @@ disable_keeps : (x : Extended) → IsConsistent x → IsConsistent (disable_glob
 unfolding disable_globally
 disable_keeps x l = switched_keeps x false x.xms.local l
 
-enabled_if : (x : Extended) (b : Bool) → IsConsistent x → Keeps {A = Unit {0}} x (cond b (Err LineError) (Ok (tt, switched x x.xms.global (x.xms.local + 1))))
+enabled_if : (x : Extended) (b : Bool) → IsConsistent x →
+    Keeps {A = Unit {0}} x (cond b (Err LineError) (Ok (tt, switched x x.xms.global (x.xms.local + 1))))
 enabled_if x true l = refused x LineError l
 enabled_if x false l = record { kept = switched_keeps x x.xms.global (x.xms.local + 1) l }
 
@@ -451,7 +535,10 @@ unfolding enable_locally
 enable_locally_keeps x l = enabled_if x (x.xms.local == 0xFFFF) l
 
 abbrev disabled_result : Extended → Bool → Bool → (Result (Unit {0}) Status × Extended)
-disabled_result x b c = cond b (Err LineError, x) (cond c (Err LineStillOn) (Ok tt), switched x x.xms.global (x.xms.local - 1))
+disabled_result x b c = cond b (Err LineError, x) (
+  cond c (Err LineStillOn) (Ok tt),
+  switched x x.xms.global (x.xms.local - 1),
+)
 
 disabled_if : (x : Extended) (b c : Bool) → IsConsistent x → IsConsistent (disabled_result x b c).1
 disabled_if x true c l = l
@@ -476,23 +563,30 @@ writes_keep x m s l = record {
   contents = s.page_count ∙ l.contents;
   based = subst AreBased (sym s.places) l.based;
   handles = l.handles;
-  blocks = λ k. if_handle (handle_at x.xms.handles k) (IsExtended x.memory) (IsExtended m) (λ h. extended_kept x.memory m h s) (l.blocks k);
+  blocks = λ k. if_handle (handle_at x.xms.handles k) (IsExtended x.memory) (IsExtended m)
+      (λ h. extended_kept x.memory m h s) (l.blocks k);
   apart = l.apart;
-  shown = λ b e. let live = l.shown b (ap (λ (ws : List (Option ℕ)). shows ws b) (sym s.windows) ∙ e) in (live.0, (live.1.0, ap (λ (xs : List (Option Extent)). get_or xs b None) s.places ∙ live.1.1));
+  shown = λ b e. let live = l.shown b (ap (λ (ws : List (Option ℕ)). shows ws b) (sym s.windows) ∙ e) in
+      (live.0, (live.1.0, ap (λ (xs : List (Option Extent)). get_or xs b None) s.places ∙ live.1.1));
   line = s.a20 ∙ l.line;
 }
 
 -- ---- moves
 
-then_keeps : {A B : Type 0} (x : Extended) (r : Result A Status) (f : A → Result (B × Extended) Status) → IsConsistent x → ((v : A) → Keeps x (f v)) → Keeps x (and_then r f)
+then_keeps : {A B : Type 0} (x : Extended) (r : Result A Status) (f : A → Result (B × Extended) Status) →
+    IsConsistent x → ((v : A) → Keeps x (f v)) → Keeps x (and_then r f)
 then_keeps x (Ok v) f l h = h v
 then_keeps x (Err e) f l h = record { kept = l }
 
 between_keeps : (x : Extended) (n : ℕ) (from to : Side) → IsConsistent x → Keeps x (move_between x n from to)
 unfolding move_between
 between_keeps x n from to l =
-    if_keeps x (nat_lt from.end (from.region.start + n) || nat_lt to.end (to.region.start + n)) (Err BadLength) _ (refused x BadLength l)
-    (record { kept = writes_keep x (regions.span_moved x.memory from.region to.region n) (moves_keep.moving x.memory from.region to.region n) l })
+    if_keeps x (nat_lt from.end (from.region.start + n) || nat_lt to.end (to.region.start + n)) (Err BadLength) _
+    (refused x BadLength l)
+    (record {
+      kept = writes_keep x (regions.span_moved x.memory from.region to.region n) (moves_keep.moving x.memory
+          from.region to.region n) l;
+    })
 
 move_keeps : (x : Extended) (segment offset : ℕ) → IsConsistent x → Keeps x (move_memory x segment offset)
 unfolding move_memory

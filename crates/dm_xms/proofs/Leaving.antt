@@ -32,8 +32,17 @@ leaves_all x = record { blocks = λ b n o. o; others = λ b live none. (live, no
 -- the same handles, and the same pool
 leaves_tables : (x : Extended) (xms : Tables) → xms.handles ≡ x.xms.handles → LeavesOutside x (extended xms x.memory)
 leaves_tables x xms e = record {
-  blocks = λ b n o. record { live = o.live; size = o.size; apart = λ k. subst (λ (hs : List (Option Handle)). IfSome (handle_at hs k) (λ h. h.block ≢ b)) (sym e) (o.apart k) };
-  others = λ b live none. (live, λ k. subst (λ (hs : List (Option Handle)). IfSome (handle_at hs k) (λ h. h.block ≢ b)) e (none k));
+  blocks = λ b n o. record {
+    live = o.live;
+    size = o.size;
+    apart = λ k. subst (λ (hs : List (Option Handle)). IfSome (handle_at hs k) (λ h. h.block ≢ b)) (sym e) (o.apart
+        k);
+  };
+  others = λ b live none. (
+    live,
+    λ k. subst (λ (hs : List (Option Handle)). IfSome (handle_at hs k)
+        (λ h. h.block ≢ b)) e (none k),
+  );
   windows = refl;
 }
 
@@ -45,7 +54,17 @@ leaves_shaped x m s = record {
     size = s.page_sizes b ∙ o.size;
     apart = o.apart;
   };
-  others = λ b live none. ((live.0, (live.1.0, ap (λ (xs : List (Option Extent)). get_or xs b None) (sym s.places) ∙ live.1.1)), none);
+  others = λ b live none. (
+    (
+      live.0,
+      (
+        live.1.0,
+        ap (λ (xs : List (Option Extent)). get_or xs b None) (sym s.places)
+            ∙ live.1.1,
+      ),
+    ),
+    none,
+  );
   windows = s.windows;
 }
 
@@ -62,23 +81,27 @@ record IsChange (x : Extended) (k i : ℕ) (new : Option Handle) (t : Blocks) : 
   pub inside : (b size : ℕ) → IsOutside x b size → i ≢ b
 
 -- a block that is there and is not the new handle's is another one
-other_block : (t : Blocks) (i b : ℕ) (new : Option Handle) → IfSome new (λ h. h.block ≡ i) → (new ≡ None → get_or t.places i None ≡ None) → IsLive t b → IfSome new (λ h. h.block ≢ b) → b ≢ i
+other_block : (t : Blocks) (i b : ℕ) (new : Option Handle) → IfSome new (λ h. h.block ≡ i) →
+    (new ≡ None → get_or t.places i None ≡ None) → IsLive t b → IfSome new (λ h. h.block ≢ b) → b ≢ i
 other_block t i b None same gone live ne e = not_live t i (gone refl) (subst (IsLive t) e live)
 other_block t i b (Some h) same gone live ne e = ne (same ∙ sym e)
 
 was_live : (s t : Blocks) (i b : ℕ) → IsChanged s t i → b ≢ i → IsLive t b → IsLive s b
 was_live s t i b c ne live = (live.0, (live.1.0, sym (c.others b ne) ∙ live.1.1))
 
-none_before : (x : Extended) (k i b : ℕ) (new : Option Handle) → IfSome (handle_at x.xms.handles k) (λ h. h.block ≡ i) → b ≢ i → ((j : ℕ) → IfSome (handle_at (set x.xms.handles k new) j) (λ h. h.block ≢ b))
+none_before : (x : Extended) (k i b : ℕ) (new : Option Handle) → IfSome (handle_at x.xms.handles k) (λ h. h.block ≡ i) →
+    b ≢ i → ((j : ℕ) → IfSome (handle_at (set x.xms.handles k new) j) (λ h. h.block ≢ b))
     → (j : ℕ) → IfSome (handle_at x.xms.handles j) (λ h. h.block ≢ b)
 none_before x k i b new old ne none j =
     let P : Option Handle → Type 0 = λ o. IfSome o (λ h. h.block ≢ b) in
     elim (cases_eq j k) [
-      | inl e ↦ subst P (sym (ap (handle_at x.xms.handles) e)) (if_handle (handle_at x.xms.handles k) (λ h. h.block ≡ i) (λ h. h.block ≢ b) (λ h p q. ne (sym q ∙ p)) old)
+      | inl e ↦ subst P (sym (ap (handle_at x.xms.handles) e)) (if_handle (handle_at x.xms.handles k) (λ h. h.block
+          ≡ i) (λ h. h.block ≢ b) (λ h p q. ne (sym q ∙ p)) old)
       | inr f ↦ subst P (set_beside x k j new f) (none j)
     ]
 
-still_apart : (x : Extended) (k i b : ℕ) (new : Option Handle) → k < length x.xms.handles → IfSome new (λ h. h.block ≡ i) → i ≢ b → ((j : ℕ) → IfSome (handle_at x.xms.handles j) (λ h. h.block ≢ b))
+still_apart : (x : Extended) (k i b : ℕ) (new : Option Handle) → k < length x.xms.handles →
+    IfSome new (λ h. h.block ≡ i) → i ≢ b → ((j : ℕ) → IfSome (handle_at x.xms.handles j) (λ h. h.block ≢ b))
     → (j : ℕ) → IfSome (handle_at (set x.xms.handles k new) j) (λ h. h.block ≢ b)
 still_apart x k i b new within same ne apart j =
     let P : Option Handle → Type 0 = λ o. IfSome o (λ h. h.block ≢ b) in
@@ -89,7 +112,8 @@ still_apart x k i b new within same ne apart j =
       | inr f ↦ subst P (sym (set_beside x k j new f)) (apart j)
     ]
 
-change_leaves : (x : Extended) (k i : ℕ) (new : Option Handle) (t : Blocks) → IsChange x k i new t → LeavesOutside x (turned x k new t)
+change_leaves : (x : Extended) (k i : ℕ) (new : Option Handle) (t : Blocks) → IsChange x k i new t →
+    LeavesOutside x (turned x k new t)
 change_leaves x k i new t c = record {
   blocks = λ b size o.
       let ne = c.inside b size o in
@@ -107,10 +131,12 @@ change_leaves x k i new t c = record {
 }
 
 -- the block of a handle is not outside
-handled : (x : Extended) (k : ℕ) (s : Handle) → handle_at x.xms.handles k ≡ Some s → (b size : ℕ) → IsOutside x b size → s.block ≢ b
+handled : (x : Extended) (k : ℕ) (s : Handle) → handle_at x.xms.handles k ≡ Some s → (b size : ℕ) → IsOutside x b size →
+    s.block ≢ b
 handled x k s e b size o = subst (λ (t : Option Handle). IfSome t (λ h. h.block ≢ b)) e (o.apart k)
 
-its_block : (x : Extended) (k : ℕ) (s : Handle) → handle_at x.xms.handles k ≡ Some s → IfSome (handle_at x.xms.handles k) (λ h. h.block ≡ s.block)
+its_block : (x : Extended) (k : ℕ) (s : Handle) → handle_at x.xms.handles k ≡ Some s →
+    IfSome (handle_at x.xms.handles k) (λ h. h.block ≡ s.block)
 its_block x k s e = subst (λ (t : Option Handle). IfSome t (λ h. h.block ≡ s.block)) (sym e) refl
 
 if_none : (o : Option Handle) (i : ℕ) → is_none o ≡ true → IfSome o (λ h. h.block ≡ i)
@@ -127,15 +153,18 @@ no_block (p ∷ ps) (suc i) = no_block ps i
 record Leaves {A E : Type 0} (x : Extended) (r : Result (A × Extended) E) : Type 0 where
   pub kept : LeavesOutside x (state_after x r)
 
-if_leaves : {A E : Type 0} (x : Extended) (b : Bool) (r s : Result (A × Extended) E) → Leaves x r → Leaves x s → Leaves x (cond b r s)
+if_leaves : {A E : Type 0} (x : Extended) (b : Bool) (r s : Result (A × Extended) E) → Leaves x r → Leaves x s →
+    Leaves x (cond b r s)
 if_leaves x true r s p q = p
 if_leaves x false r s p q = q
 
-need_leaves : {A B E : Type 0} (x : Extended) (o : Option A) (e : E) (f : A → Result (B × Extended) E) → ((v : A) → o ≡ Some v → Leaves x (f v)) → Leaves x (need o e f)
+need_leaves : {A B E : Type 0} (x : Extended) (o : Option A) (e : E) (f : A → Result (B × Extended) E) →
+    ((v : A) → o ≡ Some v → Leaves x (f v)) → Leaves x (need o e f)
 need_leaves x None e f h = record { kept = leaves_all x }
 need_leaves x (Some v) e f h = h v refl
 
-then_leaves : {A B E : Type 0} (x : Extended) (r : Result A E) (f : A → Result (B × Extended) E) → ((v : A) → Leaves x (f v)) → Leaves x (and_then r f)
+then_leaves : {A B E : Type 0} (x : Extended) (r : Result A E) (f : A → Result (B × Extended) E) →
+    ((v : A) → Leaves x (f v)) → Leaves x (and_then r f)
 then_leaves x (Ok v) f h = h v
 then_leaves x (Err e) f h = record { kept = leaves_all x }
 
@@ -147,11 +176,13 @@ refused x e = record { kept = leaves_all x }
 record LeavesTables {A E : Type 0} (xms : Tables) (r : Result (A × Tables) E) : Type 0 where
   pub kept : (state_after xms r).handles ≡ xms.handles
 
-if_tables : {A E : Type 0} (xms : Tables) (b : Bool) (r s : Result (A × Tables) E) → LeavesTables xms r → LeavesTables xms s → LeavesTables xms (cond b r s)
+if_tables : {A E : Type 0} (xms : Tables) (b : Bool) (r s : Result (A × Tables) E) → LeavesTables xms r →
+    LeavesTables xms s → LeavesTables xms (cond b r s)
 if_tables xms true r s p q = p
 if_tables xms false r s p q = q
 
-need_tables : {A B E : Type 0} (xms : Tables) (o : Option A) (e : E) (f : A → Result (B × Tables) E) → ((v : A) → LeavesTables xms (f v)) → LeavesTables xms (need o e f)
+need_tables : {A B E : Type 0} (xms : Tables) (o : Option A) (e : E) (f : A → Result (B × Tables) E) →
+    ((v : A) → LeavesTables xms (f v)) → LeavesTables xms (need o e f)
 need_tables xms None e f h = record { kept = refl }
 need_tables xms (Some v) e f h = h v
 
@@ -170,18 +201,21 @@ new_leaves xms n (Some p) = record { kept = refl }
 request_leaves : (xms : Tables) (n : ℕ) → LeavesTables xms (request_upper xms n)
 unfolding request_upper
 request_leaves xms n =
-    if_tables xms ((length xms.uppers == 64) || (largest_upper xms.uppers == 0)) (Err refusal.NoneFree) _ (record { kept = refl })
+    if_tables xms ((length xms.uppers == 64) || (largest_upper xms.uppers == 0)) (Err refusal.NoneFree) _
+    (record { kept = refl })
     (new_leaves xms (at_least_one n) (lowest_upper xms.uppers (at_least_one n)))
 
 release_upper_leaves : (xms : Tables) (segment : ℕ) → LeavesTables xms (release_upper xms segment)
 unfolding release_upper
-release_upper_leaves xms segment = need_tables xms (position (begins_at segment) xms.uppers) refusal.Unknown _ (λ k. record { kept = refl })
+release_upper_leaves xms segment = need_tables xms (position (begins_at segment) xms.uppers) refusal.Unknown _
+    (λ k. record { kept = refl })
 
 resize_upper_leaves : (xms : Tables) (segment n : ℕ) → LeavesTables xms (resize_upper xms segment n)
 unfolding resize_upper
 resize_upper_leaves xms segment n =
     need_tables xms (position (begins_at segment) xms.uppers) refusal.Unknown _ (λ k.
-    if_tables xms (nat_lt (room xms.uppers k segment) (at_least_one n)) (Err (refusal.Smaller (room xms.uppers k segment))) _ (record { kept = refl }) (record { kept = refl }))
+    if_tables xms (nat_lt (room xms.uppers k segment) (at_least_one n))
+    (Err (refusal.Smaller (room xms.uppers k segment))) _ (record { kept = refl }) (record { kept = refl }))
 
 -- ---- blocks
 
@@ -222,7 +256,8 @@ deallocate_leaves x n =
     }))
 
 -- another count of locks
-locks_leave : (x : Extended) (k locks : ℕ) (s : Handle) → handle_at x.xms.handles k ≡ Some s → LeavesOutside x (turned x k (Some (record s { locks = locks })) x.memory.blocks)
+locks_leave : (x : Extended) (k locks : ℕ) (s : Handle) → handle_at x.xms.handles k ≡ Some s →
+    LeavesOutside x (turned x k (Some (record s { locks = locks })) x.memory.blocks)
 locks_leave x k locks s at = change_leaves x k s.block (Some (record s { locks = locks })) x.memory.blocks (record {
   within = there_at x.xms.handles k s at;
   changed = same_pool x.memory.blocks s.block;
@@ -239,12 +274,19 @@ lock_leaves x n =
     if_leaves x (s.locks == 255) (Err TooManyLocks) _ (refused x TooManyLocks)
     (record { kept = locks_leave x (n - 1) (s.locks + 1) s (slot_at x.xms n s e) }))
 
-unlock_if : (x : Extended) (n : ℕ) (o : Option Handle) → slot x.xms n ≡ o → LeavesOutside x (extended (state_after x.xms (need o UnknownHandle (λ (s : Handle).
-    cond (s.locks == 0) (Err NotLocked) (Ok (tt {0}, record x.xms { handles = set x.xms.handles (n - 1) (Some (record s { locks = s.locks - 1 })) }))))) x.memory)
+unlock_if : (x : Extended) (n : ℕ) (o : Option Handle) → slot x.xms n ≡ o →
+    LeavesOutside x (extended (state_after x.xms (need o UnknownHandle (λ (s : Handle).
+    cond (s.locks == 0) (Err NotLocked) (Ok (
+      tt {0},
+      record x.xms { handles = set x.xms.handles (n - 1) (Some (record s { locks = s.locks - 1 })) },
+    ))))) x.memory)
 unlock_if x n None e = leaves_all x
 unlock_if x n (Some s) e = either (s.locks == 0)
   where
-    either : (b : Bool) → LeavesOutside x (extended (state_after x.xms (cond b (Err NotLocked) (Ok (tt {0}, record x.xms { handles = set x.xms.handles (n - 1) (Some (record s { locks = s.locks - 1 })) })))) x.memory)
+    either : (b : Bool) → LeavesOutside x (extended (state_after x.xms (cond b (Err NotLocked) (Ok (
+      tt {0},
+      record x.xms { handles = set x.xms.handles (n - 1) (Some (record s { locks = s.locks - 1 })) },
+    )))) x.memory)
     either true = leaves_all x
     either false = locks_leave x (n - 1) (s.locks - 1) s (slot_at x.xms n s e)
 
@@ -274,7 +316,11 @@ reallocate_leaves x n kib =
 -- ---- A20
 
 switched_leaves : (x : Extended) (global : Bool) (local : ℕ) → LeavesOutside x (switched x global local)
-switched_leaves x global local = record { blocks = λ b n o. record { live = o.live; size = o.size; apart = o.apart }; others = λ b live none. (live, none); windows = refl }
+switched_leaves x global local = record {
+  blocks = λ b n o. record { live = o.live; size = o.size; apart = o.apart };
+  others = λ b live none. (live, none);
+  windows = refl;
+}
 
 enable_leaves : (x : Extended) → LeavesOutside x (enable_globally x)
 unfolding enable_globally
@@ -284,7 +330,10 @@ disable_leaves : (x : Extended) → LeavesOutside x (disable_globally x).1
 unfolding disable_globally
 disable_leaves x = switched_leaves x false x.xms.local
 
-enabled_if : (x : Extended) (b : Bool) → Leaves {A = Unit {0}} x (cond b (Err LineError) (Ok (tt, switched x x.xms.global (x.xms.local + 1))))
+enabled_if : (x : Extended) (b : Bool) → Leaves {A = Unit {0}} x (cond b (Err LineError) (Ok (
+  tt,
+  switched x x.xms.global (x.xms.local + 1),
+)))
 enabled_if x true = refused x LineError
 enabled_if x false = record { kept = switched_leaves x x.xms.global (x.xms.local + 1) }
 
@@ -293,7 +342,10 @@ unfolding enable_locally
 enable_locally_leaves x = enabled_if x (x.xms.local == 0xFFFF)
 
 abbrev disabled_result : Extended → Bool → Bool → (Result (Unit {0}) Status × Extended)
-disabled_result x b c = cond b (Err LineError, x) (cond c (Err LineStillOn) (Ok tt), switched x x.xms.global (x.xms.local - 1))
+disabled_result x b c = cond b (Err LineError, x) (
+  cond c (Err LineStillOn) (Ok tt),
+  switched x x.xms.global (x.xms.local - 1),
+)
 
 disabled_if : (x : Extended) (b c : Bool) → LeavesOutside x (disabled_result x b c).1
 disabled_if x true c = leaves_all x
@@ -308,8 +360,12 @@ disable_locally_leaves x = disabled_if x (x.xms.local == 0) (is_on x.xms.global 
 between_leaves : (x : Extended) (n : ℕ) (from to : Side) → Leaves x (move_between x n from to)
 unfolding move_between
 between_leaves x n from to =
-    if_leaves x (nat_lt from.end (from.region.start + n) || nat_lt to.end (to.region.start + n)) (Err BadLength) _ (refused x BadLength)
-    (record { kept = leaves_shaped x (regions.span_moved x.memory from.region to.region n) (moves_keep.moving x.memory from.region to.region n) })
+    if_leaves x (nat_lt from.end (from.region.start + n) || nat_lt to.end (to.region.start + n)) (Err BadLength) _
+    (refused x BadLength)
+    (record {
+      kept = leaves_shaped x (regions.span_moved x.memory from.region to.region n) (moves_keep.moving x.memory
+          from.region to.region n);
+    })
 
 move_leaves : (x : Extended) (segment offset : ℕ) → Leaves x (move_memory x segment offset)
 unfolding move_memory

@@ -23,7 +23,10 @@ all_free x = free_units (gaps x.memory.blocks.places x.memory.blocks.units)
 -- 08h: the largest gap and all gaps in KiB, each FFFFh at most, as it is returned in a word; an error if there is no
 -- gap
 unfoldable pub free_memory : Extended → Result FreeMemory Status
-free_memory x = if largest_gap x == 0 then Err NoMemory else Ok (record { largest = min 0xFFFF (largest_gap x); total = min 0xFFFF (all_free x) })
+free_memory x = if largest_gap x == 0 then Err NoMemory else Ok (record {
+  largest = min 0xFFFF (largest_gap x);
+  total = min 0xFFFF (all_free x);
+})
 
 -- the state with other tables and with other blocks in the pool; RAM, windows and A20 stay
 abbrev pub leaving : Extended → Tables → Blocks → Extended
@@ -61,7 +64,10 @@ unfoldable pub lock : Extended → ℕ → Result (ℕ × Extended) Status
 lock x handle =
     need (slot x.xms handle) UnknownHandle (λ s.
     if s.locks == 255 then Err TooManyLocks else
-    Ok (begin_address x.memory s.block, record x { xms = with_slot x.xms handle (Some (record s { locks = s.locks + 1 })) }))
+    Ok (
+      begin_address x.memory s.block,
+      record x { xms = with_slot x.xms handle (Some (record s { locks = s.locks + 1 })) },
+    ))
 
 -- 0Dh: the block of a handle gets one lock less; an error if the handle is not in use, or its block has no lock
 unfoldable pub unlock : Tables → ℕ → Result (Unit {0} × Tables) Status

@@ -25,4 +25,5 @@ pub record HasNewBlock (x y : Extended) (handle kib : ℕ) : Type 0 where
 -- error; or each gap of the pool is smaller, and that is the error
 abbrev pub Gives : Extended → ℕ → Result (ℕ × Extended) Status → Type 0
 Gives x kib (Ok w) = HasNewBlock x w.1 w.0 kib
-Gives x kib (Err e) = ((e ≡ NoHandleLeft) × (position is_none x.xms.handles ≡ None)) ⊎ ((e ≡ NoMemory) × (largest_gap x < kib))
+Gives x kib (Err e) = ((e ≡ NoHandleLeft) × (position is_none x.xms.handles ≡ None)) ⊎
+    ((e ≡ NoMemory) × (largest_gap x < kib))

@@ -27,6 +27,7 @@ pub record IsConsistent (x : Extended) : Type 0 where
   pub based : AreBased x.memory.blocks.places
   pub handles : length x.xms.handles ≡ 64
   pub blocks : (k : ℕ) → IfSome (handle_at x.xms.handles k) (IsExtended x.memory)
-  pub apart : (j k : ℕ) → j ≢ k → IfSome (handle_at x.xms.handles j) (λ s. IfSome (handle_at x.xms.handles k) (λ other. other.block ≢ s.block))
+  pub apart : (j k : ℕ) → j ≢ k → IfSome (handle_at x.xms.handles j) (λ s. IfSome (handle_at x.xms.handles k)
+      (λ other. other.block ≢ s.block))
   pub shown : (block : ℕ) → shows x.memory.windows block ≡ true → IsLive x.memory.blocks block
   pub line : x.memory.a20 ≡ is_on x.xms.global x.xms.local

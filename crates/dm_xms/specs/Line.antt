@@ -13,7 +13,10 @@ is_on global local = global || not (local == 0)
 -- the state with this global switch and local count, and A20 on or off as they say; the other tables, RAM, windows and
 -- blocks stay
 abbrev pub switched : Extended → Bool → ℕ → Extended
-switched x global local = record { xms = record x.xms { global = global; local = local }; memory = with_a20 x.memory (is_on global local) }
+switched x global local = record {
+  xms = record x.xms { global = global; local = local };
+  memory = with_a20 x.memory (is_on global local);
+}
 
 -- 03h: the global switch is turned on, and so is A20
 unfoldable pub enable_globally : Extended → Extended

@@ -25,7 +25,10 @@ double_after m segment offset k = word_after m segment offset k + 65536 * word_a
 -- the description of one side, k bytes after segment:offset: a handle, a word, and an offset, a double word, which for
 -- handle 0 is an offset and a segment
 abbrev pub described : Memory → ℕ → ℕ → ℕ → Description
-described m segment offset k = record { handle = word_after m segment offset k; offset = double_after m segment offset (k + 2) }
+described m segment offset k = record {
+  handle = word_after m segment offset k;
+  offset = double_after m segment offset (k + 2);
+}
 
 -- the side that is described: for handle 0 the offset holds an offset and, in its high word, a segment, of memory up
 -- to the end of the high memory area, with A20 on, which is never an error here. For another it is the handle's block
@@ -33,7 +36,10 @@ described m segment offset k = record { handle = word_after m segment offset k; 
 -- is over its block's size
 unfoldable pub side : Extended → Description → Status → Status → Result Side Status
 side x d unknown past =
-    if d.handle == 0 then Ok (record { region = span Linear (d.offset / 65536 * 16 + d.offset % 65536) []; end = 0x10FFF0 }) else
+    if d.handle == 0 then Ok (record {
+      region = span Linear (d.offset / 65536 * 16 + d.offset % 65536) [];
+      end = 0x10FFF0;
+    }) else
     need (slot x.xms d.handle) unknown (λ s.
     if nat_lt (0x400 * s.kib) d.offset then Err past else
     Ok (record { region = span Single d.offset (s.block ∷ []); end = 0x400 * s.kib }))

@@ -88,7 +88,8 @@ impl Xms {
     #[tactic(auto, unfolding(crate::specs::Blocks::allocate))]
     pub fn allocate(&mut self, space: &mut Space, kib: u16) -> Result<u16, Status>
         ensures answer { result ≡ result_of (allocate (extended self.old space.old.memory) kib) }
-        ensures left { extended self.new space.new.memory ≡ state_after (extended self.old space.old.memory) (allocate (extended self.old space.old.memory) kib) }
+        ensures left { extended self.new space.new.memory ≡ state_after (extended self.old space.old.memory) (allocate
+            (extended self.old space.old.memory) kib) }
         ensures kept { space.new ≡ record space.old { memory = space.new.memory } }
     {
         let Some(at) = self.free_slot() else {
@@ -111,7 +112,8 @@ impl Xms {
     pub fn deallocate(&mut self, space: &mut Space, handle: u16) -> Result<(), Status>
         requires { IsConsistent (extended self.old space.old.memory) }
         ensures answer { result ≡ result_of (deallocate (extended self.old space.old.memory) handle) }
-        ensures left { extended self.new space.new.memory ≡ state_after (extended self.old space.old.memory) (deallocate (extended self.old space.old.memory) handle) }
+        ensures left { extended self.new space.new.memory ≡ state_after (extended self.old space.old.memory) (deallocate
+            (extended self.old space.old.memory) handle) }
         ensures kept { space.new ≡ record space.old { memory = space.new.memory } }
     {
         let Some(slot) = self.handle(handle) else {
@@ -134,7 +136,8 @@ impl Xms {
     #[tactic(auto, unfolding(crate::specs::Blocks::lock))]
     pub fn lock(&mut self, space: &Space, handle: u16) -> Result<usize, Status>
         ensures answer { result ≡ result_of (lock (extended self.old space.now.memory) handle) }
-        ensures left { extended self.new space.now.memory ≡ state_after (extended self.old space.now.memory) (lock (extended self.old space.now.memory) handle) }
+        ensures left { extended self.new space.now.memory ≡ state_after (extended self.old space.now.memory) (lock
+            (extended self.old space.now.memory) handle) }
     {
         let Some(slot) = self.handle(handle) else {
             return Err(Status::UnknownHandle);
@@ -198,7 +201,8 @@ impl Xms {
     pub fn reallocate(&mut self, space: &mut Space, handle: u16, kib: u16) -> Result<(), Status>
         requires { IsConsistent (extended self.old space.old.memory) }
         ensures answer { result ≡ result_of (reallocate (extended self.old space.old.memory) handle kib) }
-        ensures left { extended self.new space.new.memory ≡ state_after (extended self.old space.old.memory) (reallocate (extended self.old space.old.memory) handle kib) }
+        ensures left { extended self.new space.new.memory ≡ state_after (extended self.old space.old.memory) (reallocate
+            (extended self.old space.old.memory) handle kib) }
         ensures kept { space.new ≡ record space.old { memory = space.new.memory } }
     {
         let Some(slot) = self.handle(handle) else {

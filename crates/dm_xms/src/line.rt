@@ -66,7 +66,8 @@ impl Xms {
     #[tactic(auto, unfolding(crate::specs::Line::enable_locally))]
     pub fn enable_locally(&mut self, space: &mut Space) -> Result<(), Status>
         ensures answer { result ≡ result_of (enable_locally (extended self.old space.old.memory)) }
-        ensures left { extended self.new space.new.memory ≡ state_after (extended self.old space.old.memory) (enable_locally (extended self.old space.old.memory)) }
+        ensures left { extended self.new space.new.memory ≡ state_after (extended self.old
+            space.old.memory) (enable_locally (extended self.old space.old.memory)) }
         ensures kept { space.new ≡ record space.old { memory = space.new.memory } }
     {
         let global = self.global;

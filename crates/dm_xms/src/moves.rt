@@ -89,7 +89,8 @@ fn move_between(
     requires from { Reaches space.old.memory from.now }
     requires to { Reaches space.old.memory to.now }
     ensures answer { result ≡ result_of (move_between (extended xms.now space.old.memory) len from.now to.now) }
-    ensures left { extended xms.now space.new.memory ≡ state_after (extended xms.now space.old.memory) (move_between (extended xms.now space.old.memory) len from.now to.now) }
+    ensures left { extended xms.now space.new.memory ≡ state_after (extended xms.now space.old.memory) (move_between
+        (extended xms.now space.old.memory) len from.now to.now) }
     ensures refused { OnErr result (space.new ≡ space.old) }
 {
     if from.end < from.region.at(len) || to.end < to.region.at(len) {
@@ -150,7 +151,8 @@ impl Xms {
     pub fn move_memory(&self, space: &mut Space, segment: u16, offset: u16) -> Result<(), Status>
         requires { IsConsistent (extended self.now space.old.memory) }
         ensures answer { result ≡ result_of (move_memory (extended self.now space.old.memory) segment offset) }
-        ensures left { extended self.now space.new.memory ≡ state_after (extended self.now space.old.memory) (move_memory (extended self.now space.old.memory) segment offset) }
+        ensures left { extended self.now space.new.memory ≡ state_after (extended self.now
+            space.old.memory) (move_memory (extended self.now space.old.memory) segment offset) }
         ensures refused { OnErr result (space.new ≡ space.old) }
     {
         let len = double_after(space, segment, offset, 0) as usize;

@@ -59,9 +59,21 @@ impl Model for Xms {
 
     ghost Value = { Tables };
 
-    ghost view = { λ x. record { handles = x.handles; area = x.area; global = x.global; local = x.local; uppers = x.uppers.items } };
+    ghost view = { λ x. record {
+      handles = x.handles;
+      area = x.area;
+      global = x.global;
+      local = x.local;
+      uppers = x.uppers.items;
+    } };
 
-    ghost invariant = { λ x. IsTables (record { handles = x.handles; area = x.area; global = x.global; local = x.local; uppers = x.uppers.items }) };
+    ghost invariant = { λ x. IsTables (record {
+      handles = x.handles;
+      area = x.area;
+      global = x.global;
+      local = x.local;
+      uppers = x.uppers.items;
+    }) };
 }
 
 /// The index of the first handle that is not in use; None if all are.

@@ -24,7 +24,8 @@ pub record IsRunFront (upper : Bool) (S : Memory) (L : List Header) (r : Run) (K
 
 -- e is the first block of L with the free blocks after it taken in so far, and K the headers that are left; if none is
 -- taken in, L is the header of e and K
-pub record IsRunOpen (upper : Bool) (S : Memory) (L : List Header) (e : ListedHeader) (several : Bool) (K : List Header) : Type 0 where
+pub record IsRunOpen (upper : Bool) (S : Memory) (L : List Header) (e : ListedHeader) (several : Bool)
+    (K : List Header) : Type 0 where
   pub joining : IsJoining upper S L e K
   pub single : OnFalse several (L ≡ e.header ∷ K)
 
@@ -39,16 +40,19 @@ pub record IsJoinedTo (upper : Bool) (S : Memory) (L : List Header) (from : ℕ)
 -- the first one is at segment `from`; else `from` is h, and the headers that it has passed are those of the joined list
 abbrev pub MayJoin : Bool → Bool → Memory → List Header → ℕ → ℕ → List Header → Type 0
 MayJoin upper true S L from h K = IsJoinedTo upper S L from
-MayJoin upper false S L from h K = (from ≡ h) × ((done : List Header) × (L ≡ done ++ K) × (join upper L ≡ done ++ join upper K))
+MayJoin upper false S L from h K = (from ≡ h) × ((done : List Header) × (L ≡ done ++ K) ×
+    (join upper L ≡ done ++ join upper K))
 
 -- a walk over L stands at segment h, with the headers K left: its choice so far, and whether and where runs begin
-pub record IsSurveying (upper : Bool) (S : Memory) (L : List Header) (strategy : Strategy) (n : ℕ) (several : Bool) (from h : ℕ) (choice : Choice) (K : List Header) : Type 0 where
+pub record IsSurveying (upper : Bool) (S : Memory) (L : List Header) (strategy : Strategy) (n : ℕ) (several : Bool)
+    (from h : ℕ) (choice : Choice) (K : List Header) : Type 0 where
   pub choosing : IsChoosing upper S L strategy n None h choice K
   pub joins : MayJoin upper several S L from h K
 
 -- what a walk over L finds: the block that the strategy takes for n paragraphs, the size of the largest that it looks
 -- at, and a segment up to which no run of free blocks is to be joined
-pub record IsSurvey (upper : Bool) (S : Memory) (L : List Header) (strategy : Strategy) (n : ℕ) (s : Survey) : Type 0 where
+pub record IsSurvey (upper : Bool) (S : Memory) (L : List Header) (strategy : Strategy) (n : ℕ)
+    (s : Survey) : Type 0 where
   pub block_is : s.choice.block ≡ pick upper strategy n None (join upper L)
   pub largest_is : s.choice.largest ≡ largest upper strategy (join upper L)
   pub joined : IsJoinedTo upper S L s.from
@@ -64,5 +68,6 @@ pub record IsOwnedAt (upper : Bool) (S : Memory) (segment : ℕ) (e : ListedHead
 -- does
 abbrev pub IsNowhere : Bool → Memory → ℕ → ArenaRefusal → Type 0
 IsNowhere upper S segment Destroyed = NoArena S first_header
-IsNowhere upper S segment NoBlock = ((L : List Header) × IsArena S first_header L) × FindsOther upper S first_header segment None
+IsNowhere upper S segment NoBlock = ((L : List Header) × IsArena S first_header L) ×
+    FindsOther upper S first_header segment None
 IsNowhere upper S segment (Short most) = ⊥

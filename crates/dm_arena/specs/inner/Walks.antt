@@ -28,7 +28,8 @@ pub record IsHeaderWritten (S : Memory) (b : Header) (signature : ℕ) (T : Memo
   pub kept : (p : Place) → ((k : ℕ) → k < 5 → p ≢ place S (16 * b.segment + k)) → byte_at T p ≡ byte_at S p
 
 -- e is the first block of L once runs of free blocks are joined, and K the headers of L after it
-pub record IsJoinedFront (upper : Bool) (S : Memory) (L : List Header) (e : ListedHeader) (K : List Header) : Type 0 where
+pub record IsJoinedFront (upper : Bool) (S : Memory) (L : List Header) (e : ListedHeader)
+    (K : List Header) : Type 0 where
   pub is : join upper L ≡ e.header ∷ join upper K
   pub last : e.last ≡ is_nil K
   pub rest : Spells S (next e.header) K
@@ -50,7 +51,8 @@ pub record IsLooking (upper : Bool) (S : Memory) (L : List Header) (p : Place) (
 
 -- a search of L, but for its headers between segments `low` and `high`, for one at the place p stands at segment h,
 -- with the headers K left: L has one exactly if K has one
-pub record IsLookingOutside (S : Memory) (L : List Header) (low high : ℕ) (p : Place) (h : ℕ) (K : List Header) : Type 0 where
+pub record IsLookingOutside (S : Memory) (L : List Header) (low high : ℕ) (p : Place) (h : ℕ)
+    (K : List Header) : Type 0 where
   pub spelled : IsSpelledFrom S h K
   pub forth : OccupiesOutside S L low high p → OccupiesOutside S K low high p
   pub back : OccupiesOutside S K low high p → OccupiesOutside S L low high p
@@ -62,7 +64,8 @@ pub record IsJoined (upper : Bool) (S : Memory) (start : ℕ) (L : List Header) 
 
 -- while the list L is joined in place, from S to T so far: the headers `done` are written, and those of K are left from
 -- segment h on
-pub record IsJoiningAll (upper : Bool) (S : Memory) (start : ℕ) (L : List Header) (T : Memory) (h : ℕ) (done K : List Header) : Type 0 where
+pub record IsJoiningAll (upper : Bool) (S : Memory) (start : ℕ) (L : List Header) (T : Memory) (h : ℕ)
+    (done K : List Header) : Type 0 where
   pub rest : Spells T h K
   pub spells : Spells T start (done ++ K)
   pub is : done ++ join upper K ≡ join upper L
@@ -122,13 +125,17 @@ rest_of fit n b = if b.size == n then None else Some (rest_block fit n b)
 
 -- a search of the joined list stands at segment h, with the headers K left: what it still may find, together with its
 -- choice so far, is the result for the whole list
-pub record IsChoosing (upper : Bool) (S : Memory) (L : List Header) (strategy : Strategy) (n : ℕ) (spoken : Option Spoken) (h : ℕ) (choice : Choice) (K : List Header) : Type 0 where
+pub record IsChoosing (upper : Bool) (S : Memory) (L : List Header) (strategy : Strategy) (n : ℕ)
+    (spoken : Option Spoken) (h : ℕ) (choice : Choice) (K : List Header) : Type 0 where
   pub spelled : IsSpelledFrom S h K
-  pub block_is : pick upper strategy n choice.block (left_of spoken (join upper K)) ≡ pick upper strategy n None (left_of spoken (join upper L))
-  pub largest_is : max choice.largest (largest upper strategy (left_of spoken (join upper K))) ≡ largest upper strategy (left_of spoken (join upper L))
+  pub block_is : pick upper strategy n choice.block (left_of spoken (join upper K))
+      ≡ pick upper strategy n None (left_of spoken (join upper L))
+  pub largest_is : max choice.largest (largest upper strategy (left_of spoken (join upper K)))
+      ≡ largest upper strategy (left_of spoken (join upper L))
 
 -- `plan` is what an allocation of n paragraphs for the owner writes and returns, and the new list is clear
-pub record IsPlan (upper : Bool) (S : Memory) (start : ℕ) (strategy : Strategy) (n owner : ℕ) (plan : Plan) : Type 0 where
+pub record IsPlan (upper : Bool) (S : Memory) (start : ℕ) (strategy : Strategy) (n owner : ℕ)
+    (plan : Plan) : Type 0 where
   pub taking : Taking upper S start strategy n
   pub cut_is : cut_list plan.cut ≡ cut_block strategy.fit n owner taking.block
   pub segment_is : plan.segment ≡ taken_segment strategy.fit n taking.block + 1
@@ -147,7 +154,8 @@ pub record Placing (upper : Bool) (S : Memory) (start : ℕ) (C : List Header) :
   pub clear : IsClear S (before ++ (C ++ after))
 
 -- while 4Ah makes a block larger: g is e with the free blocks R, the first of K, taken in; the headers Q are left
-pub record IsGrown (upper : Bool) (S : Memory) (e : ListedHeader) (K : List Header) (g : ListedHeader) (R Q : List Header) : Type 0 where
+pub record IsGrown (upper : Bool) (S : Memory) (e : ListedHeader) (K : List Header) (g : ListedHeader)
+    (R Q : List Header) : Type 0 where
   pub is : K ≡ R ++ Q
   pub free : AllFree upper R
   pub header : g.header ≡ absorb e.header R
@@ -161,7 +169,8 @@ pub record IsGrowable (S : Memory) (e : ListedHeader) (K : List Header) : Type 0
 
 -- while an owner's blocks are freed in the list L, from S to T so far: those of P are, and the headers K are left from
 -- segment h on
-pub record IsReleasing (S : Memory) (start : ℕ) (owner : ℕ) (L : List Header) (T : Memory) (h : ℕ) (P K : List Header) : Type 0 where
+pub record IsReleasing (S : Memory) (start : ℕ) (owner : ℕ) (L : List Header) (T : Memory) (h : ℕ)
+    (P K : List Header) : Type 0 where
   pub rest : Spells T h K
   pub spells : Spells T start (released owner P ++ K)
   pub is : L ≡ P ++ K
@@ -172,4 +181,5 @@ pub record IsReleasing (S : Memory) (start : ℕ) (owner : ℕ) (L : List Header
 abbrev pub FindsOther : Bool → Memory → ℕ → ℕ → Option ListedHeader → Type 0
 FindsOther upper S start segment None = (L : List Header) → IsSpelledFrom S start L → IsNoBlock upper L segment
 FindsOther upper S start segment (Some e) =
-    (is_link_block upper segment ≡ false) × ((L : List Header) → IsSpelledFrom S start L → (P : List Header) × (Q : List Header) × IsFoundAt S L segment e P Q)
+    (is_link_block upper segment ≡ false) × ((L : List Header) → IsSpelledFrom S start L → (P : List Header) ×
+    (Q : List Header) × IsFoundAt S L segment e P Q)

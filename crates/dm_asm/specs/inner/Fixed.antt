@@ -57,7 +57,8 @@ AreKnown (x ∷ xs) (line.Known n ∷ ls) bytes = (rest : List ℕ) × IsKnown x
 
 -- from old to new, a statement with this item is added at the end of what is kept, with its bytes or as `Open`
 abbrev pub Keeps : Known → Known → Item → Type 0
-Keeps old new item = (xs : List Sized) (x : Sized) → x.statement.item ≡ item → AreKnown xs old.lines.items old.bytes.items → AreKnown (xs ++ x ∷ []) new.lines.items new.bytes.items
+Keeps old new item = (xs : List Sized) (x : Sized) → x.statement.item ≡ item →
+    AreKnown xs old.lines.items old.bytes.items → AreKnown (xs ++ x ∷ []) new.lines.items new.bytes.items
 
 -- the result of adding an item: its length, after it is added; None if it has none, as the table has no such
 -- instruction

@@ -18,11 +18,13 @@ use Rattle.dm_asm.specs.inner.Fixed.{AreKnown}
 
 -- the map has the names of the list, each with its first place there, and no others
 abbrev pub AreKept : Labels → List Label → Type 0
-AreKept kept labels = (name : Name'.Name) → tree.get (slice_cmp nat_cmp) kept.places name.bytes ≡ place_of_label name labels
+AreKept kept labels = (name : Name'.Name) → tree.get (slice_cmp nat_cmp) kept.places name.bytes
+    ≡ place_of_label name labels
 
 -- each place in the map is an offset, below 65,536
 abbrev pub AreNear : Labels → Type 0
-AreNear kept = (name : Name'.Name) → IfSome (tree.get (slice_cmp nat_cmp) kept.places name.bytes) (λ place. place < 2 ^ 16)
+AreNear kept = (name : Name'.Name) → IfSome (tree.get (slice_cmp nat_cmp) kept.places name.bytes) (λ place. place
+    < 2 ^ 16)
 
 -- why a statement at an offset has no bytes: a label that is not in the list, or else a number or target that is out
 -- of range

@@ -36,7 +36,8 @@ pub record IsOccupiedBy (S : Memory) (P : List Header) (k : ℕ) : Type 0 where
 -- there are 1000h paragraphs, and the occupied ones are exactly those of the headers P that stand in pages
 pub record AreOccupied (S : Memory) (P : List Header) (occupied : List Bool) : Type 0 where
   pub size : length occupied ≡ 0x1000
-  pub each : (segment block offset : ℕ) → HasHeader P segment → place S (16 * segment) ≡ Page block offset → slice_index_or occupied (frame_paragraph S block offset) false ≡ true
+  pub each : (segment block offset : ℕ) → HasHeader P segment → place S (16 * segment) ≡ Page block offset →
+      slice_index_or occupied (frame_paragraph S block offset) false ≡ true
   pub only : (k : ℕ) → slice_index_or occupied k false ≡ true → IsOccupiedBy S P k
 
 -- `FrameHeaders::admit`: true if a header at the segment may stand after the headers P, whose paragraphs are
@@ -52,10 +53,12 @@ Admits S segment old result new =
 -- cursor goes over F. Past the end of the first list they are that list's; of a walk past the end of the second
 -- nothing is said
 abbrev pub FitsAt : Memory → Bool → List Header → Option ℕ → Option ℕ → List Bool → Type 0
-FitsAt S second F (Some t) cursor occupied = (P : List Header) × Leads S F (start_of second) P t × AreOccupied S (F ++ P) occupied × IsCursor S F cursor t
+FitsAt S second F (Some t) cursor occupied = (P : List Header) × Leads S F (start_of second) P t ×
+    AreOccupied S (F ++ P) occupied × IsCursor S F cursor t
 FitsAt S false F None cursor occupied = (L : List Header) × IsArena S first_header L × AreOccupied S L occupied
 FitsAt S true F None cursor occupied = Unit {0}
 
 -- the invariant of `Headers`: its occupied paragraphs and its cursor over the first list fit the walk w
 abbrev pub FitsWalk : Walking → Option ℕ → List Bool → Type 0
-FitsWalk w cursor occupied = (F : List Header) × IsBehind w.memory w.second F × FitsAt w.memory w.second F w.at cursor occupied
+FitsWalk w cursor occupied = (F : List Header) × IsBehind w.memory w.second F ×
+    FitsAt w.memory w.second F w.at cursor occupied

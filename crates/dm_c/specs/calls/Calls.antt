@@ -12,5 +12,7 @@ pub data IsDoneOrRefused (status : ℕ) (Done : Type 0) (Refused : Refusal → T
 -- the buffer `new` is `old` with the items at its front, with status 0, if they fit; otherwise it is `old`, with status
 -- 4. In both cases `wanted` is how many bytes they are
 pub data GivesItems {A : Type 0} (items old new : List A) (wanted status : ℕ) : Type 0 where
-  whole : length items ≤ length old → new ≡ items ++ drop (length items) old → wanted ≡ length items → status ≡ 0 → GivesItems items old new wanted status
-  small : length old < length items → new ≡ old → wanted ≡ length items → status ≡ 4 → GivesItems items old new wanted status
+  whole : length items ≤ length old → new ≡ items ++ drop (length items) old → wanted ≡ length items → status ≡ 0 →
+      GivesItems items old new wanted status
+  small : length old < length items → new ≡ old → wanted ≡ length items → status ≡ 4 →
+      GivesItems items old new wanted status

@@ -39,9 +39,14 @@ event_index (Came place) before = place
 
 -- `dm_c_run_to`: a run of at most n steps up to an event, why it stopped, and which event came. Where the kind of an
 -- event is none (status 23), an allocation failed or no program is loaded, nothing changes
-pub data EventsTo (h : Hosted) (n : ℕ) (events : List Awaited) (before after : Stopped) (place_before place : ℕ) (status : ℕ) (g : Hosted) : Type 0 where
-  bad_event : list_all is_known events ≡ false → status ≡ 23 → g ≡ h → after ≡ before → place ≡ place_before → EventsTo h n events before after place_before place status g
-  done : (how : RunEnd) → list_all is_known events ≡ true → status ≡ 0 → Works h (λ s t. RunsSession s n (map event_of events) how t) g → after ≡ ended_of how → place ≡ event_index how place_before
+pub data EventsTo (h : Hosted) (n : ℕ) (events : List Awaited) (before after : Stopped) (place_before place : ℕ)
+    (status : ℕ) (g : Hosted) : Type 0 where
+  bad_event : list_all is_known events ≡ false → status ≡ 23 → g ≡ h → after ≡ before → place ≡ place_before →
+      EventsTo h n events before after place_before place status g
+  done : (how : RunEnd) → list_all is_known events ≡ true → status ≡ 0 →
+      Works h (λ s t. RunsSession s n (map event_of events) how t) g → after ≡ ended_of how →
+      place ≡ event_index how place_before
       → EventsTo h n events before after place_before place status g
-  refused : (why : Refusal) → list_all is_known events ≡ true → status ≡ status_of why → IsNotRun h why ⊎ (why ≡ NoMemory) → g ≡ h → after ≡ before → place ≡ place_before
+  refused : (why : Refusal) → list_all is_known events ≡ true → status ≡ status_of why → IsNotRun h why ⊎
+      (why ≡ NoMemory) → g ≡ h → after ≡ before → place ≡ place_before
       → EventsTo h n events before after place_before place status g

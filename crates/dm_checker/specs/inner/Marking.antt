@@ -12,7 +12,8 @@ Keeps n old new = (p : ℕ) → n ≤ level_at old p → n ≤ level_at new p
 -- header is in the frame (`high`), in all windows
 pub record HasMap (windows : List (Option ℕ)) (high : Bool) (ms : List ℕ) : Type 0 where
   pub gap : (p : ℕ) → 0xC000 ≤ p → p < 0xD000 → 1 ≤ level_at ms p
-  pub frame : (p : ℕ) → 0xE000 ≤ p → p < 0xF000 → (is_some (slice_index_or windows ((p - 0xE000) / 0x400) None) && not high) ≡ false → 1 ≤ level_at ms p
+  pub frame : (p : ℕ) → 0xE000 ≤ p → p < 0xF000 → (is_some (slice_index_or windows ((p - 0xE000) / 0x400) None) &&
+      not high) ≡ false → 1 ≤ level_at ms p
   pub rom : (p : ℕ) → 0xF000 ≤ p → p < 0x10000 → 1 ≤ level_at ms p
   pub top : (p : ℕ) → 0x10FFF ≤ p → 1 ≤ level_at ms p
 

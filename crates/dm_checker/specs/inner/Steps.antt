@@ -42,17 +42,27 @@ pub record IsUnlisted (s : State) : Type 0 where
 -- a finding with its step: the step's number, the process, where in its code the program performed it, what it
 -- performed, and who allocated or freed, by what is known after it
 abbrev pub found_by : Before → ℕ → Known → Act → Finding → Found
-found_by b step k a f = record { step = step; process = b.present; site = b.site; act = a; finding = f; origin = origin_of k b.a20 f }
+found_by b step k a f = record {
+  step = step;
+  process = b.present;
+  site = b.site;
+  act = a;
+  finding = f;
+  origin = origin_of k b.a20 f;
+}
 
 -- the report `new` is the report `old` with the findings `more` added, or, without `free`, those that are not about
 -- free memory
 abbrev pub ReportsMore : Bool → Reported → Reported → List Found → Type 0
-ReportsMore free old new more = (fs : List Found) → old ≡ report_of (reported free fs) → new ≡ report_of (reported free (fs ++ more))
+ReportsMore free old new more = (fs : List Found) → old ≡ report_of (reported free fs) →
+    new ≡ report_of (reported free (fs ++ more))
 
 -- the step from s performs the instruction i of `length` bytes, unless it performs a call (None)
 pub data IsNextAct (s : State) : Option (Ins × ℕ) → Type 0 where
-  an_instruction : (i : Ins) (length : ℕ) → call_of s.cpu ≡ None → BeginsWith (fetched s.memory s.cpu) i length → IsNextAct s (Some (i, length))
-  no_instruction : ((i : Ins) (length : ℕ) → call_of s.cpu ≡ None → BeginsWith (fetched s.memory s.cpu) i length → ⊥) → IsNextAct s None
+  an_instruction : (i : Ins) (length : ℕ) → call_of s.cpu ≡ None → BeginsWith (fetched s.memory s.cpu) i length →
+      IsNextAct s (Some (i, length))
+  no_instruction : ((i : Ins) (length : ℕ) → call_of s.cpu ≡ None → BeginsWith (fetched s.memory s.cpu) i length → ⊥) →
+      IsNextAct s None
 
 -- `new` is `old` with what is found appended of the bytes that the step from s touches, if it is made; w is what memory
 -- shows of the arena before it
@@ -92,12 +102,14 @@ pub record IsPassing (s t : State) : Type 0 where
 -- so many such steps lead from s to this state
 pub data PassesIn (s : State) : ℕ → State → Type 0 where
   here : PassesIn s 0 s
-  further : (n : ℕ) (t u : State) → PassesIn s n t → MakesStep t (record { stop = None; state = u }) → IsPassing t u → PassesIn s (n + 1) u
+  further : (n : ℕ) (t u : State) → PassesIn s n t → MakesStep t (record { stop = None; state = u }) → IsPassing t u →
+      PassesIn s (n + 1) u
 
 -- one checked step from s to t, with this stop or None: the report `new` is `old` with the findings of the step added,
 -- those about free memory only with `free`; and if the machine goes on, w is what memory shows of the arena after the
 -- step, and l what is known of who allocated and who freed, if k was before it
-pub record ChecksOne (free : Bool) (s : State) (stop : Option Stop) (t : State) (w : Watch) (k l : Known) (old new : Reported) : Type 0 where
+pub record ChecksOne (free : Bool) (s : State) (stop : Option Stop) (t : State) (w : Watch) (k l : Known)
+    (old new : Reported) : Type 0 where
   pub answers : Answers s stop t
   pub found : List Found
   pub finds : FindsAtAny s stop t k l found

@@ -38,7 +38,8 @@ pub record IsSeen (upper : Bool) (m : Memory) (w : Watch) : Type 0 where
 -- any. The list breaks at a segment (Err), or is whole, and then the walk is at its end
 abbrev pub IsWalked : Walking → List Header → Result Walking ℕ → List Header → Type 0
 IsWalked w F (Err at) headers = IsCut w.memory F (start_of w.second) headers at
-IsWalked w F (Ok v) headers = (v.memory ≡ w.memory) × (v.second ≡ w.second) × (v.at ≡ None) × IsArenaBehind w.memory F (start_of w.second) headers
+IsWalked w F (Ok v) headers = (v.memory ≡ w.memory) × (v.second ≡ w.second) × (v.at ≡ None) ×
+    IsArenaBehind w.memory F (start_of w.second) headers
 
 -- `new` is `old` with the headers of the walk's list appended; `rest` is the walk at its end, or where the list breaks
 pub record Collects (w : Walking) (rest : Result Walking ℕ) (old new : List Watched) : Type 0 where

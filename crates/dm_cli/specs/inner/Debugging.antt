@@ -26,12 +26,19 @@ pub record IsAnsweredBy (s : Debugged) (line : List ℕ) (t : Debugged) (before 
 
 -- the line's answer was not written whole or not flushed, with this fault: an allocation failed, and nothing was
 -- written; or a write failed after a first part; or the flush failed
-pub data IsUnanswered (s : Debugged) (line : List ℕ) (t : Debugged) (before after : Option (List ℕ)) (opened failures : ℕ) : Fault → Type 0 where
-  cut_short : IsCutOff s line t → Keeps before after → failures ≡ opened → IsUnanswered s line t before after opened failures OutOfMemory
-  partly : (text : List ℕ) (fault : Fault) → Tells s line t text → AppendsPart before after text → HasFailed opened failures → IsWriteFault fault → IsUnanswered s line t before after opened failures fault
-  unflushed : (text : List ℕ) (fault : Fault) → Tells s line t text → Appends before after text → HasFailed opened failures → IsWriteFault fault → IsUnanswered s line t before after opened failures fault
+pub data IsUnanswered (s : Debugged) (line : List ℕ) (t : Debugged) (before after : Option (List ℕ))
+    (opened failures : ℕ) : Fault → Type 0 where
+  cut_short : IsCutOff s line t → Keeps before after → failures ≡ opened →
+      IsUnanswered s line t before after opened failures OutOfMemory
+  partly : (text : List ℕ) (fault : Fault) → Tells s line t text → AppendsPart before after text →
+      HasFailed opened failures → IsWriteFault fault → IsUnanswered s line t before after opened failures fault
+  unflushed : (text : List ℕ) (fault : Fault) → Tells s line t text → Appends before after text →
+      HasFailed opened failures → IsWriteFault fault → IsUnanswered s line t before after opened failures fault
 
 -- the lines of a reader, at most 16 MiB in all, were executed through a buffer; or the allocation of the buffer failed
-pub data ConversesWith (typed : Option (List ℕ)) (s t : Debugged) (before after : Option (List ℕ)) (opened failures : ℕ) : Option Fault → Type 0 where
-  through_buffer : (end : Option Fault) → IsConversation 16777216 typed s t before after opened failures end → ConversesWith typed s t before after opened failures end
-  without_buffer : Keeps before after → failures ≡ opened → ConversesWith typed s t before after opened failures (Some OutOfMemory)
+pub data ConversesWith (typed : Option (List ℕ)) (s t : Debugged) (before after : Option (List ℕ))
+    (opened failures : ℕ) : Option Fault → Type 0 where
+  through_buffer : (end : Option Fault) → IsConversation 16777216 typed s t before after opened failures end →
+      ConversesWith typed s t before after opened failures end
+  without_buffer : Keeps before after → failures ≡ opened → ConversesWith typed s t before after opened failures
+      (Some OutOfMemory)

@@ -10,8 +10,11 @@ use Rattle.dm_cli.specs.Faults.{IsWriteFault}
 
 -- `dm run` once its machine m is loaded: the whole output of the run was written; or a first part of it, if a write
 -- failed
-pub data RunsMachine (m : State) (steps : ℕ) (before after : Option (List ℕ)) (failed_before failed_after : ℕ) : Result Stop Fault → Type 0 where
-  machine_ran : (t : State) (stop : Stop) → IsRun m steps stop t → Appends before after t.console.output → failed_after ≡ failed_before
+pub data RunsMachine (m : State) (steps : ℕ) (before after : Option (List ℕ)) (failed_before failed_after : ℕ) : Result
+    Stop Fault → Type 0 where
+  machine_ran : (t : State) (stop : Stop) → IsRun m steps stop t → Appends before after t.console.output →
+      failed_after ≡ failed_before
       → RunsMachine m steps before after failed_before failed_after (Ok stop)
-  output_cut : (t : State) (stop : Stop) (fault : Fault) → IsRun m steps stop t → AppendsPart before after t.console.output → HasFailed failed_before failed_after → IsWriteFault fault
+  output_cut : (t : State) (stop : Stop) (fault : Fault) → IsRun m steps stop t →
+      AppendsPart before after t.console.output → HasFailed failed_before failed_after → IsWriteFault fault
       → RunsMachine m steps before after failed_before failed_after (Err fault)

@@ -20,5 +20,6 @@ pub record IsFirstLoaded (fresh : State) (paths : List (List ℕ)) (tail : List 
 pub data IsFirstFault (fresh : State) (o : MachineOptions) : Fault → Type 0 where
   tail_is_long : 126 < length o.tail.now → IsFirstFault fresh o TailTooLong
   no_first : length o.tail.now ≤ 126 → paths_of o ≡ [] → IsFirstFault fresh o NotFound
-  first_refused : (first : List ℕ) (others : List (List ℕ)) (fault : Fault) → length o.tail.now ≤ 126 → paths_of o ≡ first ∷ others
+  first_refused : (first : List ℕ) (others : List (List ℕ)) (fault : Fault) → length o.tail.now ≤ 126 →
+      paths_of o ≡ first ∷ others
       → IsLoadFault fresh (last_part first) fault → IsFirstFault fresh o fault

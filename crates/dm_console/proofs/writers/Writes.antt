@@ -26,5 +26,6 @@ within_further bytes at n before taken =
     omega (arith, left, whole, before)
 
 -- a write that took something is no failure
-pub count_after-taken : (count n : ℕ) (bytes : List ℕ) → (n ≡ 0 → ⊥) → count_after {E = Failed} count bytes (Ok n) ≡ count
+pub count_after-taken : (count n : ℕ) (bytes : List ℕ) → (n ≡ 0 → ⊥) → count_after {E = Failed} count bytes (Ok n)
+    ≡ count
 count_after-taken count n bytes some = grind (arith, common_steps)

@@ -74,30 +74,41 @@ no_prefix_byte prefix.Lock e = omega (arith, e)
 no_prefix_byte (prefix.Repeat NotEqual) e = omega (arith, e)
 no_prefix_byte (prefix.Repeat Equal) e = omega (arith, e)
 
-number_is : (a : Action) (k m n : ℕ) (rest second : List ℕ) → a.mnemonic ≡ op.Int → a.first ≡ operand.ByteValue m → m < 2 ^ 8 → take k (n ∷ rest) ≡ m ∷ second → IsInt a n
+number_is : (a : Action) (k m n : ℕ) (rest second : List ℕ) → a.mnemonic ≡ op.Int → a.first ≡ operand.ByteValue m →
+    m < 2 ^ 8 → take k (n ∷ rest) ≡ m ∷ second → IsInt a n
 number_is a zero m n rest second mn first fits e = (let nothing : [] ≡ m ∷ second = e in cc)
 number_is a (suc k) m n rest second mn first fits e =
     let same : n ≡ m = same_head n m (take k rest) second e in
     record { mnemonic = mn; number = first ∙ ap operand.ByteValue (sym same); fits = omega (arith, same, fits) }
 
-action_is : (a : Action) (k n : ℕ) (rest body : List ℕ) → SpellsAction a body → 0xCD ∷ take k (n ∷ rest) ≡ body → IsInt a n
+action_is : (a : Action) (k n : ℕ) (rest body : List ℕ) → SpellsAction a body → 0xCD ∷ take k (n ∷ rest) ≡ body →
+    IsInt a n
 action_is a k n rest body x e =
     let whole : 0xCD ∷ take k (n ∷ rest) ≡ x.first_byte ∷ x.behind ++ (x.first_part ++ x.second_part) = e ∙ x.parts in
-    let first_byte : 0xCD ≡ x.first_byte = same_head 0xCD x.first_byte (take k (n ∷ rest)) (x.behind ++ (x.first_part ++ x.second_part)) whole in
-    let others : take k (n ∷ rest) ≡ x.behind ++ (x.first_part ++ x.second_part) = same_tail 0xCD x.first_byte (take k (n ∷ rest)) (x.behind ++ (x.first_part ++ x.second_part)) whole in
-    let entry : entry_of x.first_byte ≡ Plain (template op.Int is.ByteValue is.Nothing) = ap entry_of (sym first_byte) ∙ entry_int in
-    let has : HasTemplate (Plain (template op.Int is.ByteValue is.Nothing)) x.fields x.behind x.template = subst (λ (o : OpcodeEntry). HasTemplate o x.fields x.behind x.template) entry x.has_template in
-    let fills : Fills is.ByteValue x.fields a.first x.first_part = subst (λ (r : Template). Fills r.first x.fields a.first x.first_part) has.0 x.first in
+    let first_byte : 0xCD ≡ x.first_byte = same_head 0xCD x.first_byte (take k (n ∷ rest)) (x.behind
+    ++ (x.first_part ++ x.second_part)) whole in
+    let others : take k (n ∷ rest) ≡ x.behind ++ (x.first_part ++ x.second_part) =
+    same_tail 0xCD x.first_byte (take k (n ∷ rest)) (x.behind ++ (x.first_part ++ x.second_part)) whole in
+    let entry : entry_of x.first_byte ≡ Plain (template op.Int is.ByteValue is.Nothing) = ap entry_of (sym first_byte)
+    ∙ entry_int in
+    let has : HasTemplate (Plain (template op.Int is.ByteValue is.Nothing)) x.fields x.behind x.template =
+    subst (λ (o : OpcodeEntry). HasTemplate o x.fields x.behind x.template) entry x.has_template in
+    let fills : Fills is.ByteValue x.fields a.first x.first_part =
+    subst (λ (r : Template). Fills r.first x.fields a.first x.first_part) has.0 x.first in
     let none : x.behind ≡ [] = has.1.1 in
     let part : x.first_part ≡ fills.0 ∷ [] = fills.3 in
     number_is a k fills.0 n rest x.second_part (x.mnemonic ∙ ap (λ (r : Template). r.mnemonic) has.0) fills.2 fills.1
-    (others ∙ ap (λ (d : List ℕ). d ++ (x.first_part ++ x.second_part)) none ∙ ap (λ (d : List ℕ). d ++ x.second_part) part)
+    (others ∙ ap (λ (d : List ℕ). d ++ (x.first_part ++ x.second_part)) none ∙ ap (λ (d : List ℕ). d
+    ++ x.second_part) part)
 
-spelled_by : (a : Action) (k n : ℕ) (rest : List ℕ) (ps : List Prefix) (body : List ℕ) → SpellsAction a body → take k (0xCD ∷ n ∷ rest) ≡ map prefix_byte ps ++ body → IsInt a n
-spelled_by a zero n rest [] body x e = (let nothing : [] ≡ x.first_byte ∷ x.behind ++ (x.first_part ++ x.second_part) = e ∙ x.parts in cc)
+spelled_by : (a : Action) (k n : ℕ) (rest : List ℕ) (ps : List Prefix) (body : List ℕ) → SpellsAction a body →
+    take k (0xCD ∷ n ∷ rest) ≡ map prefix_byte ps ++ body → IsInt a n
+spelled_by a zero n rest [] body x e = (let nothing : [] ≡ x.first_byte ∷ x.behind ++ (x.first_part ++ x.second_part) =
+    e ∙ x.parts in cc)
 spelled_by a zero n rest (p ∷ ps) body x e = (let nothing : [] ≡ prefix_byte p ∷ (map prefix_byte ps ++ body) = e in cc)
 spelled_by a (suc k) n rest [] body x e = action_is a k n rest body x e
-spelled_by a (suc k) n rest (p ∷ ps) body x e = absurd (no_prefix_byte p (same_head 0xCD (prefix_byte p) (take k (n ∷ rest)) (map prefix_byte ps ++ body) e))
+spelled_by a (suc k) n rest (p ∷ ps) body x e =
+    absurd (no_prefix_byte p (same_head 0xCD (prefix_byte p) (take k (n ∷ rest)) (map prefix_byte ps ++ body) e))
 
 -- bytes that begin with CDh and n begin with INT n alone
 int_of : (i : Ins) (k n : ℕ) (rest : List ℕ) → BeginsWith (0xCD ∷ n ∷ rest) i k → IsInt i.action n
@@ -105,7 +116,8 @@ int_of i k n rest b = spelled_by i.action k n rest b.spells.prefixes b.spells.re
 
 -- ---- what INT n reads
 
-reads_vector : (g : Guest) (p : Prefixes) (n : ℕ) (second : Operand) → (reads_by g p Interrupt (operand.ByteValue n) second).second ≡ Some (Word 0 (4 * (n % 256)))
+reads_vector : (g : Guest) (p : Prefixes) (n : ℕ) (second : Operand) →
+    (reads_by g p Interrupt (operand.ByteValue n) second).second ≡ Some (Word 0 (4 * (n % 256)))
 unfolding reads_by value_of
 reads_vector g p n second = refl
 
@@ -129,19 +141,25 @@ vector_at true n small = omega (arith, small)
 vector_at false n small = omega (arith, small)
 
 passes_second : (p : ℕ → Bool) (a20 : Bool) (e : Elements) → pass p a20 e ≡ true → passes_if p a20 e.second ≡ true
-passes_second p a20 e t = and_right (passes_if p a20 e.first) (passes_if p a20 e.second) (and_left (passes_if p a20 e.first && passes_if p a20 e.second) (passes_if p a20 e.third) t)
+passes_second p a20 e t = and_right (passes_if p a20 e.first) (passes_if p a20 e.second)
+    (and_left (passes_if p a20 e.first && passes_if p a20 e.second) (passes_if p a20 e.third) t)
 
 below_two : (ms : List ℕ) (a : ℕ) → lies_below ms 2 a ≡ true → level_at ms (a / 16) < 2
 below_two ms a e = grind (arith, nat_tests)
 
-no_int : (ms : List ℕ) (t : State) (i : Ins) (k n : ℕ) → IsInt i.action n → IsQuiet ms t.memory.a20 (reads (guest t.cpu t.memory) i k) (writes (guest t.cpu t.memory) i k) → 2 ≤ level_at ms (n / 4) → ⊥
+no_int : (ms : List ℕ) (t : State) (i : Ins) (k n : ℕ) → IsInt i.action n →
+    IsQuiet ms t.memory.a20 (reads (guest t.cpu t.memory) i k) (writes (guest t.cpu t.memory) i k) →
+    2 ≤ level_at ms (n / 4) → ⊥
 no_int ms t i k n x q marked =
     let g = guest t.cpu t.memory in
     let a20 = t.memory.a20 in
     let address = linear a20 0 (4 * (n % 256)) in
-    let second : passes_if (lies_below ms 2) a20 (reads g i k).second ≡ true = passes_second (lies_below ms 2) a20 (reads g i k) q.reads in
-    let vector : passes_if (lies_below ms 2) a20 (Some (Word 0 (4 * (n % 256)))) ≡ true = subst (λ (o : Option Element). passes_if (lies_below ms 2) a20 o ≡ true) (int_reads g i k n x) second in
-    let first : lies_below ms 2 address ≡ true = and_left (lies_below ms 2 address) (lies_below ms 2 (linear_of a20 (far 0 (up (4 * (n % 256)) 1)))) vector in
+    let second : passes_if (lies_below ms 2) a20 (reads g i k).second ≡ true =
+    passes_second (lies_below ms 2) a20 (reads g i k) q.reads in
+    let vector : passes_if (lies_below ms 2) a20 (Some (Word 0 (4 * (n % 256)))) ≡ true =
+    subst (λ (o : Option Element). passes_if (lies_below ms 2) a20 o ≡ true) (int_reads g i k n x) second in
+    let first : lies_below ms 2 address ≡ true = and_left (lies_below ms 2 address)
+    (lies_below ms 2 (linear_of a20 (far 0 (up (4 * (n % 256)) 1)))) vector in
     let less : level_at ms (address / 16) < 2 = below_two ms address first in
     let at : address / 16 ≡ n / 4 = vector_at a20 n x.fits in
     let there : level_at ms (address / 16) ≡ level_at ms (n / 4) = ap (level_at ms) at in
@@ -158,8 +176,10 @@ fetched_call t n e =
     let rest : List ℕ = map b (2 ∷ 3 ∷ 4 ∷ 5 ∷ 6 ∷ 7 ∷ 8 ∷ 9 ∷ 10 ∷ 11 ∷ 12 ∷ 13 ∷ 14 ∷ 15 ∷ []) in
     (rest, ap (λ (x : ℕ). x ∷ b 1 ∷ rest) first ∙ ap (λ (x : ℕ). 0xCD ∷ x ∷ rest) second)
 
-calls_by : (ms : List ℕ) (t : State) (i : Ins) (k n : ℕ) (c : Bool) → calls t n ≡ c → BeginsWith (fetched t.memory t.cpu) i k
-    → IsQuiet ms t.memory.a20 (reads (guest t.cpu t.memory) i k) (writes (guest t.cpu t.memory) i k) → 2 ≤ level_at ms (n / 4) → c ≡ false
+calls_by : (ms : List ℕ) (t : State) (i : Ins) (k n : ℕ) (c : Bool) → calls t n ≡ c →
+    BeginsWith (fetched t.memory t.cpu) i k
+    → IsQuiet ms t.memory.a20 (reads (guest t.cpu t.memory) i k) (writes (guest t.cpu t.memory) i k) →
+    2 ≤ level_at ms (n / 4) → c ≡ false
 calls_by ms t i k n false e b q marked = refl
 calls_by ms t i k n true e b q marked =
     let bytes = fetched_call t n e in
@@ -167,5 +187,6 @@ calls_by ms t i k n true e b q marked =
 
 -- where a quiet instruction is next, no call is whose vector is marked
 pub no_call : (ms : List ℕ) (t : State) (i : Ins) (k n : ℕ) → BeginsWith (fetched t.memory t.cpu) i k
-    → IsQuiet ms t.memory.a20 (reads (guest t.cpu t.memory) i k) (writes (guest t.cpu t.memory) i k) → 2 ≤ level_at ms (n / 4) → calls t n ≡ false
+    → IsQuiet ms t.memory.a20 (reads (guest t.cpu t.memory) i k) (writes (guest t.cpu t.memory) i k) →
+    2 ≤ level_at ms (n / 4) → calls t n ≡ false
 no_call ms t i k n b q marked = calls_by ms t i k n (calls t n) refl b q marked

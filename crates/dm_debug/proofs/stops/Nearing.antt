@@ -25,7 +25,8 @@ neither : (b x : Bool) → (if b then true else x) ≡ false → (b ≡ false) �
 neither true x e = absurd (false≢true (sym e))
 neither false x e = (refl, e)
 
-pub one_append : (ps qs : List Breakpoint) (s o : ℕ) → is_one_of (ps ++ qs) s o ≡ false → (is_one_of ps s o ≡ false) × (is_one_of qs s o ≡ false)
+pub one_append : (ps qs : List Breakpoint) (s o : ℕ) → is_one_of (ps ++ qs) s o ≡ false → (is_one_of ps s o ≡ false) ×
+    (is_one_of qs s o ≡ false)
 one_append [] qs s o e = (refl, e)
 one_append (p ∷ ps) qs s o e =
     let h = neither (p.offset == o && p.segment == s) (is_one_of (ps ++ qs) s o) e in
@@ -48,7 +49,8 @@ not_equal p q h = elim (cases_eq p q) [
   | inr other ↦ grind (arith, nat_tests)
 ]
 
-point_other : (a20 : Bool) (s o p : ℕ) → s < 65536 → o < 65536 → is_one_of (pairs_at s p) s o ≡ false → (p == linear a20 s o) ≡ false
+point_other : (a20 : Bool) (s o p : ℕ) → s < 65536 → o < 65536 → is_one_of (pairs_at s p) s o ≡ false →
+    (p == linear a20 s o) ≡ false
 point_other true s o p seg small e =
     let h = one_append (pair_at s p) (pair_at s (p + 1048576)) s o e in
     not_equal p (s * 16 + o) (pair_other s o p small h.0)
@@ -60,7 +62,8 @@ point_other false s o p seg small e =
     ])
 
 -- at an address that is none of the pairs of an event at an address, the event has not come
-pub apart : (start : Memory) (s : State) (e : Event) → is_at_address e ≡ true → s.cpu.cs < 65536 → s.cpu.ip < 65536 → is_one_of (pairs_for s.cpu.cs e) s.cpu.cs s.cpu.ip ≡ false → has_come start s e ≡ false
+pub apart : (start : Memory) (s : State) (e : Event) → is_at_address e ≡ true → s.cpu.cs < 65536 → s.cpu.ip < 65536 →
+    is_one_of (pairs_for s.cpu.cs e) s.cpu.cs s.cpu.ip ≡ false → has_come start s e ≡ false
 apart start s (At p) address seg small off = (neither (p.offset == s.cpu.ip && p.segment == s.cpu.cs) false off).0
 apart start s (Address a) address seg small off = point_other s.memory.a20 s.cpu.cs s.cpu.ip a seg small off
 apart start s (Change r) address seg small off = absurd (false≢true address)
@@ -68,11 +71,13 @@ apart start s (Call n) address seg small off = absurd (false≢true address)
 apart start s (Function n ah) address seg small off = absurd (false≢true address)
 
 -- at an address that is none of the pairs of events at addresses, no event has come
-pub all_apart : (start : Memory) (s : State) (es : List Event) (k : ℕ) → list_all is_at_address es ≡ true → s.cpu.cs < 65536 → s.cpu.ip < 65536 → is_one_of (pairs_of s.cpu.cs es) s.cpu.cs s.cpu.ip ≡ false
+pub all_apart : (start : Memory) (s : State) (es : List Event) (k : ℕ) → list_all is_at_address es ≡ true →
+    s.cpu.cs < 65536 → s.cpu.ip < 65536 → is_one_of (pairs_of s.cpu.cs es) s.cpu.cs s.cpu.ip ≡ false
     → first_from (has_come start s) k es ≡ None
 all_apart start s [] k addresses seg small off = refl
 all_apart start s (e ∷ es) k addresses seg small off =
     let h = one_append (pairs_for s.cpu.cs e) (pairs_of s.cpu.cs es) s.cpu.cs s.cpu.ip off in
     let first = apart start s e (and_left (is_at_address e) (list_all is_at_address es) addresses) seg small h.0 in
-    let rest = all_apart start s es (k + 1) (and_right (is_at_address e) (list_all is_at_address es) addresses) seg small h.1 in
+    let rest = all_apart start s es (k + 1) (and_right (is_at_address e) (list_all is_at_address es) addresses) seg
+    small h.1 in
     rw (first, rest) refl

@@ -43,7 +43,8 @@ fn advance(
     requires quick { IsTrue quick → list_all is_quick events.now ≡ true }
     requires addresses { marks.now ≡ None → list_all is_at_address events.now ≡ true }
     requires marked { IfSome marks.now (λ m. All (IsGuarded m) events.now) }
-    ensures near { IfOk result (λ n. (start : Memory) → AreStill start machine.old.memory events.now → PassesNear start events.now machine.old n machine.new) }
+    ensures near { IfOk result (λ n. (start : Memory) → AreStill start machine.old.memory events.now →
+        PassesNear start events.now machine.old n machine.new) }
     ensures some { IfOk result (λ n. 0 < n) }
     ensures most { IfOk result (λ n. n ≤ most) }
     ensures stops { IfErr result (λ why. (why ≢ AllSteps) × IsRun machine.old 1 why machine.new) }
@@ -74,7 +75,8 @@ fn go(
     requires quick { IsTrue quick → list_all is_quick events.now ≡ true }
     requires addresses { marks.now ≡ None → list_all is_at_address events.now ≡ true }
     requires marked { IfSome marks.now (λ m. All (IsGuarded m) events.now) }
-    ensures goes { (start : Memory) → watches.now ≡ map (watch_of start) events.now → AreStill start machine.old.memory events.now → GoesTo start machine.old most events.now result machine.new }
+    ensures goes { (start : Memory) → watches.now ≡ map (watch_of start) events.now →
+        AreStill start machine.old.memory events.now → GoesTo start machine.old most events.now result machine.new }
     ensures loaded { HasProgram machine.new }
 {
     let mut left = most;

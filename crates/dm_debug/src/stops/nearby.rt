@@ -107,7 +107,8 @@ pub(crate) fn pass(
     requires quick { IsTrue quick → list_all is_quick events.now ≡ true }
     requires addresses { marks.now ≡ None → list_all is_at_address events.now ≡ true }
     requires marked { IfSome marks.now (λ m. All (IsGuarded m) events.now) }
-    ensures near { (start : Memory) → AreStill start machine.old.memory events.now → PassesNear start events.now machine.old result machine.new }
+    ensures near { (start : Memory) → AreStill start machine.old.memory events.now →
+        PassesNear start events.now machine.old result machine.new }
     ensures most { result ≤ most }
     ensures loaded { HasProgram machine.new }
 {

@@ -10,12 +10,14 @@ use Rattle.dm_decode.specs.disassembly.Listing.{bytes_at, StandsInFile}
 abbrev pub IsWindow : List ℕ → ℕ → List ℕ → Type 0
 IsWindow bytes at window = (k : ℕ) → k ≤ 16 → at + k ≤ length bytes → take k window ≡ bytes_at bytes at k
 
-pub stands : (bytes window : List ℕ) (at : ℕ) (i : Ins) (k : ℕ) → IsWindow bytes at window → Decodes window (Some (i, k)) → at + k ≤ length bytes → StandsInFile bytes at i k
+pub stands : (bytes window : List ℕ) (at : ℕ) (i : Ins) (k : ℕ) → IsWindow bytes at window →
+    Decodes window (Some (i, k)) → at + k ≤ length bytes → StandsInFile bytes at i k
 stands bytes window at i k w d h =
     let told = (d i k).0 refl in
     record { within = h; short = told.0; spells = subst (Spells i) (w k told.0 h) told.1 }
 
-pub none_stands : (bytes window : List ℕ) (at : ℕ) → IsWindow bytes at window → Decodes window None → (i : Ins) (k : ℕ) → StandsInFile bytes at i k → ⊥
+pub none_stands : (bytes window : List ℕ) (at : ℕ) → IsWindow bytes at window → Decodes window None →
+    (i : Ins) (k : ℕ) → StandsInFile bytes at i k → ⊥
 none_stands bytes window at w d i k s =
     let e = (d i k).1 (s.short, subst (Spells i) (sym (w k s.short s.within)) s.spells) in cc
 
@@ -23,7 +25,8 @@ abbrev second : Option (Ins × ℕ) → ℕ
 second None = 0
 second (Some x) = x.1
 
-pub none_fits : (bytes window : List ℕ) (at : ℕ) (j : Ins) (m : ℕ) → IsWindow bytes at window → Decodes window (Some (j, m)) → length bytes < at + m → (i : Ins) (k : ℕ) → StandsInFile bytes at i k → ⊥
+pub none_fits : (bytes window : List ℕ) (at : ℕ) (j : Ins) (m : ℕ) → IsWindow bytes at window →
+    Decodes window (Some (j, m)) → length bytes < at + m → (i : Ins) (k : ℕ) → StandsInFile bytes at i k → ⊥
 none_fits bytes window at j m w d h i k s =
     let e = (d i k).1 (s.short, subst (Spells i) (sym (w k s.short s.within)) s.spells) in
     let same = ap (λ (x : Option (Ins × ℕ)). second x) e in
@@ -32,6 +35,7 @@ none_fits bytes window at j m w d h i k s =
 -- an instruction has a byte at least
 pub has_bytes : (i : Ins) (bytes : List ℕ) → Spells i bytes → 0 < length bytes
 has_bytes i bytes s =
-    let e : length bytes ≡ length (map prefix_byte s.prefixes) + length s.rest = rw s.parts (length-append (map prefix_byte s.prefixes) s.rest) in
+    let e : length bytes ≡ length (map prefix_byte s.prefixes) + length s.rest =
+    rw s.parts (length-append (map prefix_byte s.prefixes) s.rest) in
     let f = ap length s.action.parts in
     omega (arith, e, f)

@@ -43,7 +43,14 @@ unfolding Alike
 alike_back m (operand.ByteValue n) p h = rw h.1 (n, refl, λ e. sym (h.2 e))
 alike_back m (operand.WordValue n) p h = rw h.1 (n, refl, λ e. sym (h.2 e))
 alike_back m (operand.Target d) p h = rw h.1 (d, refl)
-alike_back m (operand.Memory v a) p h = rw h.1 (a, refl, record { base = sym h.2.base; displacement = λ e. sym (h.2.displacement (ap has_no_base (sym h.2.base) ∙ e)) })
+alike_back m (operand.Memory v a) p h = rw h.1 (
+  a,
+  refl,
+  record {
+    base = sym h.2.base;
+    displacement = λ e. sym (h.2.displacement (ap has_no_base (sym h.2.base) ∙ e));
+  },
+)
 alike_back m _ p h = rw h refl
 
 -- ---- addresses
@@ -79,11 +86,20 @@ abbrev Exchanged : OperandKind → Fields → Operand → List ℕ → Type 0
 Exchanged k g p d = (e : List ℕ) × Fills k g p e × (length e ≡ length d)
 
 -- an operand of the template's kind is exchanged; the fields may change in their memory
-pub exchanged : (m : Mnemonic) (k : OperandKind) (f g : Fields) (o p : Operand) (d : List ℕ) → f.register < 8 → g.register ≡ f.register → suits m k ≡ true → uses_memory k ≡ false → Alike m o p → OperandFits p → Known m p → Fills k f o d → Exchanged k g p d
+pub exchanged : (m : Mnemonic) (k : OperandKind) (f g : Fields) (o p : Operand) (d : List ℕ) → f.register < 8 →
+    g.register ≡ f.register → suits m k ≡ true → uses_memory k ≡ false → Alike m o p → OperandFits p → Known m p →
+    Fills k f o d → Exchanged k g p d
 unfolding Alike Known suits uses_memory
 exchanged m is.Nothing f g o p d lt r s u al fit kn h = (d, ((rw h.0 at al), h.1), refl)
 exchanged m (is.RegisterOrMemory v) f g o p d lt r s u al fit kn h = absurd cc
-exchanged m (is.Register v) f g o p d lt r s u al fit kn h = (d, (rw r (register_alike m v f.register p (rw h.0 at al)), h.1), refl)
+exchanged m (is.Register v) f g o p d lt r s u al fit kn h = (
+  d,
+  (
+    rw r (register_alike m v f.register p (rw h.0 at al)),
+    h.1,
+  ),
+  refl,
+)
 exchanged m is.Memory f g o p d lt r s u al fit kn h = absurd cc
 exchanged m is.ByteValue f g o p d lt r s u al fit kn h =
     let k = rw h.2 at al in
@@ -102,8 +118,16 @@ exchanged m is.Near f g o p d lt r s u al fit kn h =
     let k = rw h.2 at al in
     (word_bytes k.0, (k.0, (rw k.1 at fit), k.1, refl), ap length (sym h.3))
 exchanged m (is.Direct v) f g o p d lt r s u al fit kn h =
-    let k = rw h.2 at al in
-    (word_bytes k.0.displacement, (k.0.displacement, (rw k.1 at fit), k.1 ∙ ap (operand.Memory v) (direct_is k.0 (ap has_no_base k.2.base)), refl), ap length (sym h.3))
+    let k = rw h.2 at al in (
+      word_bytes k.0.displacement,
+      (
+        k.0.displacement,
+        (rw k.1 at fit),
+        k.1 ∙ ap (operand.Memory v) (direct_is k.0 (ap has_no_base k.2.base)),
+        refl,
+      ),
+      ap length (sym h.3),
+    )
 exchanged m is.Far f g o p d lt r s u al fit kn h = (d, (h.0, h.1, h.2, h.3, (rw h.4 at al), h.5), refl)
 exchanged m (is.Escape c) f g o p d lt r s u al fit kn h =
     let k = rw h.0 at al in

@@ -78,7 +78,8 @@ unfolding Known
 place_known m v n None = register_known m v n
 place_known m v n (Some a) = tt
 
-known : (m : Mnemonic) (k : OperandKind) (f : Fields) (o : Operand) (d : List ℕ) → f.register < 8 → suits m k ≡ true → Fills k f o d → Known m o
+known : (m : Mnemonic) (k : OperandKind) (f : Fields) (o : Operand) (d : List ℕ) → f.register < 8 → suits m k ≡ true →
+    Fills k f o d → Known m o
 unfolding Known suits
 known m is.Nothing f o d lt s h = rw h.0 tt
 known m (is.RegisterOrMemory v) f o d lt s h = rw h.0 (place_known m v f.rm f.memory)
@@ -107,12 +108,15 @@ pub record KnownAction (a : Action) : Type 0 where
 pub known_action : (a : Action) (x : List ℕ) → SpellsAction a x → KnownAction a
 unfolding template_suits
 known_action a x s =
-    let suit = both_true _ _ (of_template template_suits s.first_byte s.fields s.behind s.template all_suit s.has_template) in
+    let suit = both_true _ _ (of_template template_suits s.first_byte s.fields s.behind s.template all_suit
+    s.has_template) in
     let lt = register_fits (entry_of s.first_byte) s.fields s.behind s.template s.has_template in
     let fit = action_fits a x s in
     record {
-      first = subst (λ (m : Mnemonic). Known m a.first) (sym s.mnemonic) (known s.template.mnemonic s.template.first s.fields a.first s.first_part lt suit.0 s.first);
-      second = subst (λ (m : Mnemonic). Known m a.second) (sym s.mnemonic) (known s.template.mnemonic s.template.second s.fields a.second s.second_part lt suit.1 s.second);
+      first = subst (λ (m : Mnemonic). Known m a.first) (sym s.mnemonic)
+          (known s.template.mnemonic s.template.first s.fields a.first s.first_part lt suit.0 s.first);
+      second = subst (λ (m : Mnemonic). Known m a.second) (sym s.mnemonic)
+          (known s.template.mnemonic s.template.second s.fields a.second s.second_part lt suit.1 s.second);
       first_fits = fit.0;
       second_fits = fit.1;
     }

@@ -75,7 +75,8 @@ module _ (p : ℕ → Bool) where
   Good : Operand → Type 0
   Good o = p (sort o) ≡ true
 
-  at_place_sort : (v : Width) (n : ℕ) (a : Option Address) → list_all p (sorts (is.RegisterOrMemory v)) ≡ true → p (sort (at_place v n a)) ≡ true
+  at_place_sort : (v : Width) (n : ℕ) (a : Option Address) → list_all p (sorts (is.RegisterOrMemory v)) ≡ true →
+      p (sort (at_place v n a)) ≡ true
   unfolding sorts sort register_sort memory_sort
   at_place_sort width.Byte n None h = (both_true _ _ h).0
   at_place_sort width.Word n None h = (both_true _ _ h).0
@@ -87,12 +88,14 @@ module _ (p : ℕ → Bool) where
   register_is_sort width.Byte n h = one_true _ h
   register_is_sort width.Word n h = one_true _ h
 
-  direct_sort : (v : Width) (n : ℕ) → list_all p (sorts (is.Direct v)) ≡ true → p (sort (operand.Memory v (direct n))) ≡ true
+  direct_sort : (v : Width) (n : ℕ) → list_all p (sorts (is.Direct v)) ≡ true → p (sort (operand.Memory v (direct n)))
+      ≡ true
   unfolding sorts sort memory_sort
   direct_sort width.Byte n h = one_true _ h
   direct_sort width.Word n h = one_true _ h
 
-  of_kind : (k : OperandKind) (m : Fields) (o : Operand) (d : List ℕ) → Fills k m o d → list_all p (sorts k) ≡ true → p (sort o) ≡ true
+  of_kind : (k : OperandKind) (m : Fields) (o : Operand) (d : List ℕ) → Fills k m o d → list_all p (sorts k) ≡ true →
+      p (sort o) ≡ true
   unfolding sorts sort
   of_kind is.Nothing m o d f h = rw f.0 (one_true _ h)
   of_kind (is.RegisterOrMemory v) m o d f h = rw f.0 (at_place_sort v m.rm m.memory h)
@@ -141,7 +144,8 @@ general s = nat_eq s 1 || nat_eq s 2
 
 -- the word before memory, where the first and the second operand are general registers or not
 memory_word : Mnemonic → Bool → Bool → Width → Size
-memory_word m g h v = jump_word m (if (if g then true else if is_shift m then false else h) then Absent else width_word v)
+memory_word m g h v = jump_word m (if (if g then true else if is_shift m then false else h) then Absent else
+    width_word v)
 
 size_code : Size → ℕ
 size_code Absent = 0
@@ -151,27 +155,32 @@ size_code Near = 3
 
 -- the size word before an operand of the sort x in an action with operands of the sorts s and t
 word_code : Mnemonic → ℕ → ℕ → ℕ → ℕ
-word_code m s t x = if nat_eq x 4 then size_code (memory_word m (general s) (general t) width.Byte) else if nat_eq x 5 then size_code (memory_word m (general s) (general t) width.Word) else 0
+word_code m s t x = if nat_eq x 4 then size_code (memory_word m (general s) (general t) width.Byte) else if nat_eq x 5
+    then size_code (memory_word m (general s) (general t) width.Word) else 0
 
 -- where two actions are written alike, their operands have the same sorts
 alike : ℕ → ℕ → ℕ → ℕ → ℕ → Mnemonic → ℕ → ℕ → Bool
-alike c x y u v n s t = nat_eq c (class n) && nat_eq x (looks s) && nat_eq y (looks t) && nat_eq u (word_code n s t s) && nat_eq v (word_code n s t t)
+alike c x y u v n s t = nat_eq c (class n) && nat_eq x (looks s) && nat_eq y (looks t) &&
+    nat_eq u (word_code n s t s) && nat_eq v (word_code n s t t)
 
 implies : Bool → Bool → Bool
 implies true b = b
 implies false b = true
 
 agree : Mnemonic → ℕ → ℕ → Mnemonic → ℕ → ℕ → Bool
-agree m s t n x y = implies (alike (class m) (looks s) (looks t) (word_code m s t s) (word_code m s t t) n x y) (nat_eq s x && nat_eq t y)
+agree m s t n x y = implies (alike (class m) (looks s) (looks t) (word_code m s t s) (word_code m s t t) n x y)
+    (nat_eq s x && nat_eq t y)
 
 template_agrees : Mnemonic → ℕ → ℕ → Template → Bool
 template_agrees m s t r = list_all (λ x. list_all (λ y. agree m s t r.mnemonic x y) (sorts r.second)) (sorts r.first)
 
 template_fits : Template → Bool
-template_fits r = list_all (λ s. list_all (λ t. templates_all (template_agrees r.mnemonic s t)) (sorts r.second)) (sorts r.first)
+template_fits r = list_all (λ s. list_all (λ t. templates_all (template_agrees r.mnemonic s t)) (sorts r.second))
+    (sorts r.first)
 
 all_fit : templates_all template_fits ≡ true
-unfolding templates_all entry_all if_template template_fits template_agrees agree alike implies word_code memory_word size_code general looks class sorts register_sort memory_sort
+unfolding templates_all entry_all if_template template_fits template_agrees agree alike implies word_code memory_word
+    size_code general looks class sorts register_sort memory_sort
 all_fit = refl
 
 -- ---- from the test to the law
@@ -183,17 +192,25 @@ if_alike false c e h = absurd cc
 
 -- two actions of the table with one class that are written alike have operands of the same sorts
 same_sorts : (a b : Action) (x y : List ℕ) → SpellsAction a x → SpellsAction b y →
-    alike (class a.mnemonic) (looks (sort a.first)) (looks (sort a.second)) (word_code a.mnemonic (sort a.first) (sort a.second) (sort a.first)) (word_code a.mnemonic (sort a.first) (sort a.second) (sort a.second)) b.mnemonic (sort b.first) (sort b.second) ≡ true
+    alike (class a.mnemonic) (looks (sort a.first)) (looks (sort a.second)) (word_code a.mnemonic (sort a.first)
+    (sort a.second) (sort a.first)) (word_code a.mnemonic (sort a.first) (sort a.second) (sort a.second)) b.mnemonic
+    (sort b.first) (sort b.second) ≡ true
     → (nat_eq (sort a.first) (sort b.first) && nat_eq (sort a.second) (sort b.second)) ≡ true
 unfolding template_fits template_agrees agree
 same_sorts a b x y p q e =
     let f = of_template template_fits p.first_byte p.fields p.behind p.template all_fit p.has_template in
-    let g = of_kind (λ s. list_all (λ t. templates_all (template_agrees p.template.mnemonic s t)) (sorts p.template.second)) p.template.first p.fields a.first p.first_part p.first f in
-    let h = of_kind (λ t. templates_all (template_agrees p.template.mnemonic (sort a.first) t)) p.template.second p.fields a.second p.second_part p.second g in
-    let i = of_template (template_agrees p.template.mnemonic (sort a.first) (sort a.second)) q.first_byte q.fields q.behind q.template h q.has_template in
-    let j = of_kind (λ s. list_all (λ t. agree p.template.mnemonic (sort a.first) (sort a.second) q.template.mnemonic s t) (sorts q.template.second)) q.template.first q.fields b.first q.first_part q.first i in
-    let k = of_kind (λ t. agree p.template.mnemonic (sort a.first) (sort a.second) q.template.mnemonic (sort b.first) t) q.template.second q.fields b.second q.second_part q.second j in
-    let l : agree a.mnemonic (sort a.first) (sort a.second) b.mnemonic (sort b.first) (sort b.second) ≡ true = rw (p.mnemonic, q.mnemonic) k in
+    let g = of_kind (λ s. list_all (λ t. templates_all (template_agrees p.template.mnemonic s t))
+    (sorts p.template.second)) p.template.first p.fields a.first p.first_part p.first f in
+    let h = of_kind (λ t. templates_all (template_agrees p.template.mnemonic (sort a.first) t)) p.template.second
+    p.fields a.second p.second_part p.second g in
+    let i = of_template (template_agrees p.template.mnemonic (sort a.first) (sort a.second)) q.first_byte q.fields
+    q.behind q.template h q.has_template in
+    let j = of_kind (λ s. list_all (λ t. agree p.template.mnemonic (sort a.first) (sort a.second) q.template.mnemonic s
+    t) (sorts q.template.second)) q.template.first q.fields b.first q.first_part q.first i in
+    let k = of_kind (λ t. agree p.template.mnemonic (sort a.first) (sort a.second) q.template.mnemonic (sort b.first) t)
+    q.template.second q.fields b.second q.second_part q.second j in
+    let l : agree a.mnemonic (sort a.first) (sort a.second) b.mnemonic (sort b.first) (sort b.second) ≡ true =
+    rw (p.mnemonic, q.mnemonic) k in
     if_alike _ _ e l
 
 -- how a written operand looks, and which operand of a sort it is
@@ -211,7 +228,8 @@ or_zero None = 0
 or_zero (Some n) = n
 
 number_of : ℕ → Numeral → Operand
-number_of k n = if nat_eq k 6 then operand.ByteValue (or_zero n.byte) else if nat_eq k 7 then operand.WordValue (or_zero n.word) else if nat_eq k 8 then operand.Target n.distance else operand.One
+number_of k n = if nat_eq k 6 then operand.ByteValue (or_zero n.byte) else if nat_eq k 7 then
+    operand.WordValue (or_zero n.word) else if nat_eq k 8 then operand.Target n.distance else operand.One
 
 memory_of : ℕ → Address → Operand
 memory_of k a = if nat_eq k 4 then operand.Memory width.Byte a else operand.Memory width.Word a
@@ -232,22 +250,36 @@ record Looks (x : Written) (o : Operand) : Type 0 where
 looks_as : (x : Written) (p o : Operand) → o ≡ p → Looks x p → Looks x o
 looks_as x p o e h = subst (Looks x) (sym e) h
 
-byte_looks : (n : Numeral) (b : Option ℕ) (o : Operand) → n.byte ≡ b → IsSomeAnd b (λ k. o ≡ operand.ByteValue k) → Looks (w.Number n) o
+byte_looks : (n : Numeral) (b : Option ℕ) (o : Operand) → n.byte ≡ b → IsSomeAnd b (λ k. o ≡ operand.ByteValue k) →
+    Looks (w.Number n) o
 unfolding looks sort look of_sort number_of or_zero
 byte_looks n None o e h = absurd h
-byte_looks n (Some k) o e h = looks_as (w.Number n) (operand.ByteValue k) o h (record { looks_so = refl; again = rw e refl })
+byte_looks n (Some k) o e h = looks_as (w.Number n) (operand.ByteValue k) o h (record {
+  looks_so = refl;
+  again = rw e refl;
+})
 
-word_looks : (n : Numeral) (b : Option ℕ) (o : Operand) → n.word ≡ b → IsSomeAnd b (λ k. o ≡ operand.WordValue k) → Looks (w.Number n) o
+word_looks : (n : Numeral) (b : Option ℕ) (o : Operand) → n.word ≡ b → IsSomeAnd b (λ k. o ≡ operand.WordValue k) →
+    Looks (w.Number n) o
 unfolding looks sort look of_sort number_of or_zero
 word_looks n None o e h = absurd h
-word_looks n (Some k) o e h = looks_as (w.Number n) (operand.WordValue k) o h (record { looks_so = refl; again = rw e refl })
+word_looks n (Some k) o e h = looks_as (w.Number n) (operand.WordValue k) o h (record {
+  looks_so = refl;
+  again = rw e refl;
+})
 
 number_looks : (n : Numeral) (o : Operand) → IsNumber n o → Looks (w.Number n) o
 unfolding looks sort look of_sort number_of
 number_looks n o (inl e) = byte_looks n n.byte o refl e
 number_looks n o (inr (inl e)) = word_looks n n.word o refl e
-number_looks n o (inr (inr (inl e))) = looks_as (w.Number n) (operand.Target n.distance) o e (record { looks_so = refl; again = refl })
-number_looks n o (inr (inr (inr e))) = looks_as (w.Number n) operand.One o e.1 (record { looks_so = refl; again = refl })
+number_looks n o (inr (inr (inl e))) = looks_as (w.Number n) (operand.Target n.distance) o e (record {
+  looks_so = refl;
+  again = refl;
+})
+number_looks n o (inr (inr (inr e))) = looks_as (w.Number n) operand.One o e.1 (record {
+  looks_so = refl;
+  again = refl;
+})
 
 looks_written : (x : Written) (o : Operand) → IsWritten x o → Looks x o
 unfolding looks sort look of_sort memory_of
@@ -274,7 +306,8 @@ general_sort (operand.Target n) = refl
 general_sort operand.One = refl
 general_sort (operand.FarTarget n s) = refl
 
-word_is : (a : Action) (o : Operand) → size_code (word_before a o) ≡ word_code a.mnemonic (sort a.first) (sort a.second) (sort o)
+word_is : (a : Action) (o : Operand) → size_code (word_before a o) ≡ word_code a.mnemonic (sort a.first) (sort a.second)
+    (sort o)
 unfolding word_code memory_word size_code sort
 word_is a operand.Nothing = refl
 word_is a (operand.ByteRegister r) = refl
@@ -302,11 +335,14 @@ words_are_one words a b x y p q sa sb =
     let ma = looks_written words.second a.second p.second in
     let mb = looks_written words.second b.second q.second in
     let n : a.mnemonic ≡ b.mnemonic = p.mnemonic ∙ sym q.mnemonic in
-    let u : word_code a.mnemonic (sort a.first) (sort a.second) (sort a.first) ≡ word_code b.mnemonic (sort b.first) (sort b.second) (sort b.first) =
+    let u : word_code a.mnemonic (sort a.first) (sort a.second) (sort a.first) ≡ word_code b.mnemonic (sort b.first)
+    (sort b.second) (sort b.first) =
     sym (word_is a a.first) ∙ ap size_code (sym p.first_word ∙ q.first_word) ∙ word_is b b.first in
-    let v : word_code a.mnemonic (sort a.first) (sort a.second) (sort a.second) ≡ word_code b.mnemonic (sort b.first) (sort b.second) (sort b.second) =
+    let v : word_code a.mnemonic (sort a.first) (sort a.second) (sort a.second) ≡ word_code b.mnemonic (sort b.first)
+    (sort b.second) (sort b.second) =
     sym (word_is a a.second) ∙ ap size_code (sym p.second_word ∙ q.second_word) ∙ word_is b b.second in
-    let k = same_sorts a b x y sa sb (five _ _ _ _ _ (same_nat _ _ (ap class n)) (same_nat _ _ (la.looks_so ∙ sym lb.looks_so)) (same_nat _ _ (ma.looks_so ∙ sym mb.looks_so)) (same_nat _ _ u) (same_nat _ _ v)) in
+    let k = same_sorts a b x y sa sb (five _ _ _ _ _ (same_nat _ _ (ap class n)) (same_nat _ _ (la.looks_so
+    ∙ sym lb.looks_so)) (same_nat _ _ (ma.looks_so ∙ sym mb.looks_so)) (same_nat _ _ u) (same_nat _ _ v)) in
     let both = both_true _ _ k in
     let f : a.first ≡ b.first = sym la.again ∙ ap (of_sort words.first) (eqb-true _ _ both.0) ∙ lb.again in
     let s : a.second ≡ b.second = sym ma.again ∙ ap (of_sort words.second) (eqb-true _ _ both.1) ∙ mb.again in

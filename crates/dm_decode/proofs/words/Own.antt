@@ -15,10 +15,12 @@ use Rattle.dm_ins.proofs.Shortest.{action_fits}
 back : (next d : ℕ) → next < 65536 → d < 65536 → ((next + d) % 65536 + 65536 - next) % 65536 ≡ d
 back next d p q = omega arith
 
-own_byte : (n : ℕ) → n < 256 → IsSomeAnd (if nat_lt n 256 then Some n else None) (λ b. operand.ByteValue n ≡ operand.ByteValue b)
+own_byte : (n : ℕ) → n < 256 → IsSomeAnd (if nat_lt n 256 then Some n else None) (λ b. operand.ByteValue n
+    ≡ operand.ByteValue b)
 own_byte n lt = rw (lt-ltb n 256 lt) refl
 
-own_written : (a : Action) (next : ℕ) (o : Operand) → next < 2 ^ 16 → OperandFits o → IsWritten (shown_operand a next o) o
+own_written : (a : Action) (next : ℕ) (o : Operand) → next < 2 ^ 16 → OperandFits o →
+    IsWritten (shown_operand a next o) o
 own_written a next operand.Nothing p f = refl
 own_written a next (operand.ByteRegister r) p f = refl
 own_written a next (operand.WordRegister r) p f = refl

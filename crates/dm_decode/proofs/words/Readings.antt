@@ -97,7 +97,8 @@ no_first words way other e a b t s = none_of a.first (sym e ∙ t.first)
 pub no_second : (words : Words) (way other : Way) → taken other words.second ≡ None → IsNot words way other
 no_second words way other e a b t s = none_of a.second (sym e ∙ t.second)
 
-same_action : (words : Words) (way other : Way) (f s : Operand) (a : Action) → taken way words.first ≡ Some f → taken other words.second ≡ Some s → Taken words way other a → a ≡ action_of words f s
+same_action : (words : Words) (way other : Way) (f s : Operand) (a : Action) → taken way words.first ≡ Some f →
+    taken other words.second ≡ Some s → Taken words way other a → a ≡ action_of words f s
 same_action words way other f s a p q t =
     let e : a.first ≡ f = same_some a.first f (sym t.first ∙ p) in
     let g : a.second ≡ s = same_some a.second s (sym t.second ∙ q) in
@@ -107,8 +108,11 @@ abbrev pub Never : Words → Action → Type 0
 Never words a = HaveWords words a → (b : List ℕ) → SpellsAction a b → ⊥
 
 -- where the operands that are so taken make none
-pub no_spelled : {A : Type 0} (words : Words) (way other : Way) (f s : Operand) (o : Option A) → taken way words.first ≡ Some f → taken other words.second ≡ Some s → IfNone o (Never words (action_of words f s)) → IfNone o (IsNot words way other)
-no_spelled words way other f s None p q h = λ a b t sp. let e = same_action words way other f s a p q t in h (subst (HaveWords words) e t.have) b (subst (λ (x : Action). SpellsAction x b) e sp)
+pub no_spelled : {A : Type 0} (words : Words) (way other : Way) (f s : Operand) (o : Option A) →
+    taken way words.first ≡ Some f → taken other words.second ≡ Some s → IfNone o (Never words (action_of words f s)) →
+    IfNone o (IsNot words way other)
+no_spelled words way other f s None p q h = λ a b t sp. let e = same_action words way other f s a p q t in
+    h (subst (HaveWords words) e t.have) b (subst (λ (x : Action). SpellsAction x b) e sp)
 no_spelled words way other f s (Some i) p q h = tt
 
 -- one more way
@@ -126,9 +130,19 @@ every_way P h AsWord = h 1 (omega arith)
 every_way P h AsTarget = h 2 (omega arith)
 every_way P h AsOne = h 3 (omega arith)
 
-pub no_words : (words : Words) (n : ℕ) → 4 ≤ n → FirstWays n (λ way. FirstWays 4 (IsNot words way)) → (a : Action) (b : List ℕ) → AreWords words a → SpellsAction a b → ⊥
+pub no_words : (words : Words) (n : ℕ) → 4 ≤ n → FirstWays n (λ way. FirstWays 4 (IsNot words way)) →
+    (a : Action) (b : List ℕ) → AreWords words a → SpellsAction a b → ⊥
 no_words words n le h a b r s =
     let f = way_of words.first a.first r.first in
     let g = way_of words.second a.second r.second in
-    every_way (IsNot words f.0) (every_way (λ way. FirstWays 4 (IsNot words way)) (λ k lt. h k (omega arith)) f.0) g.0 a b
-    (record { mnemonic = r.mnemonic; first = f.1; second = g.1; have = record { first_word = r.first_word; second_word = r.second_word } }) s
+    every_way (IsNot words f.0) (every_way (λ way. FirstWays 4 (IsNot words way)) (λ k lt. h k (omega arith)) f.0) g.0 a
+    b
+    (record {
+      mnemonic = r.mnemonic;
+      first = f.1;
+      second = g.1;
+      have = record {
+        first_word = r.first_word;
+        second_word = r.second_word;
+      };
+    }) s

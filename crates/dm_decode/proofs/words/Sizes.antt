@@ -19,7 +19,8 @@ jump_shown op.Call s = refl
 jump_shown op.Jmp s = refl
 jump_shown _ s = refl
 
-width_shown : (g : Bool) (v : Width) → (if g then [] else name (text.width_word v) ∷ space_sign ∷ []) ≡ word_pieces (if g then Absent else width_word v)
+width_shown : (g : Bool) (v : Width) → (if g then [] else name (text.width_word v) ∷ space_sign ∷ [])
+    ≡ word_pieces (if g then Absent else width_word v)
 width_shown true v = refl
 width_shown false width.Byte = refl
 width_shown false width.Word = refl

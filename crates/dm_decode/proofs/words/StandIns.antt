@@ -68,7 +68,8 @@ word_stands m k (Some b) (Some c) o e h i = rw i (record {
   known = tt;
 })
 
-number_stands : (m : Mnemonic) (k n : Numeral) (o : Operand) → NumberStands m k n → IsNumber n o → StandIn m (w.Number k) o
+number_stands : (m : Mnemonic) (k n : Numeral) (o : Operand) → NumberStands m k n → IsNumber n o →
+    StandIn m (w.Number k) o
 unfolding Alike Known
 number_stands m k n o s (inl i) = byte_stands m k n.byte k.byte o refl s.byte i
 number_stands m k n o s (inr (inl i)) = word_stands m k n.word k.word o refl s.word i
@@ -87,7 +88,8 @@ number_stands m k n o s (inr (inr (inr i))) = rw i.1 (record {
   known = tt;
 })
 
-memory_stands : (m : Mnemonic) (s t : Size) (a b : Address) (o : Operand) → AddressStands a b → (o ≡ operand.Memory width.Byte b) ⊎ (o ≡ operand.Memory width.Word b) → StandIn m (w.Memory s a) o
+memory_stands : (m : Mnemonic) (s t : Size) (a b : Address) (o : Operand) → AddressStands a b →
+    (o ≡ operand.Memory width.Byte b) ⊎ (o ≡ operand.Memory width.Word b) → StandIn m (w.Memory s a) o
 unfolding Alike Known
 memory_stands m s t a b o h (inl i) = rw i (record {
   p = operand.Memory width.Byte a;
@@ -104,10 +106,12 @@ memory_stands m s t a b o h (inr i) = rw i (record {
   known = tt;
 })
 
-itself : (m : Mnemonic) (x y : Written) (o : Operand) → x ≡ y → IsWritten y o → OperandFits o → Known m o → StandIn m x o
+itself : (m : Mnemonic) (x y : Written) (o : Operand) → x ≡ y → IsWritten y o → OperandFits o → Known m o →
+    StandIn m x o
 itself m x y o e i f k = record { p = o; is_written = rw e i; alike = alike_self m o; fits = f; known = k }
 
-stands_in : (m : Mnemonic) (x y : Written) (o : Operand) → OperandStands m x y → IsWritten y o → OperandFits o → Known m o → StandIn m x o
+stands_in : (m : Mnemonic) (x y : Written) (o : Operand) → OperandStands m x y → IsWritten y o → OperandFits o →
+    Known m o → StandIn m x o
 stands_in m (w.Number k) (w.Number n) o s i f kn = number_stands m k n o s i
 stands_in m (w.Memory s a) (w.Memory t b) o h i f kn = memory_stands m s t a b o h.1 i
 stands_in m x y o s i f kn = itself m x y o s i f kn
@@ -130,7 +134,8 @@ as_general m o p h = rw h refl
 same_size : (a b : Action) → AlikeActions a b → gives_size b ≡ gives_size a
 same_size a b h = rw (h.mnemonic, as_general _ _ _ h.first, as_general _ _ _ h.second) refl
 
-same_before : (a b : Action) (o p : Operand) → AlikeActions a b → Alike a.mnemonic o p → word_before b p ≡ word_before a o
+same_before : (a b : Action) (o p : Operand) → AlikeActions a b → Alike a.mnemonic o p →
+    word_before b p ≡ word_before a o
 unfolding Alike
 same_before a b (operand.Memory v x) p h i = rw (i.1, same_size a b h, h.mnemonic) refl
 same_before a b (operand.ByteValue n) p h i = rw i.1 refl
@@ -147,7 +152,8 @@ record StandInAction (stand : Words) (a : Action) : Type 0 where
   alike : AlikeActions a b
   known : KnownAction b
 
-stand_in : (stand words : Words) (a : Action) (x : List ℕ) → StandsFor stand words → AreWords words a → SpellsAction a x → StandInAction stand a
+stand_in : (stand words : Words) (a : Action) (x : List ℕ) → StandsFor stand words → AreWords words a →
+    SpellsAction a x → StandInAction stand a
 stand_in stand words a x s are sp = record {
   b = b;
   alike = al;
@@ -198,21 +204,34 @@ back a b h = record {
 }
 
 not_shorter : (a b : List ℕ) → before a b ≡ false → length b ≤ length a
-not_shorter a b e = elim (cases_lt (length a) (length b)) [ inl lt ↦ absurd (wrong (rw (lt-ltb (length a) (length b) lt) at e)) | inr le ↦ le ]
+not_shorter a b e = elim (cases_lt (length a) (length b)) [
+  | inl lt ↦
+      absurd (wrong (rw (lt-ltb (length a) (length b) lt) at e))
+  | inr le ↦ le
+]
   where
     wrong : true ≡ false → ⊥
     wrong e = cc
 
 -- the least bytes of an instruction are no longer than what spells one that is alike
-no_longer : (i j : Ins) (x y : List ℕ) → AlikeActions j.action i.action → i.prefixes ≡ j.prefixes → IsPreferred i x → Spells j y → length x ≤ length y
+no_longer : (i j : Ins) (x y : List ℕ) → AlikeActions j.action i.action → i.prefixes ≡ j.prefixes → IsPreferred i x →
+    Spells j y → length x ≤ length y
 no_longer i j x y al e en s =
     let kn = known_action i.action en.spells.rest en.spells.action in
     let l = as_long j.action i.action s.rest s.action kn al in
-    let other : Spells i (map prefix_byte s.prefixes ++ l.0) = record { prefixes = s.prefixes; rest = l.0; few = s.few; keeps = e ∙ s.keeps; action = l.1; parts = refl } in
+    let other : Spells i (map prefix_byte s.prefixes ++ l.0) = record {
+      prefixes = s.prefixes;
+      rest = l.0;
+      few = s.few;
+      keeps = e ∙ s.keeps;
+      action = l.1;
+      parts = refl;
+    } in
     let le : length x ≤ length (map prefix_byte s.prefixes ++ l.0) = not_shorter _ _ (en.least _ other) in
     by (map prefix_byte s.prefixes) l.0 s.rest le l.2 (ap length s.parts)
   where
-    by : (p z r : List ℕ) → length x ≤ length (p ++ z) → length z ≡ length r → length y ≡ length (p ++ r) → length x ≤ length y
+    by : (p z r : List ℕ) → length x ≤ length (p ++ z) → length z ≡ length r → length y ≡ length (p ++ r) →
+        length x ≤ length y
     by p z r le e f = omega (arith, length-append p z, length-append p r)
 
 pub lengths_are_known : LengthsAreKnown

@@ -22,11 +22,14 @@ entry_all p (Second c r) = p r
 unfoldable pub templates_all : (Template → Bool) → Bool
 templates_all p = list_all (entry_all p) entries && list_all (list_all (if_template p)) groups
 
-of_member : (p : Template → Bool) (g k : ℕ) (r : Template) → list_all (list_all (if_template p)) groups ≡ true → member_of g k ≡ Some r → p r ≡ true
+of_member : (p : Template → Bool) (g k : ℕ) (r : Template) → list_all (list_all (if_template p)) groups ≡ true →
+    member_of g k ≡ Some r → p r ≡ true
 unfolding member_of if_template
-of_member p g k r h e = subst (λ (o : Option Template). if_template p o ≡ true) e (passes (if_template p) None refl (get_or groups g []) k (passes (list_all (if_template p)) [] refl groups g h))
+of_member p g k r h e = subst (λ (o : Option Template). if_template p o ≡ true) e (passes (if_template p) None refl
+    (get_or groups g []) k (passes (list_all (if_template p)) [] refl groups g h))
 
-of_entry : (p : Template → Bool) (en : OpcodeEntry) (m : Fields) (d : List ℕ) (r : Template) → entry_all p en ≡ true → list_all (list_all (if_template p)) groups ≡ true → HasTemplate en m d r → p r ≡ true
+of_entry : (p : Template → Bool) (en : OpcodeEntry) (m : Fields) (d : List ℕ) (r : Template) → entry_all p en ≡ true →
+    list_all (list_all (if_template p)) groups ≡ true → HasTemplate en m d r → p r ≡ true
 unfolding entry_all
 of_entry p Unlisted m d r h g x = absurd x
 of_entry p (Plain q) m d r h g x = subst (λ (r : Template). p r ≡ true) (sym x.0) h
@@ -34,7 +37,8 @@ of_entry p (Group k) m d r h g x = of_member p k m.register r g x.0
 of_entry p (Second c q) m d r h g x = subst (λ (r : Template). p r ≡ true) (sym x.0) h
 
 -- a test that every template passes is passed by the template of an instruction
-pub of_template : (p : Template → Bool) (b : ℕ) (m : Fields) (d : List ℕ) (r : Template) → templates_all p ≡ true → HasTemplate (entry_of b) m d r → p r ≡ true
+pub of_template : (p : Template → Bool) (b : ℕ) (m : Fields) (d : List ℕ) (r : Template) → templates_all p ≡ true →
+    HasTemplate (entry_of b) m d r → p r ≡ true
 unfolding templates_all entry_of entry_all
 of_template p b m d r h x =
     let both = both_true _ _ h in

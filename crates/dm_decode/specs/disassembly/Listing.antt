@@ -31,14 +31,18 @@ instruction_text i at k = text_of i (0x100 + at + k)
 -- the line of the k bytes from a place on, without its line end: an instruction in its preferred bytes (`preferred`),
 -- one in other bytes (`other`), or one byte where no instruction stands (`single`)
 pub data IsListedLine (bytes : List ℕ) (at : ℕ) : ℕ → List ℕ → Type 0 where
-  preferred : (i : Ins) (k : ℕ) → StandsInFile bytes at i k → IsPreferred i (bytes_at bytes at k) → IsListedLine bytes at k (instruction_text i at k)
-  other : (i : Ins) (k : ℕ) → StandsInFile bytes at i k → (IsPreferred i (bytes_at bytes at k) → ⊥) → IsListedLine bytes at k (data_text (bytes_at bytes at k) ++ codes " ; " ++ instruction_text i at k)
-  single : at < length bytes → ((i : Ins) (k : ℕ) → StandsInFile bytes at i k → ⊥) → IsListedLine bytes at 1 (data_text (bytes_at bytes at 1))
+  preferred : (i : Ins) (k : ℕ) → StandsInFile bytes at i k → IsPreferred i (bytes_at bytes at k) →
+      IsListedLine bytes at k (instruction_text i at k)
+  other : (i : Ins) (k : ℕ) → StandsInFile bytes at i k → (IsPreferred i (bytes_at bytes at k) → ⊥) →
+      IsListedLine bytes at k (data_text (bytes_at bytes at k) ++ codes " ; " ++ instruction_text i at k)
+  single : at < length bytes → ((i : Ins) (k : ℕ) → StandsInFile bytes at i k → ⊥) →
+      IsListedLine bytes at 1 (data_text (bytes_at bytes at 1))
 
 -- the lines of the bytes before a place, each with a line end (0Ah)
 pub data Lists (bytes : List ℕ) : ℕ → List ℕ → Type 0 where
   none : Lists bytes 0 []
-  more : (at k : ℕ) (text line : List ℕ) → Lists bytes at text → IsListedLine bytes at k line → Lists bytes (at + k) (text ++ line ++ 10 ∷ [])
+  more : (at k : ℕ) (text line : List ℕ) → Lists bytes at text → IsListedLine bytes at k line →
+      Lists bytes (at + k) (text ++ line ++ 10 ∷ [])
 
 -- the text is the listing of all the bytes
 abbrev pub IsListing : List ℕ → List ℕ → Type 0

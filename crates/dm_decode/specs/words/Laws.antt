@@ -17,13 +17,15 @@ use Rattle.dm_decode.specs.words.StandIns.{StandsFor}
 
 -- written words are at most one instruction of the instruction table
 abbrev pub WordsAreOne : Type 0
-WordsAreOne = (words : Words) (a b : Action) (x y : List ℕ) → AreWords words a → AreWords words b → SpellsAction a x → SpellsAction b y → a ≡ b
+WordsAreOne = (words : Words) (a b : Action) (x y : List ℕ) → AreWords words a → AreWords words b → SpellsAction a x →
+    SpellsAction b y → a ≡ b
 
 -- ---- the words of an instruction's text
 
 -- the words that the text of an instruction of the table shows are that instruction, wherever it stands
 abbrev pub OwnWordsAreRead : Type 0
-OwnWordsAreRead = (a : Action) (next : ℕ) (x : List ℕ) → next < 2 ^ 16 → SpellsAction a x → AreWords (words_of_action a next) a
+OwnWordsAreRead = (a : Action) (next : ℕ) (x : List ℕ) → next < 2 ^ 16 → SpellsAction a x →
+    AreWords (words_of_action a next) a
 
 -- a size word as the text of an instruction has it, with a space after it
 abbrev pub word_pieces : Size → List Piece
@@ -40,9 +42,11 @@ SizesAreShown = (a : Action) (v : Width) → size_pieces a v ≡ word_pieces (si
 
 -- where words are an instruction of the table, words that stand for them are one too
 abbrev pub StandInsAreRead : Type 0
-StandInsAreRead = (stand words : Words) (a : Action) (x : List ℕ) → StandsFor stand words → AreWords words a → SpellsAction a x → (b : Action) × (y : List ℕ) × AreWords stand b × SpellsAction b y
+StandInsAreRead = (stand words : Words) (a : Action) (x : List ℕ) → StandsFor stand words → AreWords words a →
+    SpellsAction a x → (b : Action) × (y : List ℕ) × AreWords stand b × SpellsAction b y
 
 -- the instruction of words that stand for others has as many bytes as the instruction of these others, with the same
 -- prefixes and in the encodings that `encode` chooses
 abbrev pub LengthsAreKnown : Type 0
-LengthsAreKnown = (stand words : Words) (i j : Ins) (x y : List ℕ) → StandsFor stand words → AreWords stand i.action → AreWords words j.action → i.prefixes ≡ j.prefixes → IsPreferred i x → IsPreferred j y → length x ≡ length y
+LengthsAreKnown = (stand words : Words) (i j : Ins) (x y : List ℕ) → StandsFor stand words → AreWords stand i.action →
+    AreWords words j.action → i.prefixes ≡ j.prefixes → IsPreferred i x → IsPreferred j y → length x ≡ length y

@@ -35,4 +35,8 @@ shown_operand a next (operand.FarTarget n s) = w.Far s n
 
 -- the mnemonic and the operands that the text of an action shows
 unfoldable pub words_of_action : Action → ℕ → Words
-words_of_action a next = record { mnemonic = a.mnemonic; first = shown_operand a next a.first; second = shown_operand a next a.second }
+words_of_action a next = record {
+  mnemonic = a.mnemonic;
+  first = shown_operand a next a.first;
+  second = shown_operand a next a.second;
+}

@@ -82,7 +82,8 @@ fn put_standing(
 ) -> Result<(), AllocError>
     requires stands { StandsInFile bytes.now at ins.now len }
     requires few { length bytes.now ≤ 65278 }
-    ensures { OnOk result ((line : List ℕ) × (out.new.items ≡ out.old.items ++ line) × IsListedLine bytes.now at len line) }
+    ensures { OnOk result ((line : List ℕ) × (out.new.items ≡ out.old.items ++ line) ×
+        IsListedLine bytes.now at len line) }
 {
     let own = &bytes[at..at + len];
     let next = (START + at + len) as u16;
@@ -101,7 +102,8 @@ fn put_standing(
 fn put_line(out: &mut Vec<u8>, bytes: &[u8], at: usize) -> Result<usize, AllocError>
     requires within { at < length bytes.now }
     requires few { length bytes.now ≤ 65278 }
-    ensures { IfOk result (λ k. (line : List ℕ) × (out.new.items ≡ out.old.items ++ line) × IsListedLine bytes.now at k line) }
+    ensures { IfOk result (λ k. (line : List ℕ) × (out.new.items ≡ out.old.items ++ line) ×
+        IsListedLine bytes.now at k line) }
 {
     let Some((ins, len)) = standing(bytes, at) else {
         put_data(out, &bytes[at..at + 1])?;

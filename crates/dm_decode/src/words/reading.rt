@@ -123,9 +123,11 @@ pub type Encoded = (Ins, ArrayVec<u8, 16>);
 /// The instruction of these operands with its bytes; None if the size words are not those that it asks for, or if the
 /// table does not have it.
 fn spelled(prefixes: Prefixes, words: &Words, first: Operand, second: Operand) -> Option<Encoded>
-    ensures found { IfSome result (λ r. (r.0.prefixes ≡ prefixes) × (r.0.action ≡ action_of words.now first second) × HaveWords words.now r.0.action) }
+    ensures found { IfSome result (λ r. (r.0.prefixes ≡ prefixes) × (r.0.action ≡ action_of words.now first second) ×
+        HaveWords words.now r.0.action) }
     ensures bytes { IfSome result (λ r. IsPreferred r.0 r.1.items) }
-    ensures none { IfNone result (HaveWords words.now (action_of words.now first second) → (b : List ℕ) → SpellsAction (action_of words.now first second) b → ⊥) }
+    ensures none { IfNone result (HaveWords words.now (action_of words.now first second) → (b : List ℕ) →
+        SpellsAction (action_of words.now first second) b → ⊥) }
 {
     let action = Action {
         mnemonic: words.mnemonic,
@@ -156,7 +158,8 @@ fn taken_so(prefixes: Prefixes, words: &Words, way: Way, other: Way) -> Option<E
 /// The instruction that the words are with the first operand taken in this way, the second in any; None if they are
 /// none.
 fn taken_first(prefixes: Prefixes, words: &Words, way: Way) -> Option<Encoded>
-    ensures found { IfSome result (λ r. (r.0.prefixes ≡ prefixes) × (other : Way) × Taken words.now way other r.0.action) }
+    ensures found { IfSome result (λ r. (r.0.prefixes ≡ prefixes) × (other : Way) ×
+        Taken words.now way other r.0.action) }
     ensures bytes { IfSome result (λ r. IsPreferred r.0 r.1.items) }
     ensures none { IfNone result (FirstWays 4 (IsNot words.now way)) }
 {

@@ -35,12 +35,20 @@ choice c false d e h g = g
 
 -- ---- bytes
 
-writing_keeps : (c : Caller) (cpu : Cpu) (s o : ℕ) (bytes : List ℕ) → Keeps c (record { cpu = cpu; x = writing c.x s o bytes })
+writing_keeps : (c : Caller) (cpu : Cpu) (s o : ℕ) (bytes : List ℕ) →
+    Keeps c (record { cpu = cpu; x = writing c.x s o bytes })
 writing_keeps c cpu s o bytes =
     let shape = bytes_shaped c.x.memory s o bytes in
     record { consistency = writes_keep c.x _ shape; outside = leaves_shaped c.x _ shape }
 
-told_keeps : (c : Caller) (cpu : Cpu) (o : Option Handle) (s p : ℕ) → Keeps c (record { cpu = cpu; x = state_after c.x (need o UnknownHandle (λ (h : Handle). Ok (tt {0}, writing c.x s p h.name))) })
+told_keeps : (c : Caller) (cpu : Cpu) (o : Option Handle) (s p : ℕ) →
+    Keeps c (record {
+      cpu = cpu;
+      x = state_after c.x (need o UnknownHandle (λ (h : Handle). Ok (
+        tt {0},
+        writing c.x s p h.name,
+      )));
+    })
 told_keeps c cpu None s p = nothing c cpu
 told_keeps c cpu (Some h) s p = writing_keeps c cpu s p h.name
 
@@ -50,7 +58,10 @@ handle_name_keeps : (c : Caller) (n : ℕ) → Keeps c (handle_name c n)
 unfolding handle_name names.get_name
 handle_name_keeps c n =
     choice c (n == 0) _ _ (told_keeps c _ (slot c.x c.cpu.dx) c.cpu.es c.cpu.di)
-    (choice c (n == 1) _ _ (record { consistency = calls_keep.naming c.x c.cpu.dx c.cpu.ds c.cpu.si; outside = calls_leave.naming c.x c.cpu.dx c.cpu.ds c.cpu.si })
+    (choice c (n == 1) _ _ (record {
+      consistency = calls_keep.naming c.x c.cpu.dx c.cpu.ds c.cpu.si;
+      outside = calls_leave.naming c.x c.cpu.dx c.cpu.ds c.cpu.si;
+    })
     (nothing c _))
 
 directory_keeps : (c : Caller) (n : ℕ) → Keeps c (directory c n)
@@ -64,8 +75,14 @@ directory_keeps c n =
 regions_keeps : (c : Caller) (n : ℕ) → Keeps c (regions c n)
 unfolding regions
 regions_keeps c n =
-    choice c (n == 0) _ _ (record { consistency = moves_keep.moving c.x c.cpu.ds c.cpu.si; outside = moves_leave.moving c.x c.cpu.ds c.cpu.si })
-    (choice c (n == 1) _ _ (record { consistency = moves_keep.exchanging c.x c.cpu.ds c.cpu.si; outside = moves_leave.exchanging c.x c.cpu.ds c.cpu.si })
+    choice c (n == 0) _ _ (record {
+      consistency = moves_keep.moving c.x c.cpu.ds c.cpu.si;
+      outside = moves_leave.moving c.x c.cpu.ds c.cpu.si;
+    })
+    (choice c (n == 1) _ _ (record {
+      consistency = moves_keep.exchanging c.x c.cpu.ds c.cpu.si;
+      outside = moves_leave.exchanging c.x c.cpu.ds c.cpu.si;
+    })
     (nothing c _))
 
 mappable_keeps : (c : Caller) (n : ℕ) → Keeps c (mappable c n)
@@ -82,18 +99,44 @@ unfolding call names.list_pages
 call_keeps c Status = nothing c _
 call_keeps c Frame = nothing c _
 call_keeps c PageCounts = nothing c _
-call_keeps c Allocate = record { consistency = calls_keep.allocating c.x c.cpu.bx; outside = calls_leave.allocating c.x c.cpu.bx }
-call_keeps c MapPage = record { consistency = calls_keep.mapping c.x (byte_of c.cpu Al) c.cpu.bx c.cpu.dx; outside = calls_leave.mapping c.x (byte_of c.cpu Al) c.cpu.bx c.cpu.dx }
-call_keeps c Deallocate = record { consistency = calls_keep.deallocating c.x c.cpu.dx; outside = calls_leave.deallocating c.x c.cpu.dx }
+call_keeps c Allocate = record {
+  consistency = calls_keep.allocating c.x c.cpu.bx;
+  outside = calls_leave.allocating c.x c.cpu.bx;
+}
+call_keeps c MapPage = record {
+  consistency = calls_keep.mapping c.x (byte_of c.cpu Al) c.cpu.bx c.cpu.dx;
+  outside = calls_leave.mapping c.x (byte_of c.cpu Al) c.cpu.bx c.cpu.dx;
+}
+call_keeps c Deallocate = record {
+  consistency = calls_keep.deallocating c.x c.cpu.dx;
+  outside = calls_leave.deallocating c.x c.cpu.dx;
+}
 call_keeps c Version = nothing c _
-call_keeps c SaveMap = record { consistency = calls_keep.saving c.x c.cpu.dx; outside = calls_leave.saving c.x c.cpu.dx }
-call_keeps c RestoreMap = record { consistency = calls_keep.restoring c.x c.cpu.dx; outside = calls_leave.restoring c.x c.cpu.dx }
+call_keeps c SaveMap = record {
+  consistency = calls_keep.saving c.x c.cpu.dx;
+  outside = calls_leave.saving c.x c.cpu.dx;
+}
+call_keeps c RestoreMap = record {
+  consistency = calls_keep.restoring c.x c.cpu.dx;
+  outside = calls_leave.restoring c.x c.cpu.dx;
+}
 call_keeps c CountHandles = nothing c _
 call_keeps c CountPages = nothing c _
 call_keeps c ListPages = writing_keeps c _ c.cpu.es c.cpu.di _
-call_keeps c WholeMap = record { consistency = moves_keep.setting c.x (byte_of c.cpu Al) c.cpu.es c.cpu.di c.cpu.ds c.cpu.si; outside = moves_leave.setting c.x (byte_of c.cpu Al) c.cpu.es c.cpu.di c.cpu.ds c.cpu.si }
-call_keeps c MapMany = record { consistency = moves_keep.mapping c.x (byte_of c.cpu Al) c.cpu.dx c.cpu.cx c.cpu.ds c.cpu.si; outside = moves_leave.mapping c.x (byte_of c.cpu Al) c.cpu.dx c.cpu.cx c.cpu.ds c.cpu.si }
-call_keeps c Reallocate = record { consistency = moves_keep.reallocating c.x c.cpu.dx c.cpu.bx; outside = moves_leave.reallocating c.x c.cpu.dx c.cpu.bx }
+call_keeps c WholeMap = record {
+  consistency = moves_keep.setting c.x (byte_of c.cpu
+      Al) c.cpu.es c.cpu.di c.cpu.ds c.cpu.si;
+  outside = moves_leave.setting c.x (byte_of c.cpu Al) c.cpu.es c.cpu.di c.cpu.ds c.cpu.si;
+}
+call_keeps c MapMany = record {
+  consistency = moves_keep.mapping c.x (byte_of c.cpu
+      Al) c.cpu.dx c.cpu.cx c.cpu.ds c.cpu.si;
+  outside = moves_leave.mapping c.x (byte_of c.cpu Al) c.cpu.dx c.cpu.cx c.cpu.ds c.cpu.si;
+}
+call_keeps c Reallocate = record {
+  consistency = moves_keep.reallocating c.x c.cpu.dx c.cpu.bx;
+  outside = moves_leave.reallocating c.x c.cpu.dx c.cpu.bx;
+}
 call_keeps c HandleName = handle_name_keeps c (byte_of c.cpu Al)
 call_keeps c Directory = directory_keeps c (byte_of c.cpu Al)
 call_keeps c Regions = regions_keeps c (byte_of c.cpu Al)

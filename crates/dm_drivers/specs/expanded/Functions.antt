@@ -48,7 +48,8 @@ directory c number =
     -- handles in use
     if number == 0 then after_list c (names.list_names c.x c.cpu.es c.cpu.di) (with_byte c.cpu Al) else
     -- 1: DX becomes the lowest handle with the name at DS:SI; where no handle has it, or it is eight zeros, DX stays
-    if number == 1 then on_cpu c (settled c.cpu (names.find_name c.x c.cpu.ds c.cpu.si) (λ handle. record c.cpu { dx = handle })) else
+    if number == 1 then on_cpu c (settled c.cpu (names.find_name c.x c.cpu.ds c.cpu.si)
+    (λ handle. record c.cpu { dx = handle })) else
     -- 2: BX is the number of all handles, 64
     if number == 2 then on_cpu c (succeeded (record c.cpu { bx = 64 })) else
     on_cpu c (refused c.cpu NoSubfunction)
@@ -59,7 +60,8 @@ unfoldable pub regions : Caller → ℕ → Caller
 regions c number =
     -- 0: the source is copied to the destination; AH is 92h where they overlap and are of one type, that is, both
     -- conventional memory or both pages
-    if number == 0 then after_call_with_status c (move_region c.x c.cpu.ds c.cpu.si) (λ how. with_status c.cpu (moved_code how)) else
+    if number == 0 then after_call_with_status c (move_region c.x c.cpu.ds c.cpu.si)
+    (λ how. with_status c.cpu (moved_code how)) else
     -- 1: the two regions exchange their bytes; an error where they overlap
     if number == 1 then after_call c (exchange_region c.x c.cpu.ds c.cpu.si) (λ done. c.cpu) else
     on_cpu c (refused c.cpu NoSubfunction)

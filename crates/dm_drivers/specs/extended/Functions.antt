@@ -100,12 +100,15 @@ call upper c Information = on_cpu c (settled c.cpu (blocks.information c.x.xms c
 -- the size of the block of the handle in DX becomes BX KiB; the block may move, its bytes up to the smaller size stay
 call upper c Reallocate = after_call c (blocks.reallocate c.x c.cpu.dx c.cpu.bx) (λ done. c.cpu)
 -- a new block of DX paragraphs, or of 1 if DX is 0; BX becomes its segment, DX its size in paragraphs
-call upper c RequestUpper = uppers.after_call c (if upper then Err refusal.NoneFree else request_upper c.x.xms c.cpu.dx) (λ (u : Upper). record c.cpu { bx = u.segment; dx = u.paragraphs })
+call upper c RequestUpper = uppers.after_call c (if upper then Err refusal.NoneFree else
+    request_upper c.x.xms c.cpu.dx) (λ (u : Upper). record c.cpu { bx = u.segment; dx = u.paragraphs })
 -- the block that begins at segment DX is freed
-call upper c ReleaseUpper = uppers.after_call c (if upper then Err refusal.Unknown else release_upper c.x.xms c.cpu.dx) (λ done. c.cpu)
+call upper c ReleaseUpper = uppers.after_call c (if upper then Err refusal.Unknown else
+    release_upper c.x.xms c.cpu.dx) (λ done. c.cpu)
 -- the size of the block that begins at segment DX becomes BX paragraphs, or 1 if BX is 0; after error B0h the block
 -- stays, and DX is the largest size that it can have there
-call upper c ResizeUpper = uppers.after_call c (if upper then Err refusal.Unknown else resize_upper c.x.xms c.cpu.dx c.cpu.bx) (λ done. c.cpu)
+call upper c ResizeUpper = uppers.after_call c (if upper then Err refusal.Unknown else
+    resize_upper c.x.xms c.cpu.dx c.cpu.bx) (λ done. c.cpu)
 -- the driver does not have the function: AX is 0, and BL the error code 80h
 call upper c Unknown = on_cpu c (refused c.cpu 0x80)
 

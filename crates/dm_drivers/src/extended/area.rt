@@ -37,7 +37,8 @@ pub(crate) fn take_area(cpu: &mut Cpu, xms: &mut Xms, space: &Space)
 /// 02h: releases the high memory area, and sets AX to 1; if it is not taken, AX to 0 and BL to 93h.
 #[tactic(auto, unfolding(crate::specs::extended::Functions::call))]
 pub(crate) fn release_area(cpu: &mut Cpu, xms: &mut Xms, space: &Space)
-    ensures { caller cpu.new xms.new space.now.memory ≡ call false (caller cpu.old xms.old space.now.memory) ReleaseArea }
+    ensures { caller cpu.new xms.new space.now.memory ≡ call false (caller cpu.old xms.old
+        space.now.memory) ReleaseArea }
 {
     let res = xms.release_area();
     settle(cpu, res);

@@ -14,7 +14,8 @@ use dm_xms::Xms;
 /// 03h: turns the global switch on, and so A20.
 #[tactic(auto, unfolding(crate::specs::extended::Functions::call))]
 pub(crate) fn enable_globally(cpu: &mut Cpu, xms: &mut Xms, space: &mut Space)
-    ensures { caller cpu.new xms.new space.new.memory ≡ call false (caller cpu.old xms.old space.old.memory) EnableGlobally }
+    ensures { caller cpu.new xms.new space.new.memory ≡ call false (caller cpu.old xms.old
+        space.old.memory) EnableGlobally }
 {
     xms.enable_globally(space);
     succeed(cpu);
@@ -23,7 +24,8 @@ pub(crate) fn enable_globally(cpu: &mut Cpu, xms: &mut Xms, space: &mut Space)
 /// 04h: turns the global switch off, and A20 too where the local count is 0; else error 94h, though the switch is off.
 #[tactic(auto, unfolding(crate::specs::extended::Functions::call))]
 pub(crate) fn disable_globally(cpu: &mut Cpu, xms: &mut Xms, space: &mut Space)
-    ensures { caller cpu.new xms.new space.new.memory ≡ call false (caller cpu.old xms.old space.old.memory) DisableGlobally }
+    ensures { caller cpu.new xms.new space.new.memory ≡ call false (caller cpu.old xms.old
+        space.old.memory) DisableGlobally }
 {
     let res = xms.disable_globally(space);
     settle(cpu, res);
@@ -32,7 +34,8 @@ pub(crate) fn disable_globally(cpu: &mut Cpu, xms: &mut Xms, space: &mut Space)
 /// 05h: adds one to the local count, and turns A20 on; error 82h at FFFFh, and count and A20 stay.
 #[tactic(auto, unfolding(crate::specs::extended::Functions::call))]
 pub(crate) fn enable_locally(cpu: &mut Cpu, xms: &mut Xms, space: &mut Space)
-    ensures { caller cpu.new xms.new space.new.memory ≡ call false (caller cpu.old xms.old space.old.memory) EnableLocally }
+    ensures { caller cpu.new xms.new space.new.memory ≡ call false (caller cpu.old xms.old
+        space.old.memory) EnableLocally }
 {
     let res = xms.enable_locally(space);
     settle(cpu, res);
@@ -42,7 +45,8 @@ pub(crate) fn enable_locally(cpu: &mut Cpu, xms: &mut Xms, space: &mut Space)
 /// error 94h, though the count is one less. Error 82h if the count is 0 already, and nothing changes but AX and BL.
 #[tactic(auto, unfolding(crate::specs::extended::Functions::call))]
 pub(crate) fn disable_locally(cpu: &mut Cpu, xms: &mut Xms, space: &mut Space)
-    ensures { caller cpu.new xms.new space.new.memory ≡ call false (caller cpu.old xms.old space.old.memory) DisableLocally }
+    ensures { caller cpu.new xms.new space.new.memory ≡ call false (caller cpu.old xms.old
+        space.old.memory) DisableLocally }
 {
     let res = xms.disable_locally(space);
     settle(cpu, res);

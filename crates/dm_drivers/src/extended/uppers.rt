@@ -15,7 +15,8 @@ use dm_xms::{UpperRefusal, Xms};
 /// B0h DX is the number of paragraphs of the largest gap, after B1h 0.
 #[tactic(auto, unfolding(crate::specs::extended::Functions::call))]
 pub(crate) fn request(cpu: &mut Cpu, xms: &mut Xms, space: &Space, upper: bool)
-    ensures { caller cpu.new xms.new space.now.memory ≡ call upper (caller cpu.old xms.old space.now.memory) RequestUpper }
+    ensures { caller cpu.new xms.new space.now.memory ≡ call upper (caller cpu.old xms.old
+        space.now.memory) RequestUpper }
 {
     let res = if upper {
         Err(UpperRefusal::NoneFree)
@@ -28,7 +29,8 @@ pub(crate) fn request(cpu: &mut Cpu, xms: &mut Xms, space: &Space, upper: bool)
 /// 11h: frees the block that begins at segment DX.
 #[tactic(auto, unfolding(crate::specs::extended::Functions::call))]
 pub(crate) fn release(cpu: &mut Cpu, xms: &mut Xms, space: &Space, upper: bool)
-    ensures { caller cpu.new xms.new space.now.memory ≡ call upper (caller cpu.old xms.old space.now.memory) ReleaseUpper }
+    ensures { caller cpu.new xms.new space.now.memory ≡ call upper (caller cpu.old xms.old
+        space.now.memory) ReleaseUpper }
 {
     let res = if upper {
         Err(UpperRefusal::Unknown)
@@ -42,7 +44,8 @@ pub(crate) fn release(cpu: &mut Cpu, xms: &mut Xms, space: &Space, upper: bool)
 /// B0h) the block stays, and DX is the number of paragraphs that it can have there.
 #[tactic(auto, unfolding(crate::specs::extended::Functions::call))]
 pub(crate) fn resize(cpu: &mut Cpu, xms: &mut Xms, space: &Space, upper: bool)
-    ensures { caller cpu.new xms.new space.now.memory ≡ call upper (caller cpu.old xms.old space.now.memory) ResizeUpper }
+    ensures { caller cpu.new xms.new space.now.memory ≡ call upper (caller cpu.old xms.old
+        space.now.memory) ResizeUpper }
 {
     let res = if upper {
         Err(UpperRefusal::Unknown)

@@ -16,5 +16,6 @@ pub record IsOutside (x : Expanded) (block bytes : ℕ) : Type 0 where
 -- block; and A20 stays. Of the blocks' bytes nothing is said
 pub record LeavesOutside (x y : Expanded) : Type 0 where
   pub blocks : (block bytes : ℕ) → IsOutside x block bytes → IsOutside y block bytes
-  pub others : (block : ℕ) → IsLive y.memory.blocks block → (IsOwned y.ems.pages block → ⊥) → IsLive x.memory.blocks block × (IsOwned x.ems.pages block → ⊥)
+  pub others : (block : ℕ) → IsLive y.memory.blocks block → (IsOwned y.ems.pages block → ⊥) →
+      IsLive x.memory.blocks block × (IsOwned x.ems.pages block → ⊥)
   pub line : y.memory.a20 ≡ x.memory.a20

@@ -28,17 +28,22 @@ some_runs [] back p e = rw e refl
 some_runs (q ∷ front) back p e = or_true (runs q) (list_any runs (front ++ p ∷ back)) (some_runs front back p e)
 
 -- the last that runs, with others before it and behind it
-pub last_ends : (step : ℕ) (front back : List Process) (p : Process) → runs p ≡ true → list_any runs back ≡ false → with_end step (front ++ p ∷ back) ≡ front ++ ended step p ∷ back
+pub last_ends : (step : ℕ) (front back : List Process) (p : Process) → runs p ≡ true → list_any runs back ≡ false →
+    with_end step (front ++ p ∷ back) ≡ front ++ ended step p ∷ back
 last_ends step [] back p e none = rw (none, e) refl
-last_ends step (q ∷ front) back p e none = rw (some_runs front back p e) (ap (λ (l : List Process). q ∷ l) (last_ends step front back p e none))
+last_ends step (q ∷ front) back p e none = rw (some_runs front back p e) (ap (λ (l : List Process). q
+    ∷ l) (last_ends step front back p e none))
 
 -- the last that runs, by its index
-pub ends_at : (step : ℕ) (old ps : List Process) (i : ℕ) (d : Process) → ps ≡ old → i < length ps → runs (get_or ps i d) ≡ true → list_any runs (drop (i + 1) ps) ≡ false
+pub ends_at : (step : ℕ) (old ps : List Process) (i : ℕ) (d : Process) → ps ≡ old → i < length ps →
+    runs (get_or ps i d) ≡ true → list_any runs (drop (i + 1) ps) ≡ false
     → set ps i (ended step (get_or ps i d)) ≡ with_end step old
 ends_at step old ps i d same less is none =
     let x = get_or ps i d in
     let y = ended step x in
     let cut : ps ≡ take i ps ++ x ∷ drop (i + 1) ps = rw add-one (split_at ps i d less) in
     let made : set ps i y ≡ take i ps ++ y ∷ drop (i + 1) ps
-    = sym (take-append-drop i (set ps i y)) ∙ ap₂ (λ (a b : List Process). a ++ b) (take-set ps i y) (drop-set ps i y less) in
-    made ∙ sym (last_ends step (take i ps) (drop (i + 1) ps) x is none) ∙ ap (λ (l : List Process). with_end step l) (sym cut ∙ same)
+    = sym (take-append-drop i (set ps i y)) ∙ ap₂ (λ (a b : List Process). a
+    ++ b) (take-set ps i y) (drop-set ps i y less) in
+    made ∙ sym (last_ends step (take i ps) (drop (i + 1) ps) x is none)
+    ∙ ap (λ (l : List Process). with_end step l) (sym cut ∙ same)

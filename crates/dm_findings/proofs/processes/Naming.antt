@@ -13,11 +13,13 @@ unfolding first_zero_word
 zero_here m segment at zero some e = absurd (omega arith)
 zero_here m segment at (suc n) some e = rw e refl
 
-next_by : (m : Memory) (segment at n : ℕ) → (peek16 m segment at == 0) ≡ false → first_zero_word m segment at (suc n) ≡ first_zero_word m segment (at + 1) n
+next_by : (m : Memory) (segment at n : ℕ) → (peek16 m segment at == 0) ≡ false →
+    first_zero_word m segment at (suc n) ≡ first_zero_word m segment (at + 1) n
 unfolding first_zero_word
 next_by m segment at n e = rw e refl
 
-pub zero_later : (m : Memory) (segment at n k : ℕ) → n ≡ suc k → (peek16 m segment at ≡ 0 → ⊥) → first_zero_word m segment at n ≡ first_zero_word m segment (at + 1) k
+pub zero_later : (m : Memory) (segment at n k : ℕ) → n ≡ suc k → (peek16 m segment at ≡ 0 → ⊥) →
+    first_zero_word m segment at n ≡ first_zero_word m segment (at + 1) k
 zero_later m segment at n k e other =
     let not_zero : (peek16 m segment at == 0) ≡ false = grind (arith, nat_tests, other) in
     ap (λ (i : ℕ). first_zero_word m segment at i) e ∙ next_by m segment at k not_zero
@@ -32,7 +34,8 @@ pub bytes_none : (m : Memory) (segment offset : ℕ) → bytes_after m segment o
 unfolding bytes_after
 bytes_none m segment offset = refl
 
-pub bytes_more : (m : Memory) (segment offset n : ℕ) → bytes_after m segment offset (n + 1) ≡ bytes_after m segment offset n ++ byte_after m segment offset n ∷ []
+pub bytes_more : (m : Memory) (segment offset n : ℕ) → bytes_after m segment offset (n + 1)
+    ≡ bytes_after m segment offset n ++ byte_after m segment offset n ∷ []
 unfolding bytes_after
 bytes_more m segment offset n = rw add-one refl
 

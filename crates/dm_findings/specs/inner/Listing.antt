@@ -34,7 +34,8 @@ new_line ls f = if is_listed (map found_of ls) f then line_of f [] ∷ [] else [
 
 -- how many findings are left out with f, if n are without it: f counts if it is neither listed nor repeats one that is
 abbrev pub out_with : List Listed → Found → ℕ → ℕ
-out_with ls f n = if is_listed (map found_of ls) f then n else if repeats (map found_of ls) f then n else min (n + 1) (2 ^ 64 - 1)
+out_with ls f n = if is_listed (map found_of ls) f then n else if repeats (map found_of ls) f then n else
+    min (n + 1) (2 ^ 64 - 1)
 
 -- `new` is the report `old` with f listed, counted as a repetition or left out; the numbers of errors and notes stay
 pub record Lists (f : Found) (old new : Reported) : Type 0 where

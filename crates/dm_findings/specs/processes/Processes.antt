@@ -43,7 +43,13 @@ name_text p = take_while (λ b. not (b == 0)) p.name_bytes
 
 -- the process with this prefix, which this step started, by memory after it
 abbrev pub process_at : Memory → ℕ → ℕ → Process
-process_at m prefix step = record { prefix = prefix; name_bytes = name_of m prefix; parent = peek16 m prefix 0x16; first = step; last = None }
+process_at m prefix step = record {
+  prefix = prefix;
+  name_bytes = name_of m prefix;
+  parent = peek16 m prefix 0x16;
+  first = step;
+  last = None;
+}
 
 -- whether a process has not ended
 abbrev pub runs : Process → Bool
@@ -52,4 +58,5 @@ runs p = not (is_some p.last)
 -- the processes after a step that ended the innermost of those that run, the last of them
 abbrev pub with_end : ℕ → List Process → List Process
 with_end step [] = []
-with_end step (p ∷ ps) = if list_any runs ps then p ∷ with_end step ps else if runs p then record p { last = Some step } ∷ ps else p ∷ ps
+with_end step (p ∷ ps) = if list_any runs ps then p ∷ with_end step ps else if runs p then record p { last = Some step }
+    ∷ ps else p ∷ ps

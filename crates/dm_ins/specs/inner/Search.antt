@@ -84,7 +84,8 @@ as_signed n = if sign_extended (n % 256) == n then Some (asks_data (data_is.Byte
 unfoldable pub demand_of : OperandKind → Operand → Option Demand
 demand_of is.Nothing operand.Nothing = Some (asks_data data_is.Nothing)
 demand_of is.Nothing _ = None
-demand_of (is.RegisterOrMemory w) (operand.Memory v a) = if same_width w v then Some (asks_place (place.Memory a)) else None
+demand_of (is.RegisterOrMemory w) (operand.Memory v a) = if same_width w v then Some (asks_place (place.Memory a)) else
+    None
 demand_of (is.RegisterOrMemory w) o = do
   n ← numbered w o
   Some (asks_place (place.Register n))
@@ -103,17 +104,21 @@ demand_of is.Short (operand.Target n) = as_signed n
 demand_of is.Short _ = None
 demand_of is.Near (operand.Target n) = Some (asks_data (data_is.Word n))
 demand_of is.Near _ = None
-demand_of (is.Direct w) (operand.Memory v a) = if same_width w v then (if is_direct a.base then Some (asks_data (data_is.Word a.displacement)) else None) else None
+demand_of (is.Direct w) (operand.Memory v a) = if same_width w v then (if is_direct a.base then
+    Some (asks_data (data_is.Word a.displacement)) else None) else None
 demand_of (is.Direct w) _ = None
 demand_of is.Far (operand.FarTarget n s) = Some (asks_data (data_is.Words n s))
 demand_of is.Far _ = None
 demand_of (is.Escape r) (operand.ByteValue n) = if n / 8 == r % 8 then Some (asks_register (n % 8)) else None
 demand_of (is.Escape r) _ = None
-demand_of (is.Byte r) (operand.ByteRegister s) = if byte_register_number r == byte_register_number s then Some (asks_data data_is.Nothing) else None
+demand_of (is.Byte r) (operand.ByteRegister s) = if byte_register_number r == byte_register_number s then
+    Some (asks_data data_is.Nothing) else None
 demand_of (is.Byte r) _ = None
-demand_of (is.Word r) (operand.WordRegister s) = if word_number r == word_number s then Some (asks_data data_is.Nothing) else None
+demand_of (is.Word r) (operand.WordRegister s) = if word_number r == word_number s then Some (asks_data data_is.Nothing)
+    else None
 demand_of (is.Word r) _ = None
-demand_of (is.TheSegment r) (operand.SegmentRegister s) = if segment_number r == segment_number s then Some (asks_data data_is.Nothing) else None
+demand_of (is.TheSegment r) (operand.SegmentRegister s) = if segment_number r == segment_number s then
+    Some (asks_data data_is.Nothing) else None
 demand_of (is.TheSegment r) _ = None
 demand_of is.One operand.One = Some (asks_data data_is.Nothing)
 demand_of is.One _ = None
@@ -128,7 +133,8 @@ data_bytes (data_is.Words n s) = word_bytes n ++ word_bytes s
 -- the mod r/m byte with the fields r and rm, and the displacement n after it: one byte if that extends to n by sign,
 -- else a word
 abbrev pub with_displacement : ℕ → ℕ → ℕ → List ℕ
-with_displacement r rm n = if sign_extended (n % 256) == n then (64 + (8 * r + rm)) ∷ n % 256 ∷ [] else (128 + (8 * r + rm)) ∷ word_bytes n
+with_displacement r rm n = if sign_extended (n % 256) == n then (64 + (8 * r + rm)) ∷ n % 256 ∷ [] else
+    (128 + (8 * r + rm)) ∷ word_bytes n
 
 -- the mod r/m byte of a memory operand with the reg field r, and its shortest displacement
 abbrev pub memory_bytes : ℕ → Address → List ℕ
@@ -165,17 +171,20 @@ unfoldable pub bytes_of : Choice → Operand → Operand → Option (List ℕ)
 bytes_of c one two = do
   d ← demand_of c.template.first one
   e ← demand_of c.template.second two
-  Some (c.opcode ∷ behind_bytes (either c.register (either d.register e.register)) (either d.place e.place) c.second ++ (data_bytes d.tail ++ data_bytes e.tail))
+  Some (c.opcode ∷ behind_bytes (either c.register (either d.register e.register)) (either d.place e.place) c.second
+      ++ (data_bytes d.tail ++ data_bytes e.tail))
 
 -- the template that the entry of the first byte b has under the reg field r, None if it has none; a template outside
 -- the groups stands under the reg field 0 alone
 abbrev pub choice_at : OpcodeEntry → ℕ → ℕ → Option Choice
 choice_at Unlisted b r = None
-choice_at (Plain p) b r = if r == 0 then Some (record { opcode = b; template = p; register = None; second = None }) else None
+choice_at (Plain p) b r = if r == 0 then Some (record { opcode = b; template = p; register = None; second = None }) else
+    None
 choice_at (Group g) b r = do
   p ← member_of g r
   Some (record { opcode = b; template = p; register = Some r; second = None })
-choice_at (Second c p) b r = if r == 0 then Some (record { opcode = b; template = p; register = None; second = Some c }) else None
+choice_at (Second c p) b r = if r == 0 then Some (record { opcode = b; template = p; register = None; second = Some c })
+    else None
 
 -- the number of a register is below 8
 abbrev pub PlaceFits : RegisterOrMemory → Type 0

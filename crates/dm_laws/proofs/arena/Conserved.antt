@@ -22,7 +22,8 @@ pub becomes_arena : (S T : Memory) (L : List Header) → Becomes S first_header 
 becomes_arena S T L b = (b.chain, clear_map S T L (place-shaped S T b.differs.shape) b.clear)
 
 -- 48h
-module _ (up : Bool) (S T : Memory) (st : Strategy) (n owner : ℕ) (t : Taking up S first_header st n) (b : Becomes S first_header (with_cut t owner) T) where
+module _ (up : Bool) (S T : Memory) (st : Strategy) (n owner : ℕ) (t : Taking up S first_header st n)
+    (b : Becomes S first_header (with_cut t owner) T) where
   cut : IsCut n owner t.block (taken st.fit n owner t.block) (cut_block st.fit n owner t.block)
   cut = cut-is st.fit n owner t.block (fits_size up (in_effect up t.list st) n t.block t.fit.fit)
 
@@ -39,14 +40,16 @@ module _ (up : Bool) (S T : Memory) (st : Strategy) (n owner : ℕ) (t : Taking 
         block = new;
         spelled = t.arena;
         becomes = becomes_arena S T (with_cut t owner) b;
-        end = paragraphs-replaced t.before C (t.block ∷ []) t.after (cut-paragraphs n owner t.block new C cut) ∙ ap paragraphs_taken (sym t.joined) ∙ paragraphs-join up t.list;
+        end = paragraphs-replaced t.before C (t.block ∷ []) t.after (cut-paragraphs n owner t.block new C cut)
+            ∙ ap paragraphs_taken (sym t.joined) ∙ paragraphs-join up t.list;
         there = in_right t.before (C ++ t.after) new (in_left C t.after new (cut-there n owner t.block new C cut));
         at = sym e;
         owned = refl;
         sized = refl;
         free = λ p h. free_in_join up S first_header t.list t.arena.0.1 p (record {
           block = t.block;
-          there = (let F : List Header → Type 0 = λ X. IsIn t.block X in subst F (sym t.joined) (in_middle t.before t.block t.after));
+          there = (let F : List Header → Type 0 = λ X. IsIn t.block X in
+              subst F (sym t.joined) (in_middle t.before t.block t.after));
           free = is_block_free;
           part = cut-within n owner t.block new C cut p h;
         });
@@ -64,7 +67,8 @@ module _ (up : Bool) (S T : Memory) (st : Strategy) (n owner : ℕ) (t : Taking 
       }
     where
       owned : (d : Header) → d.owner ≢ 0 → IsIn d (t.before ++ t.block ∷ t.after) → IsIn d t.list
-      owned d o i = (let F : List Header → Type 0 = λ X. IsIn d X in owned_in_join up t.list d o (subst F (sym t.joined) i))
+      owned d o i = (let F : List Header → Type 0 = λ X. IsIn d X in
+          owned_in_join up t.list d o (subst F (sym t.joined) i))
 
 pub allocation_conserves : AllocationConservesBlocks
 allocation_conserves up S T st n owner segment x = allocated up S T st n owner x.0 x.2 segment x.1
@@ -80,7 +84,8 @@ freeing_conserves up S T segment x =
       block = f.block;
       spelled = f.arena;
       becomes = becomes_arena S T _ x.1;
-      end = paragraphs-replaced f.before (freed f.block ∷ []) (f.block ∷ []) f.after refl ∙ ap paragraphs_taken (sym f.is);
+      end = paragraphs-replaced f.before (freed f.block ∷ []) (f.block ∷ []) f.after refl
+          ∙ ap paragraphs_taken (sym f.is);
       there = subst (F f.block) (sym f.is) (in_middle f.before f.block f.after);
       at = f.at;
       free = in_middle f.before (freed f.block) f.after;
@@ -93,8 +98,10 @@ freeing_conserves up S T segment x =
     }
 
 -- 4Ah
-module _ (up : Bool) (S T : Memory) (segment n : ℕ) (r : BlockRunAt up S first_header segment) (h : n ≤ (absorb r.block r.run).size) (b : Becomes S first_header (resized r n) T) where
-  resized_cut : IsCut n r.block.owner (absorb r.block r.run) (taken First n r.block.owner (absorb r.block r.run)) (cut_low n r.block.owner (absorb r.block r.run))
+module _ (up : Bool) (S T : Memory) (segment n : ℕ) (r : BlockRunAt up S first_header segment) (h : n
+    ≤ (absorb r.block r.run).size) (b : Becomes S first_header (resized r n) T) where
+  resized_cut : IsCut n r.block.owner (absorb r.block r.run) (taken First n r.block.owner (absorb r.block r.run))
+      (cut_low n r.block.owner (absorb r.block r.run))
   resized_cut = cut-is First n r.block.owner (absorb r.block r.run) h
 
   resizes : Resized up S T segment n
@@ -104,32 +111,47 @@ module _ (up : Bool) (S T : Memory) (segment n : ℕ) (r : BlockRunAt up S first
       let C : List Header = cut_low n r.block.owner whole in
       let F : Header → List Header → Type 0 = λ d X. IsIn d X in
       let G : Header → Type 0 = λ d. IsIn d (r.before ++ (C ++ r.after)) in
-      let same : new ≡ record r.block { size = n } = ap (λ s. record { segment = s; owner = r.block.owner; size = n }) (absorb-segment r.block r.run) in
-      let spelled : Spells S first_header (r.before ++ r.block ∷ (r.run ++ r.after)) = (let H : List Header → Type 0 = λ X. Spells S first_header X in subst H r.is r.arena.0.1) in
+      let same : new ≡ record r.block { size = n } = ap (λ s. record {
+        segment = s;
+        owner = r.block.owner;
+        size = n;
+      }) (absorb-segment r.block r.run) in
+      let spelled : Spells S first_header (r.before ++ r.block ∷ (r.run ++ r.after)) =
+      (let H : List Header → Type 0 = λ X. Spells S first_header X in subst H r.is r.arena.0.1) in
       record {
         old = r.list;
         new = resized r n;
         block = r.block;
         spelled = r.arena;
         becomes = becomes_arena S T (resized r n) b;
-        end = paragraphs-replaced r.before C (r.block ∷ r.run) r.after (cut-paragraphs n r.block.owner whole new C resized_cut ∙ paragraphs-absorb r.block r.run) ∙ ap paragraphs_taken (sym r.is);
+        end = paragraphs-replaced r.before C (r.block ∷ r.run) r.after (cut-paragraphs n r.block.owner whole new C
+            resized_cut ∙ paragraphs-absorb r.block r.run) ∙ ap paragraphs_taken (sym r.is);
         there = subst (F r.block) (sym r.is) (in_middle r.before r.block (r.run ++ r.after));
         at = r.at;
-        sized = subst G same (in_right r.before (C ++ r.after) new (in_left C r.after new (cut-there n r.block.owner whole new C resized_cut)));
-        free = λ p g. elim (absorb-cover up S r.block r.run r.after (spells_end S first_header r.before r.block (r.run ++ r.after) spelled).2 r.free p (cut-within n r.block.owner whole new C resized_cut p (part-of p _ _ (sym same) g))) [
-          | inl x ↦ inl x
-          | inr x ↦ inr (record {
-            block = x.block;
-            there = subst (F x.block) (sym r.is) (in_right r.before (r.block ∷ (r.run ++ r.after)) x.block (inr (in_left r.run r.after x.block x.there)));
-            free = x.free;
-            part = x.part;
-          })
-        ];
+        sized = subst G same (in_right r.before (C ++ r.after) new (in_left C r.after new
+            (cut-there n r.block.owner whole new C resized_cut)));
+        free = λ p g. elim (absorb-cover up S r.block r.run r.after (spells_end S first_header r.before r.block (r.run
+            ++ r.after) spelled).2 r.free p (cut-within n r.block.owner whole new C resized_cut p
+            (part-of p _ _ (sym same) g))) [
+              | inl x ↦ inl x
+              | inr x ↦ inr (record {
+                block = x.block;
+                there = subst (F x.block) (sym r.is) (in_right r.before (r.block ∷ (r.run ++ r.after)) x.block
+                    (inr (in_left r.run r.after x.block x.there)));
+                free = x.free;
+                part = x.part;
+              })
+            ];
         kept = λ d i s u. in_replaced r.before C (r.block ∷ r.run) r.after d
-            (λ j. elim j [ inl q ↦ absurd (s (ap (λ z. z.segment) q)) | inr z ↦ absurd (not-both _ (all_free up r.run d r.free z) u) ])
+            (λ j. elim j [
+              | inl q ↦ absurd (s (ap (λ z. z.segment) q))
+              | inr z ↦
+                  absurd (not-both _ (all_free up r.run d r.free z) u)
+            ])
             (subst (F d) r.is i);
         others = λ d i s o. subst (F d) (sym r.is) (in_replaced r.before (r.block ∷ r.run) C r.after d
-            (λ j. absurd (s (ap (λ z. z.segment) (cut-others n r.block.owner whole new C resized_cut d o j) ∙ absorb-segment r.block r.run)))
+            (λ j. absurd (s (ap (λ z. z.segment) (cut-others n r.block.owner whole new C resized_cut d o j)
+            ∙ absorb-segment r.block r.run)))
             i);
       }
 

@@ -12,8 +12,10 @@ pub record IsCut (n owner : ℕ) (b new : Header) (C : List Header) : Type 0 whe
   pub owned : new.owner ≡ owner
   pub sized : new.size ≡ n
   pub shape : ((C ≡ new ∷ []) × (new.segment ≡ b.segment) × (n ≡ b.size))
-      ⊎ (((r : Header) × (C ≡ new ∷ r ∷ []) × (new.segment ≡ b.segment) × (r.segment ≡ b.segment + 1 + n) × (r.owner ≡ 0) × (n + 1 + r.size ≡ b.size))
-      ⊎ ((r : Header) × (C ≡ r ∷ new ∷ []) × (r.segment ≡ b.segment) × (new.segment ≡ b.segment + 1 + r.size) × (r.owner ≡ 0) × (r.size + 1 + n ≡ b.size)))
+      ⊎ (((r : Header) × (C ≡ new ∷ r ∷ []) × (new.segment ≡ b.segment) × (r.segment ≡ b.segment + 1 + n) ×
+      (r.owner ≡ 0) × (n + 1 + r.size ≡ b.size))
+      ⊎ ((r : Header) × (C ≡ r ∷ new ∷ []) × (r.segment ≡ b.segment) × (new.segment ≡ b.segment + 1 + r.size) ×
+      (r.owner ≡ 0) × (r.size + 1 + n ≡ b.size)))
 
 less_of : (a n : ℕ) → nat_eq a n ≡ false → n ≤ a → n < a
 less_of a n e h = grind (arith, nat_tests)
@@ -21,19 +23,32 @@ less_of a n e h = grind (arith, nat_tests)
 same_of : (a n : ℕ) → nat_eq a n ≡ true → n ≡ a
 same_of a n e = grind (arith, nat_tests)
 
-cut_low-is : (n owner : ℕ) (b : Header) (r : Bool) → nat_eq b.size n ≡ r → n ≤ b.size → IsCut n owner b (record { segment = b.segment; owner = owner; size = n }) (cut_low n owner b)
+cut_low-is : (n owner : ℕ) (b : Header) (r : Bool) → nat_eq b.size n ≡ r → n ≤ b.size →
+    IsCut n owner b (record { segment = b.segment; owner = owner; size = n }) (cut_low n owner b)
 cut_low-is n owner b true e h = record {
   owned = refl;
   sized = refl;
-  shape = inl (rw e (ap (λ s. record { segment = b.segment; owner = owner; size = s } ∷ []) (sym (same_of b.size n e))), refl, same_of b.size n e);
+  shape = inl (
+    rw e (ap (λ s. record { segment = b.segment; owner = owner; size = s } ∷ []) (sym (same_of b.size n e))),
+    refl,
+    same_of b.size n e,
+  );
 }
 cut_low-is n owner b false e h = record {
   owned = refl;
   sized = refl;
-  shape = inr (inl (record { segment = b.segment + 1 + n; owner = 0; size = b.size - n - 1 }, rw e refl, refl, refl, refl, (let l = less_of b.size n e h in omega arith)));
+  shape = inr (inl (
+    record { segment = b.segment + 1 + n; owner = 0; size = b.size - n - 1 },
+    rw e refl,
+    refl,
+    refl,
+    refl,
+    (let l = less_of b.size n e h in omega arith),
+  ));
 }
 
-cut_high-is : (n owner : ℕ) (b : Header) (r : Bool) → nat_eq b.size n ≡ r → n ≤ b.size → IsCut n owner b (record { segment = b.segment + b.size - n; owner = owner; size = n }) (cut_high n owner b)
+cut_high-is : (n owner : ℕ) (b : Header) (r : Bool) → nat_eq b.size n ≡ r → n ≤ b.size →
+    IsCut n owner b (record { segment = b.segment + b.size - n; owner = owner; size = n }) (cut_high n owner b)
 cut_high-is n owner b true e h =
     let s : n ≡ b.size = same_of b.size n e in
     let at : b.segment ≡ b.segment + b.size - n = omega arith in
@@ -47,14 +62,22 @@ cut_high-is n owner b false e h =
     record {
       owned = refl;
       sized = refl;
-      shape = inr (inr (record { segment = b.segment; owner = 0; size = b.size - n - 1 }, rw e refl, refl, omega arith, refl, omega arith));
+      shape = inr (inr (
+        record { segment = b.segment; owner = 0; size = b.size - n - 1 },
+        rw e refl,
+        refl,
+        omega arith,
+        refl,
+        omega arith,
+      ));
     }
 
 -- the block that is taken by this fit
 abbrev pub taken : Fit → ℕ → ℕ → Header → Header
 taken fit n owner b = record { segment = taken_segment fit n b; owner = owner; size = n }
 
-pub cut-is : (fit : Fit) (n owner : ℕ) (b : Header) → n ≤ b.size → IsCut n owner b (taken fit n owner b) (cut_block fit n owner b)
+pub cut-is : (fit : Fit) (n owner : ℕ) (b : Header) → n ≤ b.size →
+    IsCut n owner b (taken fit n owner b) (cut_block fit n owner b)
 cut-is First n owner b h = cut_low-is n owner b _ refl h
 cut-is Best n owner b h = cut_low-is n owner b _ refl h
 cut-is Last n owner b h = cut_high-is n owner b _ refl h
@@ -75,8 +98,18 @@ module _ (n owner : ℕ) (b new : Header) (C : List Header) (c : IsCut n owner b
       elim c.shape [
         | inl x ↦ elim (subst F x.0 i) [ inl q ↦ q | inr r ↦ absurd r ]
         | inr y ↦ elim y [
-          | inl x ↦ elim (subst F x.1 i) [ inl q ↦ q | inr r ↦ elim r [ inl q ↦ absurd (o (ap (λ z. z.owner) q ∙ x.4)) | inr s ↦ absurd s ] ]
-          | inr x ↦ elim (subst F x.1 i) [ inl q ↦ absurd (o (ap (λ z. z.owner) q ∙ x.4)) | inr r ↦ elim r [ inl q ↦ q | inr s ↦ absurd s ] ]
+          | inl x ↦ elim (subst F x.1 i) [
+            | inl q ↦ q
+            | inr r ↦ elim r [
+              | inl q ↦ absurd (o (ap (λ z. z.owner) q ∙ x.4))
+              | inr s ↦ absurd s
+            ]
+          ]
+          | inr x ↦ elim (subst F x.1 i) [
+            | inl q ↦ absurd (o (ap (λ z. z.owner) q ∙ x.4))
+            | inr r ↦
+                elim r [ inl q ↦ q | inr s ↦ absurd s ]
+          ]
         ]
       ]
 
@@ -85,7 +118,11 @@ module _ (n owner : ℕ) (b new : Header) (C : List Header) (c : IsCut n owner b
       let s = c.sized in
       elim c.shape [
         | inl x ↦ ap paragraphs_taken x.0 ∙ (let z = x.2 in omega arith)
-        | inr y ↦ elim y [ inl x ↦ ap paragraphs_taken x.1 ∙ (let z = x.5 in omega arith) | inr x ↦ ap paragraphs_taken x.1 ∙ (let z = x.5 in omega arith) ]
+        | inr y ↦ elim y [
+          | inl x ↦ ap paragraphs_taken x.1 ∙ (let z = x.5 in omega arith)
+          | inr x ↦
+              ap paragraphs_taken x.1 ∙ (let z = x.5 in omega arith)
+        ]
       ]
 
   pub cut-within : (p : ℕ) → IsPartOf p new → IsPartOf p b

@@ -31,11 +31,14 @@ module _ (up : Bool) where
   free-same : (b c : Header) → b ≡ c → is_free up b ≡ is_free up c
   free-same b c e = ap (is_free up) e
 
-  pub paragraphs-join_after : (b : Header) (L : List Header) → paragraphs_taken (join_after up b L) ≡ paragraphs_taken (b ∷ L)
+  pub paragraphs-join_after : (b : Header) (L : List Header) → paragraphs_taken (join_after up b L)
+      ≡ paragraphs_taken (b ∷ L)
   paragraphs-join_after b [] = refl
   paragraphs-join_after b (c ∷ L) = elim (bool_cases (is_free up b && is_free up c)) [
-    | inl e ↦ ap paragraphs_taken (join_after-cond up b c L true e) ∙ (let x = paragraphs-join_after (merge b c) L in omega arith)
-    | inr e ↦ ap paragraphs_taken (join_after-cond up b c L false e) ∙ (let x = paragraphs-join_after c L in omega arith)
+    | inl e ↦ ap paragraphs_taken (join_after-cond up b c L true e) ∙ (let x = paragraphs-join_after (merge b c) L in
+        omega arith)
+    | inr e ↦ ap paragraphs_taken (join_after-cond up b c L false e) ∙ (let x = paragraphs-join_after c L in
+        omega arith)
   ]
 
   pub paragraphs-join : (L : List Header) → paragraphs_taken (join up L) ≡ paragraphs_taken L
@@ -52,7 +55,11 @@ module _ (up : Bool) where
           | inl q ↦ absurd (not-both _ (and-left _ _ e) (sym (free-same c b q) ∙ u))
           | inr r ↦ elim r [ inl q ↦ absurd (not-both _ (and-right _ _ e) (sym (free-same c d q) ∙ u)) | inr s ↦ inr s ]
         ]))
-        | inr e ↦ subst F (sym (join_after-cond up b d L false e)) (elim i [ inl q ↦ inl q | inr r ↦ inr (kept_after d c L u r) ])
+        | inr e ↦ subst F (sym (join_after-cond up b d L false e)) (elim i [
+          | inl q ↦ inl q
+          | inr r ↦
+              inr (kept_after d c L u r)
+        ])
       ]
 
   pub kept_in_join : (L : List Header) (c : Header) → is_free up c ≡ false → IsIn c L → IsIn c (join up L)
@@ -69,7 +76,11 @@ module _ (up : Bool) where
           | inl q ↦ absurd (o (ap (λ x. x.owner) q ∙ free-owner b (and-left _ _ e)))
           | inr s ↦ inr (inr s)
         ]
-        | inr e ↦ elim (subst F (join_after-cond up b d L false e) i) [ inl q ↦ inl q | inr r ↦ inr (owned_after d c L o r) ]
+        | inr e ↦ elim (subst F (join_after-cond up b d L false e) i) [
+          | inl q ↦ inl q
+          | inr r ↦
+              inr (owned_after d c L o r)
+        ]
       ]
 
   pub owned_in_join : (L : List Header) (c : Header) → c.owner ≢ 0 → IsIn c (join up L) → IsIn c L
@@ -80,7 +91,8 @@ module _ (up : Bool) where
   free_later : (b : Header) (L : List Header) (p : ℕ) → IsInFree up L p → IsInFree up (b ∷ L) p
   free_later b L p x = record { block = x.block; there = inr x.there; free = x.free; part = x.part }
 
-  free_after : (b : Header) (L : List Header) (t : ℕ) → Fills (next b) L t → (p : ℕ) → IsInFree up (join_after up b L) p → IsInFree up (b ∷ L) p
+  free_after : (b : Header) (L : List Header) (t : ℕ) → Fills (next b) L t → (p : ℕ) →
+      IsInFree up (join_after up b L) p → IsInFree up (b ∷ L) p
   free_after b [] t f p x = x
   free_after b (d ∷ L) t f p x =
       let F : List Header → Type 0 = λ X. IsInFree up X p in
@@ -92,17 +104,28 @@ module _ (up : Bool) where
               | inl q ↦ (let z = part-of p _ _ q y.part in
                   elim (below_or p (next b)) [
                     | inl low ↦ record { block = b; there = inl refl; free = and-left _ _ e; part = (z.0, low) }
-                    | inr high ↦ record { block = d; there = inr (inl refl); free = and-right _ _ e; part = (let w = f.0 in omega arith) }
+                    | inr high ↦ record {
+                      block = d;
+                      there = inr (inl refl);
+                      free = and-right _ _ e;
+                      part = (let w = f.0 in omega arith);
+                    }
                   ])
               | inr r ↦ record { block = y.block; there = inr (inr r); free = y.free; part = y.part }
             ])
         | inr e ↦ (let y : IsInFree up (b ∷ join_after up d L) p = subst F (join_after-cond up b d L false e) x in
             elim y.there [
               | inl q ↦ record { block = y.block; there = inl q; free = y.free; part = y.part }
-              | inr r ↦ free_later b (d ∷ L) p (free_after d L t f.1 p (record { block = y.block; there = r; free = y.free; part = y.part }))
+              | inr r ↦ free_later b (d ∷ L) p (free_after d L t f.1 p (record {
+                block = y.block;
+                there = r;
+                free = y.free;
+                part = y.part;
+              }))
             ])
       ]
 
-  pub free_in_join : (S : Memory) (h : ℕ) (L : List Header) → Spells S h L → (p : ℕ) → IsInFree up (join up L) p → IsInFree up L p
+  pub free_in_join : (S : Memory) (h : ℕ) (L : List Header) → Spells S h L → (p : ℕ) → IsInFree up (join up L) p →
+      IsInFree up L p
   free_in_join S h [] s p x = x
   free_in_join S h (b ∷ L) s p x = let r = fills_of S (next b) L s.2 in free_after b L r.0 r.1 p x

@@ -41,7 +41,8 @@ released-own o b h = ap (λ (t : Bool). record b { owner = if t then 0 else b.ow
 
 released-none : (o : ℕ) (L : List Header) → OwnsNone o L → released o L ≡ L
 released-none o [] h = refl
-released-none o (b ∷ L) h = ap₂ (λ x X. x ∷ X) (released-other o b (h b (inl refl))) (released-none o L (λ c i. h c (inr i)))
+released-none o (b ∷ L) h = ap₂ (λ x X. x ∷ X) (released-other o b (h b (inl refl)))
+    (released-none o L (λ c i. h c (inr i)))
 
 released-has : (o : ℕ) (L : List Header) (g : ℕ) → HasHeader L g → HasHeader (released o L) g
 released-has o [] g w = absurd w
@@ -58,7 +59,9 @@ linked_by (b ∷ L) (inl e) = ap (λ z. nat_eq z link_header || is_linked L) e
 linked_by (b ∷ L) (inr w) = or-right (nat_eq b.segment link_header) (is_linked L) (linked_by L w)
 
 -- a used block is not within a free one
-none_inside : (up : Bool) (g e : ℕ) (P : List Header) (b : Header) (Q : List Header) → Fills g (P ++ b ∷ Q) e → is_free up b ≡ true → (d : Header) → IsIn d (P ++ b ∷ Q) → is_free up d ≡ false → b.segment ≤ d.segment → d.segment < next b → ⊥
+none_inside : (up : Bool) (g e : ℕ) (P : List Header) (b : Header) (Q : List Header) → Fills g (P ++ b ∷ Q) e →
+    is_free up b ≡ true → (d : Header) → IsIn d (P ++ b ∷ Q) → is_free up d ≡ false → b.segment ≤ d.segment →
+    d.segment < next b → ⊥
 none_inside up g e P b Q f free d i u low high = elim (in_either P (b ∷ Q) d i) [
   | inl l ↦ (let z = fills_left g e P b Q f d.segment (has_of P d l) in omega arith)
   | inr q ↦ elim q [
@@ -74,10 +77,30 @@ module _ (n o : ℕ) (b new : Header) (C : List Header) (c : IsCut n o b new C) 
       let F : List Header → Type 0 = λ X. IsIn x X in
       let size = c.sized in
       elim c.shape [
-        | inl s ↦ elim (subst F s.0 i) [ inl q ↦ (let e = ap (λ z. z.segment) q in let y = s.1 in omega arith) | inr z ↦ absurd z ]
+        | inl s ↦ elim (subst F s.0 i) [
+          | inl q ↦ (let e = ap (λ z. z.segment) q in let y = s.1 in omega arith)
+          | inr z ↦
+              absurd z
+        ]
         | inr s ↦ elim s [
-          | inl s ↦ (let y = s.2 in let z = s.3 in let v = s.5 in elim (subst F s.1 i) [ inl q ↦ (let e = ap (λ z. z.segment) q in omega arith) | inr r ↦ elim r [ inl q ↦ (let e = ap (λ z. z.segment) q in omega arith) | inr z ↦ absurd z ] ])
-          | inr s ↦ (let y = s.2 in let z = s.3 in let v = s.5 in elim (subst F s.1 i) [ inl q ↦ (let e = ap (λ z. z.segment) q in omega arith) | inr r ↦ elim r [ inl q ↦ (let e = ap (λ z. z.segment) q in omega arith) | inr z ↦ absurd z ] ])
+          | inl s ↦ (let y = s.2 in let z = s.3 in let v = s.5 in elim (subst F s.1 i) [
+            | inl q ↦
+                (let e = ap (λ z. z.segment) q in omega arith)
+            | inr r ↦ elim r [
+              | inl q ↦
+                  (let e = ap (λ z. z.segment) q in omega arith)
+              | inr z ↦ absurd z
+            ]
+          ])
+          | inr s ↦ (let y = s.2 in let z = s.3 in let v = s.5 in elim (subst F s.1 i) [
+            | inl q ↦
+                (let e = ap (λ z. z.segment) q in omega arith)
+            | inr r ↦ elim r [
+              | inl q ↦
+                  (let e = ap (λ z. z.segment) q in omega arith)
+              | inr z ↦ absurd z
+            ]
+          ])
         ]
       ]
 
@@ -90,38 +113,48 @@ module _ (n o : ℕ) (b new : Header) (C : List Header) (c : IsCut n o b new C) 
       ]
 
   -- once freed, they are joined to the block
-  cut-back : (up : Bool) (P Q : List Header) → o ≢ 0 → is_free up b ≡ true → ((x : Header) → IsIn x C → is_link up x.segment ≡ false) → join up (P ++ (released o C ++ Q)) ≡ join up (P ++ b ∷ Q)
+  cut-back : (up : Bool) (P Q : List Header) → o ≢ 0 → is_free up b ≡ true → ((x : Header) → IsIn x C →
+      is_link up x.segment ≡ false) → join up (P ++ (released o C ++ Q)) ≡ join up (P ++ b ∷ Q)
   cut-back up P Q nz free unlinked =
       let F : Header → List Header → Type 0 = λ x X. IsIn x X in
       let with : List Header → List Header = λ X. join up (P ++ (X ++ Q)) in
       let own : b.owner ≡ 0 = free-owner up b free in
       elim c.shape [
         | inl s ↦ ap (λ X. join up (P ++ (released o X ++ Q))) s.0
-            ∙ ap (λ x. join up (P ++ x ∷ Q)) (released-own o new c.owned ∙ header-same (freed new) b s.1 (sym own) (c.sized ∙ s.2))
+            ∙ ap (λ x. join up (P ++ x ∷ Q)) (released-own o new c.owned
+            ∙ header-same (freed new) b s.1 (sym own) (c.sized ∙ s.2))
         | inr q ↦ elim q [
           | inl s ↦ (let r : Header = s.0 in
               let size = s.5 in
               let n_is = c.sized in
               let r0 = s.4 in
-              let fn : is_free up (freed new) ≡ true = free_by up (freed new) refl (unlinked new (subst (F new) (sym s.1) (inl refl))) in
+              let fn : is_free up (freed new) ≡ true =
+              free_by up (freed new) refl (unlinked new (subst (F new) (sym s.1) (inl refl))) in
               let fr : is_free up r ≡ true = free_by up r s.4 (unlinked r (subst (F r) (sym s.1) (inr (inl refl)))) in
               ap (λ X. join up (P ++ (released o X ++ Q))) s.1
-              ∙ ap₂ (λ x y. join up (P ++ x ∷ y ∷ Q)) (released-own o new c.owned) (released-other o r (λ e. nz (sym e ∙ r0)))
-              ∙ join-two up P (freed new) r Q fn fr ∙ ap (λ z. join up (P ++ z ∷ Q)) (header-same (merge (freed new) r) b s.2 (sym own) (omega arith)))
+              ∙ ap₂ (λ x y. join up (P ++ x ∷ y ∷ Q)) (released-own o new c.owned) (released-other o r (λ e. nz (sym e
+              ∙ r0)))
+              ∙ join-two up P (freed new) r Q fn fr ∙ ap (λ z. join up (P ++ z ∷ Q))
+              (header-same (merge (freed new) r) b s.2 (sym own) (omega arith)))
           | inr s ↦ (let r : Header = s.0 in
               let size = s.5 in
               let n_is = c.sized in
               let r0 = s.4 in
-              let fn : is_free up (freed new) ≡ true = free_by up (freed new) refl (unlinked new (subst (F new) (sym s.1) (inr (inl refl)))) in
+              let fn : is_free up (freed new) ≡ true =
+              free_by up (freed new) refl (unlinked new (subst (F new) (sym s.1) (inr (inl refl)))) in
               let fr : is_free up r ≡ true = free_by up r s.4 (unlinked r (subst (F r) (sym s.1) (inl refl))) in
               ap (λ X. join up (P ++ (released o X ++ Q))) s.1
-              ∙ ap₂ (λ x y. join up (P ++ x ∷ y ∷ Q)) (released-other o r (λ e. nz (sym e ∙ r0))) (released-own o new c.owned)
-              ∙ join-two up P r (freed new) Q fr fn ∙ ap (λ z. join up (P ++ z ∷ Q)) (header-same (merge r (freed new)) b s.2 (r0 ∙ sym own) (omega arith)))
+              ∙ ap₂ (λ x y. join up (P ++ x ∷ y ∷ Q)) (released-other o r (λ e. nz (sym e ∙ r0)))
+              (released-own o new c.owned)
+              ∙ join-two up P r (freed new) Q fr fn ∙ ap (λ z. join up (P ++ z ∷ Q))
+              (header-same (merge r (freed new)) b s.2 (r0 ∙ sym own) (omega arith)))
         ]
       ]
 
 -- a list in which a free block is cut, with the owner's blocks freed
-released-cut : (up : Bool) (n o : ℕ) (P : List Header) (b new : Header) (C Q : List Header) → IsCut n o b new C → o ≢ 0 → is_free up b ≡ true → ((x : Header) → IsIn x C → is_link up x.segment ≡ false) → join up (released o (P ++ (C ++ Q))) ≡ join up (released o (P ++ b ∷ Q))
+released-cut : (up : Bool) (n o : ℕ) (P : List Header) (b new : Header) (C Q : List Header) → IsCut n o b new C →
+    o ≢ 0 → is_free up b ≡ true → ((x : Header) → IsIn x C → is_link up x.segment ≡ false) →
+    join up (released o (P ++ (C ++ Q))) ≡ join up (released o (P ++ b ∷ Q))
 released-cut up n o P b new C Q c nz free unlinked =
     let own : b.owner ≢ o = λ e. nz (sym e ∙ free-owner up b free) in
     ap (join up) (released-append o P (C ++ Q) ∙ ap (λ X. released o P ++ X) (released-append o C Q))
@@ -129,12 +162,17 @@ released-cut up n o P b new C Q c nz free unlinked =
     ∙ ap (λ x. join up (released o P ++ x ∷ released o Q)) (sym (released-other o b own))
     ∙ ap (join up) (sym (released-append o P (b ∷ Q)))
 
-module _ (up : Bool) (S : Memory) (st : Strategy) (environment least most o size : ℕ) (p : Pairing up S first_header st environment least most o size) (old new : List Header) (olds : old ≡ p.first.list) (news : new ≡ released o (with_pair p)) (none : OwnsNone o old) (link : up ≡ true → is_linked new ≡ is_linked old) where
+module _ (up : Bool) (S : Memory) (st : Strategy) (environment least most o size : ℕ)
+    (p : Pairing up S first_header st environment least most o size) (old new : List Header) (olds : old
+    ≡ p.first.list) (news : new ≡ released o (with_pair p)) (none : OwnsNone o old) (link : up ≡ true →
+    is_linked new ≡ is_linked old) where
   nonzero : o ≢ 0
   nonzero e = (let x = p.owner_is in omega arith)
 
-  first-cut : IsCut environment o p.first.block (taken st.fit environment o p.first.block) (cut_block st.fit environment o p.first.block)
-  first-cut = cut-is st.fit environment o p.first.block (fits_size up (in_effect up p.first.list st) environment p.first.block p.first.fit.fit)
+  first-cut : IsCut environment o p.first.block (taken st.fit environment o p.first.block)
+      (cut_block st.fit environment o p.first.block)
+  first-cut = cut-is st.fit environment o p.first.block (fits_size up (in_effect up p.first.list st) environment
+      p.first.block p.first.fit.fit)
 
   second-cut : IsCut size o p.block (taken st.fit size o p.block) (cut_block st.fit size o p.block)
   second-cut = cut-is st.fit size o p.block (fits_size up (in_effect up (with_cut p.first o) st) size p.block p.fit.fit)
@@ -146,14 +184,16 @@ module _ (up : Bool) (S : Memory) (st : Strategy) (environment least most o size
   second-free = and-left _ _ (and-left _ _ p.fit.fit)
 
   -- a header of the list with both blocks is the link block's only if the list had that before
-  unlinked : (g : ℕ) → HasHeader (with_pair p) g → ((d : Header) → IsIn d p.first.list → is_free up d ≡ false → d.segment ≡ g → ⊥) → is_link up g ≡ false
+  unlinked : (g : ℕ) → HasHeader (with_pair p) g → ((d : Header) → IsIn d p.first.list → is_free up d ≡ false →
+      d.segment ≡ g → ⊥) → is_link up g ≡ false
   unlinked g w not_there = elim (bool_cases (is_link up g)) [
     | inr e ↦ e
     | inl e ↦ (let at : g ≡ link_header = same_of _ _ (and-right up (nat_eq g link_header) e) in
         let on : up ≡ true = and-left up (nat_eq g link_header) e in
         let F : List Header → Type 0 = λ X. HasHeader X link_header in
         let G : ℕ → Type 0 = λ z. HasHeader (with_pair p) z in
-        let there : HasHeader new link_header = subst F (sym news) (released-has o (with_pair p) link_header (subst G at w)) in
+        let there : HasHeader new link_header = subst F (sym news) (released-has o (with_pair p) link_header
+        (subst G at w)) in
         let d = linked_has old (sym (link on) ∙ linked_by new there) in
         let same : d.0.segment ≡ g = d.2 ∙ sym at in
         let linked : is_link up d.0.segment ≡ true = ap (is_link up) same ∙ e in
@@ -162,13 +202,16 @@ module _ (up : Bool) (S : Memory) (st : Strategy) (environment least most o size
   ]
 
   -- used blocks are in the joined list, and in the list with the first block
-  in_joined : (d : Header) → IsIn d p.first.list → is_free up d ≡ false → IsIn d (p.first.before ++ p.first.block ∷ p.first.after)
-  in_joined d i u = let F : List Header → Type 0 = λ X. IsIn d X in subst F p.first.joined (kept_in_join up p.first.list d u i)
+  in_joined : (d : Header) → IsIn d p.first.list → is_free up d ≡ false → IsIn d (p.first.before ++ p.first.block
+      ∷ p.first.after)
+  in_joined d i u = let F : List Header → Type 0 = λ X. IsIn d X in
+      subst F p.first.joined (kept_in_join up p.first.list d u i)
 
   in_split : (d : Header) → IsIn d p.first.list → is_free up d ≡ false → IsIn d (p.before ++ p.block ∷ p.after)
   in_split d i u =
       let F : List Header → Type 0 = λ X. IsIn d X in
-      subst F p.split (in_replaced p.first.before (cut_block st.fit environment o p.first.block) (p.first.block ∷ []) p.first.after d
+      subst F p.split (in_replaced p.first.before (cut_block st.fit environment o p.first.block) (p.first.block
+      ∷ []) p.first.after d
       (λ j. elim j [ inl q ↦ absurd (not-both _ first-free (ap (is_free up) (sym q) ∙ u)) | inr z ↦ absurd z ])
       (in_joined d i u))
 
@@ -179,7 +222,8 @@ module _ (up : Bool) (S : Memory) (st : Strategy) (environment least most o size
       elim (has_either p.before (p.block ∷ p.after) g w) [
         | inl l ↦ has_left p.before (C ++ p.after) g l
         | inr r ↦ elim r [
-          | inl e ↦ (let F : ℕ → Type 0 = λ z. HasHeader C z in has_right p.before (C ++ p.after) g (has_left C p.after g (subst F e (cut-head size o p.block _ C second-cut))))
+          | inl e ↦ (let F : ℕ → Type 0 = λ z. HasHeader C z in has_right p.before (C
+              ++ p.after) g (has_left C p.after g (subst F e (cut-head size o p.block _ C second-cut))))
           | inr q ↦ has_right p.before (C ++ p.after) g (has_right C p.after g q)
         ]
       ]
@@ -191,8 +235,10 @@ module _ (up : Bool) (S : Memory) (st : Strategy) (environment least most o size
       let F : List Header → Type 0 = λ X. HasHeader X x.segment in
       let r = join_fills up S first_header p.first.list p.first.arena.0.1 in
       let G : List Header → Type 0 = λ X. Fills r.1 X r.0 in
-      unlinked x.segment (has_both x.segment (subst F p.split (has_right p.first.before (C ++ p.first.after) x.segment (has_left C p.first.after x.segment (has_of C x i)))))
-      (λ d j u e. none_inside up r.1 r.0 p.first.before p.first.block p.first.after (subst G p.first.joined r.2) first-free d (in_joined d j u) u (let y = range.0 in omega arith) (let y = range.1 in omega arith))
+      unlinked x.segment (has_both x.segment (subst F p.split (has_right p.first.before (C
+      ++ p.first.after) x.segment (has_left C p.first.after x.segment (has_of C x i)))))
+      (λ d j u e. none_inside up r.1 r.0 p.first.before p.first.block p.first.after (subst G p.first.joined r.2)
+      first-free d (in_joined d j u) u (let y = range.0 in omega arith) (let y = range.1 in omega arith))
 
   second-unlinked : (x : Header) → IsIn x (cut_block st.fit size o p.block) → is_link up x.segment ≡ false
   second-unlinked x i =
@@ -201,7 +247,8 @@ module _ (up : Bool) (S : Memory) (st : Strategy) (environment least most o size
       let r = changed_fills up S first_header st environment o p.first in
       let G : List Header → Type 0 = λ X. Fills r.0 X r.1 in
       unlinked x.segment (has_right p.before (C ++ p.after) x.segment (has_left C p.after x.segment (has_of C x i)))
-      (λ d j u e. none_inside up r.0 r.1 p.before p.block p.after (subst G p.split r.2) second-free d (in_split d j u) u (let y = range.0 in omega arith) (let y = range.1 in omega arith))
+      (λ d j u e. none_inside up r.0 r.1 p.before p.block p.after (subst G p.split r.2) second-free d (in_split d j u) u
+      (let y = range.0 in omega arith) (let y = range.1 in omega arith))
 
   none_joined : OwnsNone o (join up p.first.list)
   none_joined b i e =
@@ -211,24 +258,30 @@ module _ (up : Bool) (S : Memory) (st : Strategy) (environment least most o size
   pub back : join up new ≡ join up old
   back =
       ap (join up) news
-      ∙ released-cut up size o p.before p.block _ (cut_block st.fit size o p.block) p.after second-cut nonzero second-free second-unlinked
+      ∙ released-cut up size o p.before p.block _ (cut_block st.fit size o p.block) p.after second-cut nonzero
+      second-free second-unlinked
       ∙ ap (λ X. join up (released o X)) (sym p.split)
-      ∙ released-cut up environment o p.first.before p.first.block _ (cut_block st.fit environment o p.first.block) p.first.after first-cut nonzero first-free first-unlinked
+      ∙ released-cut up environment o p.first.before p.first.block _ (cut_block st.fit environment o p.first.block)
+      p.first.after first-cut nonzero first-free first-unlinked
       ∙ ap (λ X. join up (released o X)) (sym p.first.joined)
       ∙ ap (join up) (released-none o (join up p.first.list) none_joined)
       ∙ join-again up p.first.list ∙ ap (join up) (sym olds)
 
 -- what is spelled once the owner's blocks are freed
-left-is : (upper : Bool) (E U : Memory) (o : ℕ) (taken new : List Header) → IsArena E first_header taken → ReleasesOne upper E o U ⊎ ReleasesBoth upper E o U → IsArena U first_header new → new ≡ released o taken
-left-is upper E U o taken new e (inl r) x = chain_unique U first_header new _ x.0 r.becomes.chain ∙ ap (released o) (arena_unique E first_header r.list taken r.arena e)
-left-is upper E U o taken new e (inr r) x = chain_unique U first_header new _ x.0 r.first_chain ∙ ap (released o) (arena_unique E first_header r.first taken r.arena e)
+left-is : (upper : Bool) (E U : Memory) (o : ℕ) (taken new : List Header) → IsArena E first_header taken →
+    ReleasesOne upper E o U ⊎ ReleasesBoth upper E o U → IsArena U first_header new → new ≡ released o taken
+left-is upper E U o taken new e (inl r) x = chain_unique U first_header new _ x.0 r.becomes.chain
+    ∙ ap (released o) (arena_unique E first_header r.list taken r.arena e)
+left-is upper E U o taken new e (inr r) x = chain_unique U first_header new _ x.0 r.first_chain
+    ∙ ap (released o) (arena_unique E first_header r.first taken r.arena e)
 
 pub pair_then_release : PairThenReleaseJoins
 pair_then_release up S T E U st environment least most placed old taken new p a t e r x none link =
     let pair : Planned = p.0 in
     let pairing = p.1.pairing in
     let o : placed.program ≡ pair.program = ap (λ z. z.program) p.2 in
-    let same : taken ≡ with_pair pairing = arena_unique T first_header taken (with_pair pairing) t (becomes_arena S T (with_pair pairing) p.3) in
+    let same : taken ≡ with_pair pairing = arena_unique T first_header taken (with_pair pairing) t
+    (becomes_arena S T (with_pair pairing) p.3) in
     let R : ℕ → Type 0 = λ z. ReleasesOne up E z U ⊎ ReleasesBoth up E z U in
     let N : ℕ → Type 0 = λ z. OwnsNone z old in
     back up S st environment least most pair.program pair.size pairing old new

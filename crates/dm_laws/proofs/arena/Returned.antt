@@ -68,28 +68,36 @@ pub free_by : (up : Bool) (b : Header) → b.owner ≡ 0 → is_link up b.segmen
 free_by up b o l = ap₂ (λ x y. not x && nat_eq y 0) l o
 
 -- the list that freeing one of its blocks leaves
-freed-is : (up : Bool) (T : Memory) (segment : ℕ) (L P : List Header) (b : Header) (Q : List Header) → IsArena T first_header L → L ≡ P ++ b ∷ Q → b.segment + 1 ≡ segment → (f : BlockAt up T first_header segment) → f.before ++ freed f.block ∷ f.after ≡ P ++ freed b ∷ Q
+freed-is : (up : Bool) (T : Memory) (segment : ℕ) (L P : List Header) (b : Header) (Q : List Header) →
+    IsArena T first_header L → L ≡ P ++ b ∷ Q → b.segment + 1 ≡ segment → (f : BlockAt up T first_header segment) →
+    f.before ++ freed f.block ∷ f.after ≡ P ++ freed b ∷ Q
 freed-is up T segment L P b Q a e at f =
     let r = fills_of T first_header L a.0.1 in
     let F : List Header → Type 0 = λ X. Fills first_header X r.0 in
     let fat = f.at in
-    let s = split_unique first_header r.0 P b Q f.before f.block f.after (subst F e r.1) (sym e ∙ arena_unique T first_header L f.list a f.arena ∙ f.is) (omega arith) in
+    let s = split_unique first_header r.0 P b Q f.before f.block f.after (subst F e r.1) (sym e
+    ∙ arena_unique T first_header L f.list a f.arena ∙ f.is) (omega arith) in
     ap₂ (λ X Y. X ++ Y) (sym s.0) (ap₂ (λ z X. freed z ∷ X) (sym s.1) (sym s.2))
 
-module _ (up : Bool) (S T U : Memory) (st : Strategy) (n owner segment : ℕ) (t : Taking up S first_header st n) (at : segment ≡ (taken st.fit n owner t.block).segment + 1) (x : Becomes S first_header (with_cut t owner) T) (f : BlockAt up T first_header segment) (y : Becomes T first_header (f.before ++ freed f.block ∷ f.after) U) where
+module _ (up : Bool) (S T U : Memory) (st : Strategy) (n owner segment : ℕ) (t : Taking up S first_header st n)
+    (at : segment ≡ (taken st.fit n owner t.block).segment + 1) (x : Becomes S first_header (with_cut t owner) T)
+    (f : BlockAt up T first_header segment) (y : Becomes T first_header (f.before ++ freed f.block ∷ f.after) U) where
   cut : IsCut n owner t.block (taken st.fit n owner t.block) (cut_block st.fit n owner t.block)
   cut = cut-is st.fit n owner t.block (fits_size up (in_effect up t.list st) n t.block t.fit.fit)
 
   block-free : is_free up t.block ≡ true
   block-free = and-left _ _ (and-left _ _ t.fit.fit)
 
-  new-is : (new P Q : List Header) → IsArena U first_header new → with_cut t owner ≡ P ++ taken st.fit n owner t.block ∷ Q → new ≡ P ++ freed (taken st.fit n owner t.block) ∷ Q
+  new-is : (new P Q : List Header) → IsArena U first_header new → with_cut t owner ≡ P ++ taken st.fit n owner t.block
+      ∷ Q → new ≡ P ++ freed (taken st.fit n owner t.block) ∷ Q
   new-is new P Q a e =
       arena_unique U first_header new _ a (becomes_arena T U _ y)
-      ∙ freed-is up T segment (with_cut t owner) P (taken st.fit n owner t.block) Q (becomes_arena S T (with_cut t owner) x) e (sym at) f
+      ∙ freed-is up T segment (with_cut t owner) P (taken st.fit n owner t.block) Q
+      (becomes_arena S T (with_cut t owner) x) e (sym at) f
 
   -- the joined list has no header within the block that is taken, but its own
-  none_within : (d : Header) → IsIn d t.list → is_free up d ≡ false → t.block.segment ≤ d.segment → d.segment < next t.block → ⊥
+  none_within : (d : Header) → IsIn d t.list → is_free up d ≡ false → t.block.segment ≤ d.segment →
+      d.segment < next t.block → ⊥
   none_within d i u low high =
       let F : List Header → Type 0 = λ X. IsIn d X in
       let r = join_fills up S first_header t.list t.arena.0.1 in
@@ -99,12 +107,14 @@ module _ (up : Bool) (S T U : Memory) (st : Strategy) (n owner segment : ℕ) (t
         | inl l ↦ (let z = fills_left r.1 r.0 t.before t.block t.after g d.segment (has_of t.before d l) in omega arith)
         | inr q ↦ elim q [
           | inl e ↦ not-both _ block-free (ap (is_free up) (sym e) ∙ u)
-          | inr w ↦ (let z = fills_above (next t.block) r.0 t.after (fills_right r.1 r.0 t.before t.block t.after g) d.segment (has_of t.after d w) in omega arith)
+          | inr w ↦ (let z = fills_above (next t.block) r.0 t.after (fills_right r.1 r.0 t.before t.block t.after g)
+              d.segment (has_of t.after d w) in omega arith)
         ]
       ]
 
   -- a header at the link block's segment makes the list linked, as the list was not
-  rest_unlinked : (new : List Header) (r : Header) → IsIn r new → (up ≡ true → is_linked new ≡ is_linked t.list) → t.block.segment ≤ r.segment → r.segment < next t.block → is_link up r.segment ≡ false
+  rest_unlinked : (new : List Header) (r : Header) → IsIn r new → (up ≡ true → is_linked new ≡ is_linked t.list) →
+      t.block.segment ≤ r.segment → r.segment < next t.block → is_link up r.segment ≡ false
   rest_unlinked new r i link low high = elim (bool_cases (is_link up r.segment)) [
     | inr e ↦ e
     | inl e ↦ (let at_link : r.segment ≡ link_header = same_of _ _ (and-right up (nat_eq r.segment link_header) e) in
@@ -115,8 +125,11 @@ module _ (up : Bool) (S T U : Memory) (st : Strategy) (n owner segment : ℕ) (t
         absurd (none_within d.0 d.1 (ap (λ z. not z && nat_eq d.0.owner 0) linked) (omega arith) (omega arith)))
   ]
 
-  module _ (new : List Header) (a : IsArena U first_header new) (link : up ≡ true → is_linked new ≡ is_linked t.list) where
-    joined_as : (P Q : List Header) → with_cut t owner ≡ P ++ taken st.fit n owner t.block ∷ Q → join up (P ++ freed (taken st.fit n owner t.block) ∷ Q) ≡ join up (t.before ++ t.block ∷ t.after) → join up new ≡ join up t.list
+  module _ (new : List Header) (a : IsArena U first_header new) (link : up ≡ true →
+      is_linked new ≡ is_linked t.list) where
+    joined_as : (P Q : List Header) → with_cut t owner ≡ P ++ taken st.fit n owner t.block ∷ Q →
+        join up (P ++ freed (taken st.fit n owner t.block) ∷ Q) ≡ join up (t.before ++ t.block ∷ t.after) →
+        join up new ≡ join up t.list
     joined_as P Q e j = ap (join up) (new-is new P Q a e) ∙ j ∙ ap (join up) (sym t.joined) ∙ join-again up t.list
 
     pub returned : join up new ≡ join up t.list
@@ -135,19 +148,27 @@ module _ (up : Bool) (S T U : Memory) (st : Strategy) (n owner segment : ℕ) (t
                 let size = s.5 in
                 let low = s.3 in
                 let F : List Header → Type 0 = λ X. IsIn r X in
-                let there : IsIn r new = subst F (sym (new-is new t.before (r ∷ t.after) a e)) (in_right t.before (freed N ∷ r ∷ t.after) r (inr (inl refl))) in
-                let fn : is_free up (freed N) ≡ true = free_by up (freed N) refl (ap (is_link up) s.2 ∙ unlinked_of up b block-free) in
-                let fr : is_free up r ≡ true = free_by up r s.4 (rest_unlinked new r there link (omega arith) (omega arith)) in
+                let there : IsIn r new = subst F (sym (new-is new t.before (r ∷ t.after) a e))
+                (in_right t.before (freed N ∷ r ∷ t.after) r (inr (inl refl))) in
+                let fn : is_free up (freed N) ≡ true = free_by up (freed N) refl (ap (is_link up) s.2
+                ∙ unlinked_of up b block-free) in
+                let fr : is_free up r ≡ true = free_by up r s.4 (rest_unlinked new r there link (omega arith)
+                (omega arith)) in
                 joined_as t.before (r ∷ t.after) e
-                (join-two up t.before (freed N) r t.after fn fr ∙ ap (λ z. join up (t.before ++ z ∷ t.after)) (header-same (merge (freed N) r) b s.2 (sym o) (omega arith))))
+                (join-two up t.before (freed N) r t.after fn fr ∙ ap (λ z. join up (t.before ++ z ∷ t.after))
+                (header-same (merge (freed N) r) b s.2 (sym o) (omega arith))))
             | inr s ↦ (let r : Header = s.0 in
-                let e : with_cut t owner ≡ (t.before ++ r ∷ []) ++ N ∷ t.after = ap with s.1 ∙ sym (append_assoc t.before (r ∷ []) (N ∷ t.after)) in
+                let e : with_cut t owner ≡ (t.before ++ r ∷ []) ++ N ∷ t.after = ap with s.1
+                ∙ sym (append_assoc t.before (r ∷ []) (N ∷ t.after)) in
                 let size = s.5 in
                 let fr : is_free up r ≡ true = free_by up r s.4 (ap (is_link up) s.2 ∙ unlinked_of up b block-free) in
-                let fn : is_free up (freed N) ≡ true = free_by up (freed N) refl (unlinked_after up segment N.segment (sym at) f.other) in
+                let fn : is_free up (freed N) ≡ true = free_by up (freed N) refl (unlinked_after up segment N.segment
+                (sym at) f.other) in
                 joined_as (t.before ++ r ∷ []) t.after e
-                (ap (join up) (append_assoc t.before (r ∷ []) (freed N ∷ t.after)) ∙ join-two up t.before r (freed N) t.after fr fn
-                ∙ ap (λ z. join up (t.before ++ z ∷ t.after)) (header-same (merge r (freed N)) b s.2 (s.4 ∙ sym o) (omega arith))))
+                (ap (join up) (append_assoc t.before (r ∷ []) (freed N ∷ t.after))
+                ∙ join-two up t.before r (freed N) t.after fr fn
+                ∙ ap (λ z. join up (t.before ++ z ∷ t.after)) (header-same (merge r (freed N)) b s.2 (s.4
+                ∙ sym o) (omega arith))))
           ]
         ]
 

@@ -25,7 +25,8 @@ all_free up (c ∷ R) d a (inl q) = ap (is_free up) q ∙ a.0
 all_free up (c ∷ R) d a (inr i) = all_free up R d a.1 i
 
 -- each paragraph is the block's own or a free one
-pub absorb-cover : (up : Bool) (S : Memory) (b : Header) (R Q : List Header) → Spells S (next b) (R ++ Q) → AllFree up R → (p : ℕ) → IsPartOf p (absorb b R) → IsPartOf p b ⊎ IsInFree up R p
+pub absorb-cover : (up : Bool) (S : Memory) (b : Header) (R Q : List Header) → Spells S (next b) (R ++ Q) →
+    AllFree up R → (p : ℕ) → IsPartOf p (absorb b R) → IsPartOf p b ⊎ IsInFree up R p
 absorb-cover up S b [] Q s a p h = inl h
 absorb-cover up S b (c ∷ R) Q s a p h =
     let at : next c ≡ next (merge b c) = (let x = s.0 in omega arith) in
@@ -33,7 +34,13 @@ absorb-cover up S b (c ∷ R) Q s a p h =
     elim (absorb-cover up S (merge b c) R Q (subst F at s.2) a.1 p h) [
       | inl x ↦ elim (below_or p (next b)) [
         | inl low ↦ inl (x.0, low)
-        | inr high ↦ inr (record { block = c; there = inl refl; free = a.0; part = (let y = x.1 in let z = s.0 in omega arith) })
+        | inr high ↦ inr (record {
+          block = c;
+          there = inl refl;
+          free = a.0;
+          part = (let y = x.1 in let z = s.0 in
+              omega arith);
+        })
       ]
       | inr x ↦ inr (record { block = x.block; there = inr x.there; free = x.free; part = x.part })
     ]

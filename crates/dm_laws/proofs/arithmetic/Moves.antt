@@ -13,7 +13,8 @@ use Rattle.dm_laws.specs.arithmetic.Shifts.{Shiftable, ShiftsAddUp, turned, with
 abbrev pub start : Shiftable → Shifted
 start x = record { value = x.value; carry = x.flags.carry }
 
-pub moves-add : (op : ShiftOperation) (w : Width) (a b : ℕ) (m : Shifted) → moves op w (a + b) m ≡ moves op w b (moves op w a m)
+pub moves-add : (op : ShiftOperation) (w : Width) (a b : ℕ) (m : Shifted) →
+    moves op w (a + b) m ≡ moves op w b (moves op w a m)
 unfolding moves
 moves-add op w a zero m = ap (λ k. moves op w k m) (omega arith)
 moves-add op w a (suc b) m =
@@ -24,15 +25,20 @@ pub moves-zero : (op : ShiftOperation) (w : Width) (m : Shifted) → moves op w 
 unfolding moves
 moves-zero op w m = refl
 
-pub moves-last : (op : ShiftOperation) (w : Width) (k : ℕ) (m : Shifted) → moves op w (suc k) m ≡ one_move op w (moves op w k m)
+pub moves-last : (op : ShiftOperation) (w : Width) (k : ℕ) (m : Shifted) →
+    moves op w (suc k) m ≡ one_move op w (moves op w k m)
 unfolding moves
 moves-last op w k m = refl
 
-pub moves-first : (op : ShiftOperation) (w : Width) (k : ℕ) (m : Shifted) → moves op w (suc k) m ≡ moves op w k (one_move op w m)
-moves-first op w zero m = moves-last op w 0 m ∙ ap (one_move op w) (moves-zero op w m) ∙ sym (moves-zero op w (one_move op w m))
-moves-first op w (suc k) m = moves-last op w (suc k) m ∙ ap (one_move op w) (moves-first op w k m) ∙ sym (moves-last op w k (one_move op w m))
+pub moves-first : (op : ShiftOperation) (w : Width) (k : ℕ) (m : Shifted) →
+    moves op w (suc k) m ≡ moves op w k (one_move op w m)
+moves-first op w zero m = moves-last op w 0 m ∙ ap (one_move op w) (moves-zero op w m)
+    ∙ sym (moves-zero op w (one_move op w m))
+moves-first op w (suc k) m = moves-last op w (suc k) m ∙ ap (one_move op w) (moves-first op w k m)
+    ∙ sym (moves-last op w k (one_move op w m))
 
-pub value-is : (op : ShiftOperation) (w : Width) (count : ℕ) (x : Shiftable) → (turned op w count x).value ≡ (moves op w count (start x)).value
+pub value-is : (op : ShiftOperation) (w : Width) (count : ℕ) (x : Shiftable) →
+    (turned op w count x).value ≡ (moves op w count (start x)).value
 unfolding shift_value
 value-is op w count x = refl
 
@@ -48,26 +54,38 @@ not-zero k = grind (arith, nat_tests)
 abbrev pub moved_flags : ShiftOperation → Width → Shifted → Flags → Flags
 moved_flags op w m f = record (flags_of_move op w m.value f) { carry = m.carry; overflow = false }
 
-some-flags : (op : ShiftOperation) (w : Width) (m : Shifted) (f : Flags) (o : Bool) (t : Bool) → t ≡ false → record (if t then f else record (flags_of_move op w m.value f) { carry = m.carry; overflow = o }) { overflow = false } ≡ moved_flags op w m f
+some-flags : (op : ShiftOperation) (w : Width) (m : Shifted) (f : Flags) (o : Bool) (t : Bool) → t ≡ false →
+    record (if t then f else record (flags_of_move op w m.value f) { carry = m.carry; overflow = o })
+    { overflow = false } ≡ moved_flags op w m f
 some-flags op w m f o true e = absurd (let z = e in cc)
 some-flags op w m f o false e = refl
 
-pub turned-some : (op : ShiftOperation) (w : Width) (k : ℕ) (x : Shiftable) → without_overflow (turned op w (suc k) x) ≡ record { value = (moves op w (suc k) (start x)).value; flags = moved_flags op w (moves op w (suc k) (start x)) x.flags }
+pub turned-some : (op : ShiftOperation) (w : Width) (k : ℕ) (x : Shiftable) → without_overflow (turned op w (suc k) x)
+    ≡ record {
+      value = (moves op w (suc k) (start x)).value;
+      flags = moved_flags op w (moves op w (suc k) (start x)) x.flags;
+    }
 unfolding shift_value flags_after_shift
 turned-some op w k x =
     ap (λ (f : Flags). record { value = (moves op w (suc k) (start x)).value; flags = f })
-    (some-flags op w (moves op w (suc k) (start x)) x.flags (if nat_eq (suc k) 1 then overflow_after_shift op w x.value (moves op w (suc k) (start x)) else x.flags.overflow) (nat_eq (suc k) 0) (not-zero k))
+    (some-flags op w (moves op w (suc k) (start x)) x.flags (if nat_eq (suc k) 1 then
+    overflow_after_shift op w x.value (moves op w (suc k) (start x)) else x.flags.overflow) (nat_eq (suc k) 0)
+    (not-zero k))
 
 -- the carry that a shift leaves
-pub carry-is : (op : ShiftOperation) (w : Width) (k : ℕ) (x : Shiftable) → (turned op w k x).flags.carry ≡ (moves op w k (start x)).carry
-carry-is op w zero x = ap (λ z. z.flags.carry) (turned-zero op w x) ∙ sym (ap (λ z. z.carry) (moves-zero op w (start x)))
+pub carry-is : (op : ShiftOperation) (w : Width) (k : ℕ) (x : Shiftable) → (turned op w k x).flags.carry
+    ≡ (moves op w k (start x)).carry
+carry-is op w zero x = ap (λ z. z.flags.carry) (turned-zero op w x)
+    ∙ sym (ap (λ z. z.carry) (moves-zero op w (start x)))
 carry-is op w (suc k) x = ap (λ z. z.flags.carry) (turned-some op w k x)
 
-pub start-is : (op : ShiftOperation) (w : Width) (k : ℕ) (x : Shiftable) → start (turned op w k x) ≡ moves op w k (start x)
+pub start-is : (op : ShiftOperation) (w : Width) (k : ℕ) (x : Shiftable) → start (turned op w k x)
+    ≡ moves op w k (start x)
 start-is op w k x = (λ i. record { value = value-is op w k x i; carry = carry-is op w k x i })
 
 -- the flags of the last shift hide those of the first
-hidden : (op : ShiftOperation) (w : Width) (m n : Shifted) (f : Flags) → moved_flags op w n (moved_flags op w m f) ≡ moved_flags op w n f
+hidden : (op : ShiftOperation) (w : Width) (m n : Shifted) (f : Flags) → moved_flags op w n (moved_flags op w m f)
+    ≡ moved_flags op w n f
 hidden RotateLeft w m n f = refl
 hidden RotateRight w m n f = refl
 hidden RotateThroughCarryLeft w m n f = refl
@@ -77,7 +95,8 @@ hidden LogicalRight w m n f = refl
 hidden ArithmeticRight w m n f = refl
 
 -- they do not look at the overflow flag before
-blind : (op : ShiftOperation) (w : Width) (n : Shifted) (f : Flags) → moved_flags op w n f ≡ moved_flags op w n (record f { overflow = false })
+blind : (op : ShiftOperation) (w : Width) (n : Shifted) (f : Flags) → moved_flags op w n f
+    ≡ moved_flags op w n (record f { overflow = false })
 blind RotateLeft w n f = refl
 blind RotateRight w n f = refl
 blind RotateThroughCarryLeft w n f = refl
@@ -92,13 +111,18 @@ add_up op w a zero x =
     ap (λ k. without_overflow (turned op w k x)) e ∙ ap without_overflow (sym (turned-zero op w (turned op w a x)))
 add_up op w zero (suc b) x =
     let e : 0 + suc b ≡ suc b = omega arith in
-    ap (λ k. without_overflow (turned op w k x)) e ∙ ap (λ z. without_overflow (turned op w (suc b) z)) (sym (turned-zero op w x))
+    ap (λ k. without_overflow (turned op w k x)) e ∙ ap (λ z. without_overflow (turned op w (suc b) z))
+    (sym (turned-zero op w x))
 add_up op w (suc a) (suc b) x =
     let e : suc a + suc b ≡ suc (suc a + b) = omega arith in
     let y = turned op w (suc a) x in
-    let same : moves op w (suc (suc a + b)) (start x) ≡ moves op w (suc b) (start y) = ap (λ k. moves op w k (start x)) (sym e) ∙ moves-add op w (suc a) (suc b) (start x) ∙ ap (moves op w (suc b)) (sym (start-is op w (suc a) x)) in
+    let same : moves op w (suc (suc a + b)) (start x) ≡ moves op w (suc b) (start y) =
+    ap (λ k. moves op w k (start x)) (sym e) ∙ moves-add op w (suc a) (suc b) (start x)
+    ∙ ap (moves op w (suc b)) (sym (start-is op w (suc a) x)) in
     let last : Shifted = moves op w (suc b) (start y) in
-    let flags : moved_flags op w last y.flags ≡ moved_flags op w last x.flags = blind op w last y.flags ∙ ap (λ z. moved_flags op w last z.flags) (turned-some op w a x) ∙ hidden op w (moves op w (suc a) (start x)) last x.flags in
+    let flags : moved_flags op w last y.flags ≡ moved_flags op w last x.flags = blind op w last y.flags
+    ∙ ap (λ z. moved_flags op w last z.flags) (turned-some op w a x)
+    ∙ hidden op w (moves op w (suc a) (start x)) last x.flags in
     ap (λ k. without_overflow (turned op w k x)) e ∙ turned-some op w (suc a + b) x
     ∙ ap (λ m. record { value = m.value; flags = moved_flags op w m x.flags }) same
     ∙ ap (λ (f : Flags). record { value = last.value; flags = f }) (sym flags)

@@ -49,8 +49,15 @@ not-at_least x y e = grind (arith, nat_tests)
 commuted : (a b : ℕ) → a * b ≡ b * a
 commuted a b = omega arith
 
-is_quotient : (w : Width) (n d : ℕ) → 0 < d → n / d < size w → IsQuotient w n d (record { quotient = n / d; remainder = n % d })
-is_quotient w n d p h = record { number = ap (λ z. z + n % d) (commuted (n / d) d) ∙ div-add-mod n d; less = mod-lt n p; fits = h }
+is_quotient : (w : Width) (n d : ℕ) → 0 < d → n / d < size w → IsQuotient w n d (record {
+  quotient = n / d;
+  remainder = n % d;
+})
+is_quotient w n d p h = record {
+  number = ap (λ z. z + n % d) (commuted (n / d) d) ∙ div-add-mod n d;
+  less = mod-lt n p;
+  fits = h;
+}
 
 -- the quotient is at least s, so the dividend is at least s times the divisor
 pub too_large : (s n d : ℕ) → s ≤ n / d → s * d ≤ n
@@ -59,21 +66,27 @@ too_large s n d h = grind (arith, div-add-mod n d)
 pub unsigned_divides : UnsignedDivisionDivides
 unfolding quotient_of
 unsigned_divides w n d = record {
-  divided = λ r e. (let x = if-some (nat_eq d 0 || nat_le (size w) (n / d)) (record { quotient = n / d; remainder = n % d }) r e in
+  divided = λ r e. (let x = if-some (nat_eq d 0 || nat_le (size w) (n / d)) (record {
+    quotient = n / d;
+    remainder = n % d;
+  }) r e in
       let y = neither (nat_eq d 0) (nat_le (size w) (n / d)) x.0 in
       let F : Division → Type 0 = λ z. IsQuotient w n d z in
       subst F x.1 (is_quotient w n d (positive d y.0) (below _ _ y.1)));
-  refused = λ e. (elim (either (nat_eq d 0) (nat_le (size w) (n / d)) (if-none (nat_eq d 0 || nat_le (size w) (n / d)) (record { quotient = n / d; remainder = n % d }) e)) [
-    | inl z ↦ inl (is_zero d z)
-    | inr l ↦ inr (too_large (size w) n d (at_least _ _ l))
-  ]);
+  refused = λ e. (elim (either (nat_eq d 0) (nat_le (size w) (n / d)) (if-none (nat_eq d 0 ||
+      nat_le (size w) (n / d)) (record { quotient = n / d; remainder = n % d }) e)) [
+        | inl z ↦ inl (is_zero d z)
+        | inr l ↦ inr (too_large (size w) n d (at_least _ _ l))
+      ]);
 }
 
 -- a quotient that fits is given
-pub given : (w : Width) (n d q r : ℕ) → n / d ≡ q → n % d ≡ r → d ≢ 0 → q < size w → quotient_of Unsigned w n d ≡ Some (record { quotient = q; remainder = r })
+pub given : (w : Width) (n d q r : ℕ) → n / d ≡ q → n % d ≡ r → d ≢ 0 → q < size w →
+    quotient_of Unsigned w n d ≡ Some (record { quotient = q; remainder = r })
 unfolding quotient_of
 given w n d q r e f nonzero h =
-    ap₂ (λ s t. if s || t then None else Some (record { quotient = n / d; remainder = n % d })) (not-zero d nonzero) (not-at_least (size w) (n / d) (omega arith))
+    ap₂ (λ s t. if s || t then None else Some (record { quotient = n / d; remainder = n % d })) (not-zero d nonzero)
+    (not-at_least (size w) (n / d) (omega arith))
     ∙ ap₂ (λ (s : ℕ) (t : ℕ). Some (record { quotient = s; remainder = t })) e f
 
 pub above_zero : (d : ℕ) → d ≢ 0 → 0 < d
@@ -83,4 +96,5 @@ pub undone : DivisionUndoesMultiplication
 unfolding product_value
 undone w a d h nonzero =
     let z : a * d ≡ a * d + 0 = omega arith in
-    given w (a * d) d a 0 (ap (λ x. x / d) z ∙ div-mul-add a d 0 (above_zero d nonzero)) (ap (λ x. x % d) z ∙ mod-mul-add a d 0 (above_zero d nonzero)) nonzero h
+    given w (a * d) d a 0 (ap (λ x. x / d) z ∙ div-mul-add a d 0 (above_zero d nonzero)) (ap (λ x. x % d) z
+    ∙ mod-mul-add a d 0 (above_zero d nonzero)) nonzero h

@@ -25,9 +25,11 @@ at_top x y h = grind (arith, nat_tests)
 
 high-sgn : (limit top n k : ℕ) → top ≤ n → suc k + n ≡ limit → sgn limit top n ≡ negsuc k
 unfolding sgn
-high-sgn limit top n k h e = ap (λ (t : Bool). if t then pos n -ℤ pos limit else pos n) (at_top top n h) ∙ omega (arith, ints)
+high-sgn limit top n k h e = ap (λ (t : Bool). if t then pos n -ℤ pos limit else pos n) (at_top top n h)
+    ∙ omega (arith, ints)
 
-sgn-twos : (limit top : ℕ) (z : ℤ) → top + top ≡ limit → unsigned_abs z < top → sgn limit top (twos_complement limit z) ≡ z
+sgn-twos : (limit top : ℕ) (z : ℤ) → top + top ≡ limit → unsigned_abs z < top → sgn limit top (twos_complement limit z)
+    ≡ z
 sgn-twos limit top (pos n) e h = low-sgn limit top n h
 sgn-twos limit top (negsuc k) e h = high-sgn limit top (limit - suc k) k (omega arith) (omega arith)
 
@@ -79,10 +81,12 @@ signed-back : (w : Width) (z : ℤ) → unsigned_abs z < half w → signed w (tw
 signed-back w z h = signed-is w _ ∙ sgn-twos (size w) (half w) z (twice w) h
 
 pub divisor-small : (w : Width) (d : ℕ) → d < size w → unsigned_abs (signed w d) ≤ half w
-divisor-small w d h = subst (λ z. unsigned_abs z ≤ half w) (sym (signed-is w d)) (sgn-small (size w) (half w) d (twice w) h)
+divisor-small w d h = subst (λ z. unsigned_abs z ≤ half w) (sym (signed-is w d)) (sgn-small (size w) (half w) d
+    (twice w) h)
 
 pub divisor-positive : (w : Width) (d : ℕ) → d < size w → d ≢ 0 → 0 < unsigned_abs (signed w d)
-divisor-positive w d h ne = subst (λ z. 0 < unsigned_abs z) (sym (signed-is w d)) (sgn-positive (size w) (half w) d (twice w) h ne)
+divisor-positive w d h ne = subst (λ z. 0 < unsigned_abs z) (sym (signed-is w d)) (sgn-positive (size w) (half w) d
+    (twice w) h ne)
 
 zero-mod : (m : ℕ) → 0 % m ≡ 0
 zero-mod m = omega arith
@@ -114,11 +118,16 @@ module _ (w : Width) (n d : ℕ) (h : d < size w) where
   abbrev none : Option Division
   none = None
 
-  is_signed : (q r : ℤ) → q ≡ int_div (signed_double w n) (signed w d) → r ≡ int_rem (signed_double w n) (signed w d) → d ≢ 0 → unsigned_abs q < half w → IsSignedQuotient w n d (record { quotient = twos_complement (size w) q; remainder = twos_complement (size w) r })
+  is_signed : (q r : ℤ) → q ≡ int_div (signed_double w n) (signed w d) → r ≡ int_rem (signed_double w n) (signed w d) →
+      d ≢ 0 → unsigned_abs q < half w → IsSignedQuotient w n d (record {
+        quotient = twos_complement (size w) q;
+        remainder = twos_complement (size w) r;
+      })
   is_signed q r e f ne k =
       let p = rem_below (signed_double w n) (signed w d) (divisor-positive w d h ne) in
       let s = divisor-small w d h in
-      let u : unsigned_abs r < unsigned_abs (signed w d) = subst (λ z. unsigned_abs z < unsigned_abs (signed w d)) (sym f) p in
+      let u : unsigned_abs r < unsigned_abs (signed w d) = subst (λ z. unsigned_abs z < unsigned_abs (signed w d))
+      (sym f) p in
       let qb : signed w (twos_complement (size w) q) ≡ q = signed-back w q k in
       let rb : signed w (twos_complement (size w) r) ≡ r = signed-back w r (omega arith) in
       record {
@@ -129,16 +138,26 @@ module _ (w : Width) (n d : ℕ) (h : d < size w) where
         fits = subst (λ z. unsigned_abs z < half w) (sym qb) k;
       }
 
-  divides : (Q R : ℤ) → Q ≡ int_div (signed_double w n) (signed w d) → R ≡ int_rem (signed_double w n) (signed w d) → (t u : Bool) → nat_eq d 0 ≡ t → nat_le (half w) (unsigned_abs Q) ≡ u →
-      ((r : Division) → (if t then None else (if u then None else Some (record { quotient = twos_complement (size w) Q; remainder = twos_complement (size w) R }))) ≡ Some r → IsSignedQuotient w n d r)
-      × ((if t then None else (if u then None else Some (record { quotient = twos_complement (size w) Q; remainder = twos_complement (size w) R }))) ≡ none → (d ≡ 0) ⊎ (half w * unsigned_abs (signed w d) ≤ unsigned_abs (signed_double w n)))
+  divides : (Q R : ℤ) → Q ≡ int_div (signed_double w n) (signed w d) → R ≡ int_rem (signed_double w n) (signed w d) →
+      (t u : Bool) → nat_eq d 0 ≡ t → nat_le (half w) (unsigned_abs Q) ≡ u →
+      ((r : Division) → (if t then None else (if u then None else Some (record {
+        quotient = twos_complement (size w) Q;
+        remainder = twos_complement (size w) R;
+      }))) ≡ Some r → IsSignedQuotient w n d r)
+      × ((if t then None else (if u then None else Some (record {
+        quotient = twos_complement (size w) Q;
+        remainder = twos_complement (size w) R;
+      }))) ≡ none → (d ≡ 0) ⊎
+      (half w * unsigned_abs (signed w d) ≤ unsigned_abs (signed_double w n)))
   divides Q R e f true u z y = (λ r x. absurd (let v = x in cc), λ x. inl (is_zero d z))
   divides Q R e f false true z y = (
     λ r x. absurd (let v = x in cc),
-    λ x. inr (too_large (half w) (unsigned_abs (signed_double w n)) (unsigned_abs (signed w d)) (let v = at_least _ _ y in let a = ap unsigned_abs e ∙ abs-div (signed_double w n) (signed w d) in omega arith)),
+    λ x. inr (too_large (half w) (unsigned_abs (signed_double w n)) (unsigned_abs (signed w d)) (let v =
+        at_least _ _ y in let a = ap unsigned_abs e ∙ abs-div (signed_double w n) (signed w d) in omega arith)),
   )
   divides Q R e f false false z y = (
-    λ r x. (let F : Division → Type 0 = λ v. IsSignedQuotient w n d v in let v = if-some false (record { quotient = twos_complement (size w) Q; remainder = twos_complement (size w) R }) r x in
+    λ r x. (let F : Division → Type 0 = λ v. IsSignedQuotient w n d v in let v =
+        if-some false (record { quotient = twos_complement (size w) Q; remainder = twos_complement (size w) R }) r x in
         subst F v.1 (is_signed Q R e f (let g = positive d z in omega arith) (below _ _ y))),
     λ x. absurd (let v = x in cc),
   )
@@ -182,19 +201,26 @@ square : (w : Width) → half w * half w < half w * size w
 square Byte = omega arith
 square Word = omega arith
 
-pub product-small : (w : Width) (a d : ℕ) → a < size w → d < size w → unsigned_abs (signed w a *ℤ signed w d) < half w * size w
+pub product-small : (w : Width) (a d : ℕ) → a < size w → d < size w → unsigned_abs (signed w a *ℤ signed w d)
+    < half w * size w
 product-small w a d h k =
     let x = unsigned_abs-mul (signed w a) (signed w d) in
     let y = mul-le-mul (divisor-small w a h) (divisor-small w d k) in
     let z = square w in
     omega arith
 
-signed-value : (w : Width) (a : ℕ) → a < size w → a ≢ half w → signed_division w (signed w a) (pos 0) ≡ Some (record { quotient = a; remainder = 0 })
+signed-value : (w : Width) (a : ℕ) → a < size w → a ≢ half w → signed_division w (signed w a) (pos 0)
+    ≡ Some (record { quotient = a; remainder = 0 })
 unfolding signed_division
 signed-value w a h m =
-    let small : unsigned_abs (signed w a) < half w = subst (λ z. unsigned_abs z < half w) (sym (signed-is w a)) (sgn-smaller (size w) (half w) a (twice w) h m) in
-    let back : twos_complement (size w) (signed w a) ≡ a = ap (twos_complement (size w)) (signed-is w a) ∙ twos-sgn (size w) (half w) a (twice w) h in
-    ap (λ (t : Bool). if t then None else Some (record { quotient = twos_complement (size w) (signed w a); remainder = 0 })) (not-at_least (half w) (unsigned_abs (signed w a)) small)
+    let small : unsigned_abs (signed w a) < half w = subst (λ z. unsigned_abs z < half w) (sym (signed-is w a))
+    (sgn-smaller (size w) (half w) a (twice w) h m) in
+    let back : twos_complement (size w) (signed w a) ≡ a = ap (twos_complement (size w)) (signed-is w a)
+    ∙ twos-sgn (size w) (half w) a (twice w) h in
+    ap (λ (t : Bool). if t then None else Some (record {
+      quotient = twos_complement (size w) (signed w a);
+      remainder = 0;
+    })) (not-at_least (half w) (unsigned_abs (signed w a)) small)
     ∙ ap (λ (q : ℕ). Some (record { quotient = q; remainder = 0 })) back
 
 pub signed_undone : SignedDivisionUndoesMultiplication
@@ -203,7 +229,9 @@ signed_undone w a d h k m nonzero =
     let x = signed w a in
     let y = signed w d in
     let p : ℕ = twos_complement (size w * size w) (x *ℤ y) in
-    let is : signed_double w p ≡ x *ℤ y = double-is w p ∙ sgn-twos (size w * size w) (half w * size w) (x *ℤ y) (twice_double w) (product-small w a d h k) in
+    let is : signed_double w p ≡ x *ℤ y = double-is w p ∙ sgn-twos (size w * size w) (half w * size w) (x *ℤ y)
+    (twice_double w) (product-small w a d h k) in
     let yp = divisor-positive w d k nonzero in
-    ap₂ (λ (t : Bool) (z : ℤ). if t then None else signed_division w (int_div z y) (int_rem z y)) (not-zero d nonzero) is
+    ap₂ (λ (t : Bool) (z : ℤ). if t then None else signed_division w (int_div z y) (int_rem z y))
+    (not-zero d nonzero) is
     ∙ ap₂ (signed_division w) (div-back x y yp) (rem-back x y yp) ∙ signed-value w a h m

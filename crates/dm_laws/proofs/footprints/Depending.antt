@@ -27,17 +27,22 @@ use Rattle.dm_laws.proofs.footprints.Effects.{operation_effect_done}
 -- ---- where an instruction reads and writes
 
 module _ (c : Cpu) (m n : Memory) (p : Prefixes) where
-  same_reads : (x : Access) (a b : Operand) → All (Same m n) (bytes_of (reads_by (guest c m) p x a b)) → reads_by (guest c n) p x a b ≡ reads_by (guest c m) p x a b
+  same_reads : (x : Access) (a b : Operand) → All (Same m n) (bytes_of (reads_by (guest c m) p x a b)) →
+      reads_by (guest c n) p x a b ≡ reads_by (guest c m) p x a b
   unfolding reads_by
-  same_reads (Divide sign) a b r = ap (λ (d : Option Division). reads_dividing (element_of c p.segment a) d) (same_quotient c m n p.segment sign a r)
+  same_reads (Divide sign) a b r = ap (λ (d : Option Division). reads_dividing (element_of c p.segment a) d)
+      (same_quotient c m n p.segment sign a r)
   same_reads Interrupt a b r =
       let e = element_of c p.segment a in
-      ap (λ (v : ℕ). operand_and_vector e (v % 256)) (same_value c m n p.segment a (in_first (Same m n) (operand_and_vector e (value_of (guest c m) p.segment a % 256)) r))
+      ap (λ (v : ℕ). operand_and_vector e (v % 256)) (same_value c m n p.segment a
+      (in_first (Same m n) (operand_and_vector e (value_of (guest c m) p.segment a % 256)) r))
   same_reads _ a b r = refl
 
-  same_writes : (x : Access) (a b : Operand) → All (Same m n) (bytes_of (reads_by (guest c m) p x a b)) → writes_by (guest c n) p x a b ≡ writes_by (guest c m) p x a b
+  same_writes : (x : Access) (a b : Operand) → All (Same m n) (bytes_of (reads_by (guest c m) p x a b)) →
+      writes_by (guest c n) p x a b ≡ writes_by (guest c m) p x a b
   unfolding reads_by writes_by
-  same_writes (Divide sign) a b r = ap (λ (d : Option Division). writes_dividing c d) (same_quotient c m n p.segment sign a r)
+  same_writes (Divide sign) a b r = ap (λ (d : Option Division). writes_dividing c d)
+      (same_quotient c m n p.segment sign a r)
   same_writes Exchange a b r =
       let e = two_elements (element_of c p.segment a) (element_of c p.segment b) in
       let second = same_value c m n p.segment b (in_second (Same m n) e r) in
@@ -54,7 +59,8 @@ effects_depend g h i length a =
     let m : Memory = g.memory in
     let n : Memory = h.memory in
     let x = access_of i.action.mnemonic in
-    let d = operation_effect_done c m n i.prefixes g.cpu.ip i.action.mnemonic i.action.first i.action.second (record { word = a.word; map = a.map; target = has_target i; bytes = a.bytes }) in
+    let d = operation_effect_done c m n i.prefixes g.cpu.ip i.action.mnemonic i.action.first i.action.second
+    (record { word = a.word; map = a.map; target = has_target i; bytes = a.bytes }) in
     let F : Cpu → Type 0 = λ k. DoesTheSame g (guest k n) i length in
     subst F (sym a.registers) (record {
       same_reads = same_reads c m n i.prefixes x i.action.first i.action.second a.bytes;
@@ -66,7 +72,9 @@ effects_depend g h i length a =
       in_h = d.in_n;
     })
 
-after_stores : (g h : Guest) (i : Ins) (length : ℕ) (f : FarAddress) (d : DoesTheSame g h i length) → seen (stored h.memory d.stores) f ≡ seen (stored g.memory d.stores) f → seen (effect h i length).memory f ≡ seen (effect g i length).memory f
+after_stores : (g h : Guest) (i : Ins) (length : ℕ) (f : FarAddress) (d : DoesTheSame g h i length) →
+    seen (stored h.memory d.stores) f ≡ seen (stored g.memory d.stores) f → seen (effect h i length).memory f
+    ≡ seen (effect g i length).memory f
 after_stores g h i length f d e = ap (λ (x : Memory). seen x f) d.in_h ∙ e ∙ sym (ap (λ (x : Memory). seen x f) d.in_g)
 
 pub agreement_kept : AgreementIsKept

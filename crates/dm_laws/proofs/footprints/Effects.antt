@@ -39,8 +39,11 @@ pub record IsMet (c : Cpu) (m n : Memory) (p : Prefixes) (k : Mnemonic) (a b : O
   pub bytes : All (Same m n) (bytes_of (reads_by (guest c m) p (access_of k) a b))
 
 module _ (c : Cpu) (m n : Memory) (p : Prefixes) (start : ℕ) where
-  pub operation_effect_done : (k : Mnemonic) (a b : Operand) → IsMet c m n p k a b → Done m n (operation_effect (guest c m) p start (operation_of k) a b) (operation_effect (guest c n) p start (operation_of k) a b) (bytes_of (writes_by (guest c m) p (access_of k) a b))
-  unfolding operation_of access_of reads_by writes_by move_effect stack_effect interrupt_effect arithmetic jumped_if looped transferred
+  pub operation_effect_done : (k : Mnemonic) (a b : Operand) → IsMet c m n p k a b →
+      Done m n (operation_effect (guest c m) p start (operation_of k) a b) (operation_effect (guest c n) p start
+      (operation_of k) a b) (bytes_of (writes_by (guest c m) p (access_of k) a b))
+  unfolding operation_of access_of reads_by writes_by move_effect stack_effect interrupt_effect arithmetic jumped_if
+      looped transferred
   -- moves
   operation_effect_done op.Mov a b h = done_move c m n p.segment a b h.bytes
   operation_effect_done op.Lea a b h = done_address c m n p.segment a b
@@ -103,7 +106,8 @@ module _ (c : Cpu) (m n : Memory) (p : Prefixes) (start : ℕ) where
   operation_effect_done op.Loopne a b h = done_jump_where _ m n p.segment _ a h.target
   operation_effect_done op.Jcxz a b h = done_jump_where _ m n p.segment _ a h.target
   -- transfers
-  operation_effect_done op.Jmp a b h = done_jump c m n p.segment a (in_first (Same m n) (one_element (element_of c p.segment a)) h.bytes)
+  operation_effect_done op.Jmp a b h = done_jump c m n p.segment a (in_first (Same m n)
+      (one_element (element_of c p.segment a)) h.bytes)
   operation_effect_done op.JmpShort a b h = done_jump c m n p.segment a (reads_none c m n p.segment a h.target)
   operation_effect_done op.JmpFar a b h = done_far_jump c m n p.segment a h.bytes
   operation_effect_done op.Call a b h = done_call c m n p.segment a h.bytes

@@ -12,7 +12,8 @@ use Rattle.dm_laws.proofs.footprints.Depending.{effects_depend}
 use Rattle.dm_laws.proofs.footprints.Running.{same_instruction}
 
 -- a step by the instruction at CS:IP
-instructed_step : (t : State) (i : Ins) (length : ℕ) → entry_point_at t.cpu.cs t.cpu.ip ≡ None → t.exited ≡ None → BeginsWith (fetched t.memory t.cpu) i length → MakesStep t (instructed t i length)
+instructed_step : (t : State) (i : Ins) (length : ℕ) → entry_point_at t.cpu.cs t.cpu.ip ≡ None → t.exited ≡ None →
+    BeginsWith (fetched t.memory t.cpu) i length → MakesStep t (instructed t i length)
 unfolding MakesStep
 instructed_step t i length e x b =
     let F : Option EntryPoint → Type 0 = λ o. Acts t o (instructed t i length) in

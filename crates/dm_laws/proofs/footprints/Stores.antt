@@ -44,32 +44,49 @@ pub done_registers : (m n : Memory) (c d : Cpu) → d ≡ c → Done m n (guest 
 done_registers m n c d e = record { registers = e; stores = []; addresses = refl; in_m = refl; in_n = refl }
 
 pub done_as : (m n : Memory) (a b : Guest) (fs gs : List FarAddress) → fs ≡ gs → Done m n a b fs → Done m n a b gs
-done_as m n a b fs gs e d = record { registers = d.registers; stores = d.stores; addresses = d.addresses ∙ e; in_m = d.in_m; in_n = d.in_n }
+done_as m n a b fs gs e d = record {
+  registers = d.registers;
+  stores = d.stores;
+  addresses = d.addresses ∙ e;
+  in_m = d.in_m;
+  in_n = d.in_n;
+}
 
 -- other registers, the same in both
-pub done_with : (m n : Memory) (a b : Guest) (fs : List FarAddress) (c d : Cpu) → d ≡ c → Done m n a b fs → Done m n (guest c a.memory) (guest d b.memory) fs
-done_with m n a b fs c d e k = record { registers = e; stores = k.stores; addresses = k.addresses; in_m = k.in_m; in_n = k.in_n }
+pub done_with : (m n : Memory) (a b : Guest) (fs : List FarAddress) (c d : Cpu) → d ≡ c → Done m n a b fs →
+    Done m n (guest c a.memory) (guest d b.memory) fs
+done_with m n a b fs c d e k = record {
+  registers = e;
+  stores = k.stores;
+  addresses = k.addresses;
+  in_m = k.in_m;
+  in_n = k.in_n;
+}
 
 pub stored_append : (ss ts : List StoredByte) (m : Memory) → stored (stored m ss) ts ≡ stored m (ss ++ ts)
 stored_append [] ts m = refl
 stored_append (s ∷ ss) ts m = stored_append ss ts _
 
 -- one after the other
-pub done_then : (m n : Memory) (a b c d : Guest) (fs gs : List FarAddress) → Done m n a b fs → Done a.memory b.memory c d gs → Done m n c d (fs ++ gs)
+pub done_then : (m n : Memory) (a b c d : Guest) (fs gs : List FarAddress) → Done m n a b fs →
+    Done a.memory b.memory c d gs → Done m n c d (fs ++ gs)
 done_then m n a b c d fs gs k l =
     let address : StoredByte → FarAddress = λ s. s.address in
     record {
       registers = l.registers;
       stores = k.stores ++ l.stores;
-      addresses = map-append address k.stores l.stores ∙ ap₂ (λ (x y : List FarAddress). x ++ y) k.addresses l.addresses;
+      addresses = map-append address k.stores l.stores ∙ ap₂ (λ (x y : List FarAddress). x
+          ++ y) k.addresses l.addresses;
       in_m = l.in_m ∙ ap (λ (x : Memory). stored x l.stores) k.in_m ∙ stored_append k.stores l.stores m;
       in_n = l.in_n ∙ ap (λ (x : Memory). stored x l.stores) k.in_n ∙ stored_append k.stores l.stores n;
     }
 
-pub done_one : (m n : Memory) (a b : Guest) (e : Option Element) → Done m n a b (bytes_if e) → Done m n a b (bytes_of (one_element e))
+pub done_one : (m n : Memory) (a b : Guest) (e : Option Element) → Done m n a b (bytes_if e) →
+    Done m n a b (bytes_of (one_element e))
 done_one m n a b e d = done_as m n a b _ _ (sym (append-nil (bytes_if e ++ []) ∙ append-nil (bytes_if e))) d
 
-pub done_two : (m n : Memory) (a b : Guest) (e f : Option Element) → Done m n a b (bytes_if e ++ bytes_if f) → Done m n a b (bytes_of (two_elements e f))
+pub done_two : (m n : Memory) (a b : Guest) (e f : Option Element) → Done m n a b (bytes_if e ++ bytes_if f) →
+    Done m n a b (bytes_of (two_elements e f))
 done_two m n a b e f d = done_as m n a b _ _ (sym (append-nil (bytes_if e ++ bytes_if f))) d
 
 -- ---- elements
@@ -100,21 +117,27 @@ word_stored m s o v =
 
 -- ---- operands
 
-operand_stored : (c : Cpu) (m : Memory) (override : Option SegmentRegister) (o : Operand) (v : ℕ) → (with_operand (guest c m) override o v).memory ≡ stored m (stores_if (element_of c override o) v)
+operand_stored : (c : Cpu) (m : Memory) (override : Option SegmentRegister) (o : Operand) (v : ℕ) →
+    (with_operand (guest c m) override o v).memory ≡ stored m (stores_if (element_of c override o) v)
 unfolding with_operand element_of
 operand_stored c m override (operand.Memory memory.Byte a) v = refl
-operand_stored c m override (operand.Memory memory.Word a) v = word_stored m (segment_for c override a) (offset_of c a) v
+operand_stored c m override (operand.Memory memory.Word a) v =
+    word_stored m (segment_for c override a) (offset_of c a) v
 operand_stored c m override _ v = refl
 
-operand_registers : (c : Cpu) (m n : Memory) (override : Option SegmentRegister) (o : Operand) (v : ℕ) → (with_operand (guest c n) override o v).cpu ≡ (with_operand (guest c m) override o v).cpu
+operand_registers : (c : Cpu) (m n : Memory) (override : Option SegmentRegister) (o : Operand) (v : ℕ) →
+    (with_operand (guest c n) override o v).cpu ≡ (with_operand (guest c m) override o v).cpu
 unfolding with_operand
 operand_registers c m n override (operand.Memory memory.Byte a) v = refl
 operand_registers c m n override (operand.Memory memory.Word a) v = refl
 operand_registers c m n override _ v = refl
 
-pub done_operand : (c : Cpu) (m n : Memory) (override : Option SegmentRegister) (o : Operand) (v w : ℕ) → w ≡ v → Done m n (with_operand (guest c m) override o v) (with_operand (guest c n) override o w) (bytes_if (element_of c override o))
+pub done_operand : (c : Cpu) (m n : Memory) (override : Option SegmentRegister) (o : Operand) (v w : ℕ) → w ≡ v →
+    Done m n (with_operand (guest c m) override o v) (with_operand (guest c n) override o w)
+    (bytes_if (element_of c override o))
 done_operand c m n override o v w e =
-    subst (λ (x : ℕ). Done m n (with_operand (guest c m) override o v) (with_operand (guest c n) override o x) (bytes_if (element_of c override o))) (sym e) (record {
+    subst (λ (x : ℕ). Done m n (with_operand (guest c m) override o v) (with_operand (guest c n) override o x)
+    (bytes_if (element_of c override o))) (sym e) (record {
       registers = operand_registers c m n override o v;
       stores = stores_if (element_of c override o) v;
       addresses = addresses_if (element_of c override o) v;
@@ -123,9 +146,13 @@ done_operand c m n override o v w e =
     })
 
 -- an operand of two guests with the same registers
-pub done_from : (a b : Guest) (override : Option SegmentRegister) (o : Operand) (v w : ℕ) → b.cpu ≡ a.cpu → w ≡ v → Done a.memory b.memory (with_operand a override o v) (with_operand b override o w) (bytes_if (element_of a.cpu override o))
+pub done_from : (a b : Guest) (override : Option SegmentRegister) (o : Operand) (v w : ℕ) → b.cpu ≡ a.cpu → w ≡ v →
+    Done a.memory b.memory (with_operand a override o v) (with_operand b override o w)
+    (bytes_if (element_of a.cpu override o))
 done_from a b override o v w e k =
-    subst (λ (d : Cpu). Done a.memory b.memory (with_operand a override o v) (with_operand (guest d b.memory) override o w) (bytes_if (element_of a.cpu override o))) (sym e) (done_operand a.cpu a.memory b.memory override o v w k)
+    subst (λ (d : Cpu). Done a.memory b.memory (with_operand a override o v)
+    (with_operand (guest d b.memory) override o w) (bytes_if (element_of a.cpu override o))) (sym e)
+    (done_operand a.cpu a.memory b.memory override o v w k)
 
 -- ---- operands when flags or SP have changed, by which none is addressed
 
@@ -142,30 +169,43 @@ unfolding segment_of
 changed_register c sp f in_segment.Es = refl
 changed_register c sp f _ = refl
 
-changed_segment : (c : Cpu) (sp : ℕ) (f : Flags) (override : Option SegmentRegister) (a : Address) → segment_for (changed c sp f) override a ≡ segment_for c override a
+changed_segment : (c : Cpu) (sp : ℕ) (f : Flags) (override : Option SegmentRegister) (a : Address) →
+    segment_for (changed c sp f) override a ≡ segment_for c override a
 changed_segment c sp f None a = changed_register c sp f (own_segment a.base)
 changed_segment c sp f (Some r) a = changed_register c sp f r
 
-changed_element : (c : Cpu) (sp : ℕ) (f : Flags) (override : Option SegmentRegister) (o : Operand) → element_of (changed c sp f) override o ≡ element_of c override o
+changed_element : (c : Cpu) (sp : ℕ) (f : Flags) (override : Option SegmentRegister) (o : Operand) →
+    element_of (changed c sp f) override o ≡ element_of c override o
 unfolding element_of
-changed_element c sp f override (operand.Memory memory.Byte a) = ap₂ (λ (s b : ℕ). Some (element.Byte s (up b a.displacement))) (changed_segment c sp f override a) (changed_base c sp f a.base)
-changed_element c sp f override (operand.Memory memory.Word a) = ap₂ (λ (s b : ℕ). Some (element.Word s (up b a.displacement))) (changed_segment c sp f override a) (changed_base c sp f a.base)
+changed_element c sp f override (operand.Memory memory.Byte a) =
+    ap₂ (λ (s b : ℕ). Some (element.Byte s (up b a.displacement))) (changed_segment c sp f override a)
+    (changed_base c sp f a.base)
+changed_element c sp f override (operand.Memory memory.Word a) =
+    ap₂ (λ (s b : ℕ). Some (element.Word s (up b a.displacement))) (changed_segment c sp f override a)
+    (changed_base c sp f a.base)
 changed_element c sp f override _ = refl
 
 -- an operand that takes a value when SP and the flags have changed
-pub done_changed : (c : Cpu) (m n : Memory) (override : Option SegmentRegister) (o : Operand) (sp : ℕ) (f g : Flags) (v w : ℕ) → w ≡ v → g ≡ f → Done m n (with_operand (guest (changed c sp f) m) override o v) (with_operand (guest (changed c sp g) n) override o w) (bytes_of (one_element (element_of c override o)))
+pub done_changed : (c : Cpu) (m n : Memory) (override : Option SegmentRegister) (o : Operand) (sp : ℕ) (f g : Flags)
+    (v w : ℕ) → w ≡ v → g ≡ f → Done m n (with_operand (guest (changed c sp f) m) override o v)
+    (with_operand (guest (changed c sp g) n) override o w) (bytes_of (one_element (element_of c override o)))
 done_changed c m n override o sp f g v w e k =
     let a : Guest = with_operand (guest (changed c sp f) m) override o v in
-    let F : Flags → Type 0 = λ x. Done m n a (with_operand (guest (changed c sp x) n) override o w) (bytes_of (one_element (element_of c override o))) in
-    subst F (sym k) (done_one m n a _ (element_of c override o) (done_as m n a _ _ _ (ap bytes_if (changed_element c sp f override o)) (done_operand (changed c sp f) m n override o v w e)))
+    let F : Flags → Type 0 = λ x. Done m n a (with_operand (guest (changed c sp x) n) override o w)
+    (bytes_of (one_element (element_of c override o))) in
+    subst F (sym k) (done_one m n a _ (element_of c override o) (done_as m n a _ _ _
+    (ap bytes_if (changed_element c sp f override o)) (done_operand (changed c sp f) m n override o v w e)))
 
 -- a result and its flags
-pub done_result : (c : Cpu) (m n : Memory) (override : Option SegmentRegister) (o : Operand) (v w : ℕ) (f g : Flags) → w ≡ v → g ≡ f → Done m n (with_result (guest c m) override o v f) (with_result (guest c n) override o w g) (bytes_of (one_element (element_of c override o)))
+pub done_result : (c : Cpu) (m n : Memory) (override : Option SegmentRegister) (o : Operand) (v w : ℕ) (f g : Flags) →
+    w ≡ v → g ≡ f → Done m n (with_result (guest c m) override o v f) (with_result (guest c n) override o w g)
+    (bytes_of (one_element (element_of c override o)))
 done_result c m n override o v w f g e k = done_changed c m n override o c.sp f g v w e k
 
 -- ---- the stack, and strings
 
-pub done_push : (c : Cpu) (m n : Memory) (v w : ℕ) → w ≡ v → Done m n (push (guest c m) v) (push (guest c n) w) (bytes_if (pushed c))
+pub done_push : (c : Cpu) (m n : Memory) (v w : ℕ) → w ≡ v → Done m n (push (guest c m) v) (push (guest c n) w)
+    (bytes_if (pushed c))
 unfolding push
 done_push c m n v w e =
     subst (λ (x : ℕ). Done m n (push (guest c m) v) (push (guest c n) x) (bytes_if (pushed c))) (sym e) (record {
@@ -181,9 +221,11 @@ unfolding written_in
 written_stored Byte m s o v = refl
 written_stored Word m s o v = word_stored m s o v
 
-pub done_written : (w : Width) (c : Cpu) (m n : Memory) (s o v x : ℕ) → x ≡ v → Done m n (guest c (written_in w m s o v)) (guest c (written_in w n s o x)) (bytes_if (Some (element_at w s o)))
+pub done_written : (w : Width) (c : Cpu) (m n : Memory) (s o v x : ℕ) → x ≡ v →
+    Done m n (guest c (written_in w m s o v)) (guest c (written_in w n s o x)) (bytes_if (Some (element_at w s o)))
 done_written w c m n s o v x e =
-    subst (λ (y : ℕ). Done m n (guest c (written_in w m s o v)) (guest c (written_in w n s o y)) (bytes_if (Some (element_at w s o)))) (sym e) (record {
+    subst (λ (y : ℕ). Done m n (guest c (written_in w m s o v)) (guest c (written_in w n s o y))
+    (bytes_if (Some (element_at w s o)))) (sym e) (record {
       registers = refl;
       stores = stores_in (element_at w s o) v;
       addresses = addresses_in (element_at w s o) v;

@@ -88,11 +88,13 @@ all_members_fit : (g r : ℕ) → member_fits (member_of g r) ≡ true
 unfolding member_of member_fits template_fits
 all_members_fit g r = passes member_fits None refl _ r (passes (list_all member_fits) _ refl groups g refl)
 
-template_of : (e : OpcodeEntry) (m : Fields) (d : List ℕ) (r : Template) → entry_fits e ≡ true → HasTemplate e m d r → template_fits r ≡ true
+template_of : (e : OpcodeEntry) (m : Fields) (d : List ℕ) (r : Template) → entry_fits e ≡ true → HasTemplate e m d r →
+    template_fits r ≡ true
 unfolding entry_fits member_fits
 template_of Unlisted m d r e h = absurd h
 template_of (Plain p) m d r e h = ap template_fits h.0 ∙ e
-template_of (Group g) m d r e h = subst (λ (o : Option Template). member_fits o ≡ true) h.0 (all_members_fit g m.register)
+template_of (Group g) m d r e h = subst (λ (o : Option Template). member_fits o ≡ true) h.0
+    (all_members_fit g m.register)
 template_of (Second c p) m d r e h = ap template_fits h.0 ∙ e
 
 -- ---- operands
@@ -101,7 +103,8 @@ register_apart : (w : Width) (n : ℕ) → is_memory (register w n) ≡ false
 register_apart Byte n = refl
 register_apart Word n = refl
 
-apart : (k : OperandKind) (m : Fields) (o : Operand) (d : List ℕ) → not (may_be_memory k) ≡ true → Fills k m o d → is_memory o ≡ false
+apart : (k : OperandKind) (m : Fields) (o : Operand) (d : List ℕ) → not (may_be_memory k) ≡ true → Fills k m o d →
+    is_memory o ≡ false
 apart is.Nothing m o d e f = ap is_memory f.0
 apart (is.RegisterOrMemory w) m o d e f = absurd cc
 apart (is.Register w) m o d e f = ap is_memory f.0 ∙ register_apart w m.register
@@ -119,22 +122,28 @@ apart (is.Word r) m o d e f = ap is_memory f.0
 apart (is.TheSegment r) m o d e f = ap is_memory f.0
 apart is.One m o d e f = ap is_memory f.0
 
-chosen : (b k memory : Bool) → cond b (not k) true ≡ true → (not k ≡ true → memory ≡ false) → cond b memory false ≡ false
+chosen : (b k memory : Bool) → cond b (not k) true ≡ true → (not k ≡ true → memory ≡ false) →
+    cond b memory false ≡ false
 chosen true k memory e f = f e
 chosen false k memory e f = refl
 
-template_target : (r : Template) (m : Fields) (o : Operand) (d : List ℕ) → template_fits r ≡ true → Fills r.first m o d → HasTarget r.mnemonic o
+template_target : (r : Template) (m : Fields) (o : Operand) (d : List ℕ) → template_fits r ≡ true →
+    Fills r.first m o d → HasTarget r.mnemonic o
 unfolding template_fits
-template_target r m o d e f = chosen (goes_by_operand r.mnemonic) (may_be_memory r.first) (is_memory o) e (λ k. apart r.first m o d k f)
+template_target r m o d e f = chosen (goes_by_operand r.mnemonic) (may_be_memory r.first) (is_memory o) e
+    (λ k. apart r.first m o d k f)
 
 action_target : (a : Action) (bytes : List ℕ) → SpellsAction a bytes → HasTarget a.mnemonic a.first
 action_target a bytes s =
-    let fits : template_fits s.template ≡ true = template_of (entry_of s.first_byte) s.fields s.behind s.template (all_entries_fit s.first_byte) s.has_template in
-    subst (λ (m : Mnemonic). HasTarget m a.first) (sym s.mnemonic) (template_target s.template s.fields a.first s.first_part fits s.first)
+    let fits : template_fits s.template ≡ true = template_of (entry_of s.first_byte) s.fields s.behind s.template
+    (all_entries_fit s.first_byte) s.has_template in
+    subst (λ (m : Mnemonic). HasTarget m a.first) (sym s.mnemonic) (template_target s.template s.fields a.first
+    s.first_part fits s.first)
 
 -- so it is in each instruction
 pub has_target : (i : Ins) → HasTarget i.action.mnemonic i.action.first
 has_target i =
-    let each : (x : (bytes : List ℕ) × SpellsAction i.action bytes) → HasTarget i.action.mnemonic i.action.first = λ x. action_target i.action x.0 x.1 in
+    let each : (x : (bytes : List ℕ) × SpellsAction i.action bytes) → HasTarget i.action.mnemonic i.action.first =
+    λ x. action_target i.action x.0 x.1 in
     let one : IsProp (HasTarget i.action.mnemonic i.action.first) = hlevel Bool-set in
     ∥∥₁_elim i.has_spelling one each

@@ -36,40 +36,51 @@ back_of P [] ys a = a
 back_of P (x ∷ xs) ys a = back_of P xs ys (All-tail P x (xs ++ ys) a)
 
 pub in_first : (P : FarAddress → Type 0) (e : Elements) → All P (bytes_of e) → All P (bytes_if e.first)
-in_first P e a = front_of P (bytes_if e.first) (bytes_if e.second) (front_of P (bytes_if e.first ++ bytes_if e.second) (bytes_if e.third) a)
+in_first P e a = front_of P (bytes_if e.first) (bytes_if e.second) (front_of P (bytes_if e.first
+    ++ bytes_if e.second) (bytes_if e.third) a)
 
 pub in_second : (P : FarAddress → Type 0) (e : Elements) → All P (bytes_of e) → All P (bytes_if e.second)
-in_second P e a = back_of P (bytes_if e.first) (bytes_if e.second) (front_of P (bytes_if e.first ++ bytes_if e.second) (bytes_if e.third) a)
+in_second P e a = back_of P (bytes_if e.first) (bytes_if e.second) (front_of P (bytes_if e.first
+    ++ bytes_if e.second) (bytes_if e.third) a)
 
 pub in_third : (P : FarAddress → Type 0) (e : Elements) → All P (bytes_of e) → All P (bytes_if e.third)
 in_third P e a = back_of P (bytes_if e.first ++ bytes_if e.second) (bytes_if e.third) a
 
-pub same_byte : (m n : Memory) (s o : ℕ) → All (Same m n) (bytes_in (element.Byte s o)) → seen n (far s o) ≡ seen m (far s o)
+pub same_byte : (m n : Memory) (s o : ℕ) → All (Same m n) (bytes_in (element.Byte s o)) →
+    seen n (far s o) ≡ seen m (far s o)
 same_byte m n s o a = All-head (Same m n) (far s o) [] a
 
 pub same_word : (m n : Memory) (s o : ℕ) → All (Same m n) (bytes_in (element.Word s o)) → peek16 n s o ≡ peek16 m s o
 same_word m n s o a =
     let high : List FarAddress = far s (up o 1) ∷ [] in
-    ap₂ (λ (x y : ℕ). x + 256 * y) (All-head (Same m n) (far s o) high a) (All-head (Same m n) (far s (up o 1)) [] (All-tail (Same m n) (far s o) high a))
+    ap₂ (λ (x y : ℕ). x + 256 * y) (All-head (Same m n) (far s o) high a) (All-head (Same m n) (far s (up o 1)) []
+    (All-tail (Same m n) (far s o) high a))
 
 -- ---- operands
 
-pub same_value : (c : Cpu) (m n : Memory) (override : Option SegmentRegister) (o : Operand) → All (Same m n) (bytes_if (element_of c override o)) → value_of (guest c n) override o ≡ value_of (guest c m) override o
+pub same_value : (c : Cpu) (m n : Memory) (override : Option SegmentRegister) (o : Operand) →
+    All (Same m n) (bytes_if (element_of c override o)) → value_of (guest c n) override o
+    ≡ value_of (guest c m) override o
 unfolding value_of element_of
 same_value c m n override (operand.Memory memory.Byte x) a = same_byte m n (segment_for c override x) (offset_of c x) a
 same_value c m n override (operand.Memory memory.Word x) a = same_word m n (segment_for c override x) (offset_of c x) a
 same_value c m n override _ a = refl
 
-pub same_value_in : (w : Width) (c : Cpu) (m n : Memory) (override : Option SegmentRegister) (o : Operand) → All (Same m n) (bytes_if (element_of c override o)) → value_in w (guest c n) override o ≡ value_in w (guest c m) override o
+pub same_value_in : (w : Width) (c : Cpu) (m n : Memory) (override : Option SegmentRegister) (o : Operand) →
+    All (Same m n) (bytes_if (element_of c override o)) → value_in w (guest c n) override o
+    ≡ value_in w (guest c m) override o
 unfolding value_in
 same_value_in w c m n override o a = ap (λ (v : ℕ). v % size w) (same_value c m n override o a)
 
-pub same_segment : (c : Cpu) (m n : Memory) (override : Option SegmentRegister) (o : Operand) → All (Same m n) (bytes_if (word_behind c override o)) → far_segment_of (guest c n) override o ≡ far_segment_of (guest c m) override o
+pub same_segment : (c : Cpu) (m n : Memory) (override : Option SegmentRegister) (o : Operand) →
+    All (Same m n) (bytes_if (word_behind c override o)) → far_segment_of (guest c n) override o
+    ≡ far_segment_of (guest c m) override o
 unfolding far_segment_of word_behind
 same_segment c m n override (operand.Memory w x) a = same_word m n (segment_for c override x) (up (offset_of c x) 2) a
 same_segment c m n override _ a = refl
 
-pub same_element : (w : Width) (m n : Memory) (s o : ℕ) → All (Same m n) (bytes_in (element_at w s o)) → read_in w n s o ≡ read_in w m s o
+pub same_element : (w : Width) (m n : Memory) (s o : ℕ) → All (Same m n) (bytes_in (element_at w s o)) →
+    read_in w n s o ≡ read_in w m s o
 unfolding read_in
 same_element Byte m n s o a = same_byte m n s o a
 same_element Word m n s o a = same_word m n s o a

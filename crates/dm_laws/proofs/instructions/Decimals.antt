@@ -63,7 +63,8 @@ base-same g ip OnDi = refl
 base-same g ip OnBp = refl
 base-same g ip OnBx = refl
 
-for-same : (g : Guest) (ip : ℕ) (override : Option SegmentRegister) (a : Address) → segment_for (at_ip g ip).cpu override a ≡ segment_for g.cpu override a
+for-same : (g : Guest) (ip : ℕ) (override : Option SegmentRegister) (a : Address) →
+    segment_for (at_ip g ip).cpu override a ≡ segment_for g.cpu override a
 for-same g ip None a = segment-same g ip (own_segment a.base)
 for-same g ip (Some r) a = segment-same g ip r
 
@@ -89,106 +90,168 @@ word-same g ip Bp = refl
 word-same g ip Si = refl
 word-same g ip Di = refl
 
-value-same : (g : Guest) (ip : ℕ) (override : Option SegmentRegister) (o : Operand) → value_of (at_ip g ip) override o ≡ value_of g override o
+value-same : (g : Guest) (ip : ℕ) (override : Option SegmentRegister) (o : Operand) →
+    value_of (at_ip g ip) override o ≡ value_of g override o
 unfolding value_of
 value-same g ip override operand.Nothing = refl
 value-same g ip override (operand.ByteRegister r) = byte-same g ip r
 value-same g ip override (operand.WordRegister r) = word-same g ip r
 value-same g ip override (operand.SegmentRegister r) = segment-same g ip r
-value-same g ip override (operand.Memory memory.Byte a) = ap₂ (λ s b. peek g.memory (linear g.memory.a20 s (up b a.displacement))) (for-same g ip override a) (base-same g ip a.base)
-value-same g ip override (operand.Memory memory.Word a) = ap₂ (λ s b. peek16 g.memory s (up b a.displacement)) (for-same g ip override a) (base-same g ip a.base)
+value-same g ip override (operand.Memory memory.Byte a) =
+    ap₂ (λ s b. peek g.memory (linear g.memory.a20 s (up b a.displacement))) (for-same g ip override a)
+    (base-same g ip a.base)
+value-same g ip override (operand.Memory memory.Word a) =
+    ap₂ (λ s b. peek16 g.memory s (up b a.displacement)) (for-same g ip override a) (base-same g ip a.base)
 value-same g ip override (operand.ByteValue n) = refl
 value-same g ip override (operand.WordValue n) = refl
 value-same g ip override operand.One = refl
 value-same g ip override (operand.Target n) = refl
 value-same g ip override (operand.FarTarget n s) = refl
 
-byte-in-same : (g : Guest) (ip : ℕ) (override : Option SegmentRegister) (o : Operand) → value_in Byte (at_ip g ip) override o ≡ value_in Byte g override o
+byte-in-same : (g : Guest) (ip : ℕ) (override : Option SegmentRegister) (o : Operand) →
+    value_in Byte (at_ip g ip) override o ≡ value_in Byte g override o
 unfolding value_in
 byte-in-same g ip override o = ap (λ z. z % 256) (value-same g ip override o)
 
 -- AL takes a byte
-al-value : (g : Guest) (override : Option SegmentRegister) → value_in Byte g override (operand.ByteRegister Al) ≡ al_of g.cpu.ax
+al-value : (g : Guest) (override : Option SegmentRegister) → value_in Byte g override (operand.ByteRegister Al)
+    ≡ al_of g.cpu.ax
 unfolding value_in value_of byte_of
 al-value g override = omega arith
 
-al-result : (g : Guest) (override : Option SegmentRegister) (v : ℕ) (f : Flags) → g.cpu.ax < 65536 → accumulator_of (with_result g override (operand.ByteRegister Al) v f) ≡ record { ax = word_of_halves (ah_of g.cpu.ax) v; flags = f }
+al-result : (g : Guest) (override : Option SegmentRegister) (v : ℕ) (f : Flags) → g.cpu.ax < 65536 →
+    accumulator_of (with_result g override (operand.ByteRegister Al) v f)
+    ≡ record { ax = word_of_halves (ah_of g.cpu.ax) v; flags = f }
 unfolding with_operand with_byte
 al-result g override v f h = ap (λ (z : ℕ). record { ax = z; flags = f }) (omega arith)
 
-summed : (g : Guest) (ip : ℕ) (override : Option SegmentRegister) (o : Operand) (c : Bool) → g.cpu.ax < 65536 → accumulator_of (sum_in Byte (at_ip g ip) c override (operand.ByteRegister Al) override o) ≡ by_addition (accumulator_of g) (value_in Byte g override o) c
+summed : (g : Guest) (ip : ℕ) (override : Option SegmentRegister) (o : Operand) (c : Bool) → g.cpu.ax < 65536 →
+    accumulator_of (sum_in Byte (at_ip g ip) c override (operand.ByteRegister Al) override o)
+    ≡ by_addition (accumulator_of g) (value_in Byte g override o) c
 summed g ip override o c h =
     al-result (at_ip g ip) override _ _ h
-    ∙ ap₂ (λ a b. record { ax = word_of_halves (ah_of g.cpu.ax) (sum_value Byte a b c); flags = flags_after_sum Byte a b c g.cpu.flags }) (al-value (at_ip g ip) override) (byte-in-same g ip override o)
+    ∙ ap₂ (λ a b. record {
+      ax = word_of_halves (ah_of g.cpu.ax) (sum_value Byte a b c);
+      flags = flags_after_sum Byte a b c g.cpu.flags;
+    }) (al-value (at_ip g ip) override)
+    (byte-in-same g ip override o)
 
-taken : (g : Guest) (ip : ℕ) (override : Option SegmentRegister) (o : Operand) (c : Bool) → g.cpu.ax < 65536 → accumulator_of (difference_in Byte (at_ip g ip) c override (operand.ByteRegister Al) override o) ≡ subtracted (accumulator_of g) (value_in Byte g override o) c
+taken : (g : Guest) (ip : ℕ) (override : Option SegmentRegister) (o : Operand) (c : Bool) → g.cpu.ax < 65536 →
+    accumulator_of (difference_in Byte (at_ip g ip) c override (operand.ByteRegister Al) override o)
+    ≡ subtracted (accumulator_of g) (value_in Byte g override o) c
 taken g ip override o c h =
     al-result (at_ip g ip) override _ _ h
-    ∙ ap₂ (λ a b. record { ax = word_of_halves (ah_of g.cpu.ax) (difference_value Byte a b c); flags = flags_after_difference Byte a b c g.cpu.flags }) (al-value (at_ip g ip) override) (byte-in-same g ip override o)
+    ∙ ap₂ (λ a b. record {
+      ax = word_of_halves (ah_of g.cpu.ax) (difference_value Byte a b c);
+      flags = flags_after_difference Byte a b c g.cpu.flags;
+    }) (al-value (at_ip g ip) override)
+    (byte-in-same g ip override o)
 
 -- each instruction on the accumulator
-effect-as : (g : Guest) (i : Ins) (k : ℕ) (x : Operation) → operation_of i.action.mnemonic ≡ x → effect g i k ≡ operation_effect (at_ip g (up g.cpu.ip k)) i.prefixes g.cpu.ip x i.action.first i.action.second
+effect-as : (g : Guest) (i : Ins) (k : ℕ) (x : Operation) → operation_of i.action.mnemonic ≡ x →
+    effect g i k ≡ operation_effect (at_ip g (up g.cpu.ip k)) i.prefixes g.cpu.ip x i.action.first i.action.second
 unfolding effect
-effect-as g i k x e = ap (λ (z : Operation). operation_effect (at_ip g (up g.cpu.ip k)) i.prefixes g.cpu.ip z i.action.first i.action.second) e
+effect-as g i k x e = ap (λ (z : Operation). operation_effect (at_ip g (up g.cpu.ip k)) i.prefixes g.cpu.ip z
+    i.action.first i.action.second) e
 
 sum-operation : (c : Bool) → operation_of (sum_mnemonic c) ≡ is.Arithmetic (if c then AddWithCarry else Add)
 unfolding operation_of
 sum-operation true = refl
 sum-operation false = refl
 
-difference-operation : (c : Bool) → operation_of (difference_mnemonic c) ≡ is.Arithmetic (if c then SubtractWithBorrow else Subtract)
+difference-operation : (c : Bool) → operation_of (difference_mnemonic c) ≡ is.Arithmetic (if c then SubtractWithBorrow
+    else Subtract)
 unfolding operation_of
 difference-operation true = refl
 difference-operation false = refl
 
-sum-effect : (g : Guest) (ip : ℕ) (override : Option SegmentRegister) (first o : Operand) (c : Bool) → first ≡ operand.ByteRegister Al → g.cpu.ax < 65536 → accumulator_of (arithmetic (at_ip g ip) override (if c then AddWithCarry else Add) first o) ≡ by_addition (accumulator_of g) (value_in Byte g override o) (carry_in c g)
+sum-effect : (g : Guest) (ip : ℕ) (override : Option SegmentRegister) (first o : Operand) (c : Bool) →
+    first ≡ operand.ByteRegister Al → g.cpu.ax < 65536 → accumulator_of (arithmetic (at_ip g ip) override (if c then
+    AddWithCarry else Add) first o) ≡ by_addition (accumulator_of g) (value_in Byte g override o) (carry_in c g)
 unfolding arithmetic sum_into width_of
-sum-effect g ip override first o true e h = ap (λ f. accumulator_of (sum_in (width_of f) (at_ip g ip) g.cpu.flags.carry override f override o)) e ∙ summed g ip override o g.cpu.flags.carry h
-sum-effect g ip override first o false e h = ap (λ f. accumulator_of (sum_in (width_of f) (at_ip g ip) false override f override o)) e ∙ summed g ip override o false h
+sum-effect g ip override first o true e h =
+    ap (λ f. accumulator_of (sum_in (width_of f) (at_ip g ip) g.cpu.flags.carry override f override o)) e
+    ∙ summed g ip override o g.cpu.flags.carry h
+sum-effect g ip override first o false e h =
+    ap (λ f. accumulator_of (sum_in (width_of f) (at_ip g ip) false override f override o)) e
+    ∙ summed g ip override o false h
 
-difference-effect : (g : Guest) (ip : ℕ) (override : Option SegmentRegister) (first o : Operand) (c : Bool) → first ≡ operand.ByteRegister Al → g.cpu.ax < 65536 → accumulator_of (arithmetic (at_ip g ip) override (if c then SubtractWithBorrow else Subtract) first o) ≡ subtracted (accumulator_of g) (value_in Byte g override o) (carry_in c g)
+difference-effect : (g : Guest) (ip : ℕ) (override : Option SegmentRegister) (first o : Operand) (c : Bool) →
+    first ≡ operand.ByteRegister Al → g.cpu.ax < 65536 → accumulator_of (arithmetic (at_ip g ip) override (if c then
+    SubtractWithBorrow else Subtract) first o) ≡ subtracted (accumulator_of g) (value_in Byte g override o)
+    (carry_in c g)
 unfolding arithmetic difference_into width_of
-difference-effect g ip override first o true e h = ap (λ f. accumulator_of (difference_in (width_of f) (at_ip g ip) g.cpu.flags.carry override f override o)) e ∙ taken g ip override o g.cpu.flags.carry h
-difference-effect g ip override first o false e h = ap (λ f. accumulator_of (difference_in (width_of f) (at_ip g ip) false override f override o)) e ∙ taken g ip override o false h
+difference-effect g ip override first o true e h =
+    ap (λ f. accumulator_of (difference_in (width_of f) (at_ip g ip) g.cpu.flags.carry override f override o)) e
+    ∙ taken g ip override o g.cpu.flags.carry h
+difference-effect g ip override first o false e h =
+    ap (λ f. accumulator_of (difference_in (width_of f) (at_ip g ip) false override f override o)) e
+    ∙ taken g ip override o false h
 
-sum-is : (g : Guest) (i : Ins) (k : ℕ) (c : Bool) → IsOnAl i (sum_mnemonic c) → g.cpu.ax < 65536 → accumulator_of (effect g i k) ≡ by_addition (accumulator_of g) (second_byte g i) (carry_in c g)
+sum-is : (g : Guest) (i : Ins) (k : ℕ) (c : Bool) → IsOnAl i (sum_mnemonic c) → g.cpu.ax < 65536 →
+    accumulator_of (effect g i k) ≡ by_addition (accumulator_of g) (second_byte g i) (carry_in c g)
 sum-is g i k c s h =
     ap accumulator_of (effect-as g i k _ (ap operation_of s.mnemonic_is ∙ sum-operation c))
     ∙ sum-effect g (up g.cpu.ip k) i.prefixes.segment i.action.first i.action.second c s.first_is h
 
-difference-is : (g : Guest) (i : Ins) (k : ℕ) (c : Bool) → IsOnAl i (difference_mnemonic c) → g.cpu.ax < 65536 → accumulator_of (effect g i k) ≡ subtracted (accumulator_of g) (second_byte g i) (carry_in c g)
+difference-is : (g : Guest) (i : Ins) (k : ℕ) (c : Bool) → IsOnAl i (difference_mnemonic c) → g.cpu.ax < 65536 →
+    accumulator_of (effect g i k) ≡ subtracted (accumulator_of g) (second_byte g i) (carry_in c g)
 difference-is g i k c s h =
     ap accumulator_of (effect-as g i k _ (ap operation_of s.mnemonic_is ∙ difference-operation c))
     ∙ difference-effect g (up g.cpu.ip k) i.prefixes.segment i.action.first i.action.second c s.first_is h
 
-adjust-is : (g : Guest) (j : Ins) (n : ℕ) (a : Adjustment) → operation_of j.action.mnemonic ≡ is.Adjust a → accumulator_of (effect g j n) ≡ adjusted_in a (accumulator_of g)
+adjust-is : (g : Guest) (j : Ins) (n : ℕ) (a : Adjustment) → operation_of j.action.mnemonic ≡ is.Adjust a →
+    accumulator_of (effect g j n) ≡ adjusted_in a (accumulator_of g)
 unfolding adjusted
 adjust-is g j n a e = ap accumulator_of (effect-as g j n (is.Adjust a) e)
 
 product-at : (g : Guest) (ip : ℕ) (override : Option SegmentRegister) (o : Operand) (w : Width) → w ≡ Byte →
-    accumulator_of (with_flags (on_cpu (at_ip g ip) (with_double w (at_ip g ip).cpu (product_value Unsigned w (accumulator w (at_ip g ip).cpu) (value_in w (at_ip g ip) override o)))) (flags_after_product Unsigned w (accumulator w (at_ip g ip).cpu) (value_in w (at_ip g ip) override o) g.cpu.flags))
+    accumulator_of (with_flags (on_cpu (at_ip g ip) (with_double w (at_ip g ip).cpu
+    (product_value Unsigned w (accumulator w (at_ip g ip).cpu) (value_in w (at_ip g ip) override o))))
+    (flags_after_product Unsigned w (accumulator w (at_ip g ip).cpu) (value_in w (at_ip g ip) override o)
+    g.cpu.flags))
     ≡ multiplied_in (accumulator_of g) (value_in Byte g override o)
 unfolding with_double accumulator byte_of
 product-at g ip override o w e =
-    ap (λ v. accumulator_of (with_flags (on_cpu (at_ip g ip) (with_double v (at_ip g ip).cpu (product_value Unsigned v (accumulator v (at_ip g ip).cpu) (value_in v (at_ip g ip) override o)))) (flags_after_product Unsigned v (accumulator v (at_ip g ip).cpu) (value_in v (at_ip g ip) override o) g.cpu.flags))) e
-    ∙ ap (λ b. record { ax = product_value Unsigned Byte (al_of g.cpu.ax) b; flags = flags_after_product Unsigned Byte (al_of g.cpu.ax) b g.cpu.flags }) (byte-in-same g ip override o)
+    ap (λ v. accumulator_of (with_flags (on_cpu (at_ip g ip) (with_double v (at_ip g ip).cpu
+    (product_value Unsigned v (accumulator v (at_ip g ip).cpu) (value_in v (at_ip g ip) override o))))
+    (flags_after_product Unsigned v (accumulator v (at_ip g ip).cpu) (value_in v (at_ip g ip) override o)
+    g.cpu.flags))) e
+    ∙ ap (λ b. record {
+      ax = product_value Unsigned Byte (al_of g.cpu.ax) b;
+      flags = flags_after_product Unsigned Byte (al_of g.cpu.ax) b g.cpu.flags;
+    }) (byte-in-same g ip override o)
 
-product-is : (g : Guest) (i : Ins) (k : ℕ) → IsOfByte i op.Mul → accumulator_of (effect g i k) ≡ multiplied_in (accumulator_of g) (first_byte g i)
+product-is : (g : Guest) (i : Ins) (k : ℕ) → IsOfByte i op.Mul → accumulator_of (effect g i k)
+    ≡ multiplied_in (accumulator_of g) (first_byte g i)
 unfolding multiplied operation_of
 product-is g i k s =
     ap accumulator_of (effect-as g i k (is.Multiply Unsigned) (ap operation_of s.mnemonic_is))
     ∙ product-at g (up g.cpu.ip k) i.prefixes.segment i.action.first (width_of i.action.first) s.width_is
 
 -- two instructions
-both : (g : Guest) (i j : Ins) (k n : ℕ) (a : Adjustment) (y : Accumulator) → operation_of j.action.mnemonic ≡ is.Adjust a → accumulator_of (effect g i k) ≡ y → after_both g i k j n ≡ adjusted_in a y
+both : (g : Guest) (i j : Ins) (k n : ℕ) (a : Adjustment) (y : Accumulator) → operation_of j.action.mnemonic
+    ≡ is.Adjust a → accumulator_of (effect g i k) ≡ y → after_both g i k j n ≡ adjusted_in a y
 both g i j k n a y e f = adjust-is (effect g i k) j n a e ∙ ap (adjusted_in a) f
 
 pub compute : InstructionsComputeInDecimal
 unfolding operation_of
 compute g i j k n h = record {
-  daa = λ c s m a b. subst (λ y. HasPackedSum y (packed (al_of g.cpu.ax) + packed (second_byte g i) + from_bool (carry_in c g)) (ah_of g.cpu.ax)) (sym (both g i j k n adjustment.DecimalAddition _ (ap operation_of m) (sum-is g i k c s h))) (packed_add (accumulator_of g) (second_byte g i) (carry_in c g) h a b);
-  das = λ c s m a b. subst (λ y. HasPackedDifference y (packed (second_byte g i) + from_bool (carry_in c g)) (packed (al_of g.cpu.ax)) (ah_of g.cpu.ax)) (sym (both g i j k n adjustment.DecimalSubtraction _ (ap operation_of m) (difference-is g i k c s h))) (packed_subtract (accumulator_of g) (second_byte g i) (carry_in c g) h a b);
-  aaa = λ c s m a b. subst (λ y. HasUnpackedSum y (unpacked (al_of g.cpu.ax) + unpacked (second_byte g i) + from_bool (carry_in c g)) (ah_of g.cpu.ax)) (sym (both g i j k n adjustment.AsciiAddition _ (ap operation_of m) (sum-is g i k c s h))) (unpacked_add (accumulator_of g) (second_byte g i) (carry_in c g) h a b);
-  aas = λ c s m a b. subst (λ y. HasUnpackedDifference y (unpacked (second_byte g i) + from_bool (carry_in c g)) (unpacked (al_of g.cpu.ax)) (ah_of g.cpu.ax)) (sym (both g i j k n adjustment.AsciiSubtraction _ (ap operation_of m) (difference-is g i k c s h))) (unpacked_subtract (accumulator_of g) (second_byte g i) (carry_in c g) h a b);
-  aam = λ s m a b. subst (λ y. HasDigits y (al_of g.cpu.ax * first_byte g i)) (sym (both g i j k n adjustment.AsciiMultiplication _ (ap operation_of m) (product-is g i k s))) (unpacked_multiply (accumulator_of g) (first_byte g i) a b);
+  daa = λ c s m a b. subst (λ y. HasPackedSum y (packed (al_of g.cpu.ax) + packed (second_byte g i)
+      + from_bool (carry_in c g)) (ah_of g.cpu.ax)) (sym (both g i j k n adjustment.DecimalAddition _
+      (ap operation_of m) (sum-is g i k c s h))) (packed_add (accumulator_of g) (second_byte g i) (carry_in c g) h a b);
+  das = λ c s m a b. subst (λ y. HasPackedDifference y (packed (second_byte g i) + from_bool (carry_in c g))
+      (packed (al_of g.cpu.ax)) (ah_of g.cpu.ax)) (sym (both g i j k n adjustment.DecimalSubtraction _
+      (ap operation_of m) (difference-is g i k c s h))) (packed_subtract (accumulator_of g) (second_byte g i)
+      (carry_in c g) h a b);
+  aaa = λ c s m a b. subst (λ y. HasUnpackedSum y (unpacked (al_of g.cpu.ax) + unpacked (second_byte g i)
+      + from_bool (carry_in c g)) (ah_of g.cpu.ax)) (sym (both g i j k n adjustment.AsciiAddition _ (ap operation_of m)
+      (sum-is g i k c s h))) (unpacked_add (accumulator_of g) (second_byte g i) (carry_in c g) h a b);
+  aas = λ c s m a b. subst (λ y. HasUnpackedDifference y (unpacked (second_byte g i) + from_bool (carry_in c g))
+      (unpacked (al_of g.cpu.ax)) (ah_of g.cpu.ax)) (sym (both g i j k n adjustment.AsciiSubtraction _
+      (ap operation_of m) (difference-is g i k c s h))) (unpacked_subtract (accumulator_of g) (second_byte g i)
+      (carry_in c g) h a b);
+  aam = λ s m a b. subst (λ y. HasDigits y (al_of g.cpu.ax * first_byte g i))
+      (sym (both g i j k n adjustment.AsciiMultiplication _ (ap operation_of m) (product-is g i k s)))
+      (unpacked_multiply (accumulator_of g) (first_byte g i) a b);
 }

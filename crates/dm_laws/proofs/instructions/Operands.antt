@@ -44,7 +44,9 @@ set-below (x ∷ xs) zero v (suc k) h l = l
 set-below (x ∷ xs) (suc i) v zero h l = l
 set-below (x ∷ xs) (suc i) v (suc k) h l = set-below xs i v k h l
 
-page_set-below : (pages : List (List ℕ)) (p i v q k : ℕ) → v < 256 → ((q k : ℕ) → get_or (get_or pages q []) k 0 < 256) → get_or (get_or (set pages p (set (get_or pages p []) i v)) q []) k 0 < 256
+page_set-below : (pages : List (List ℕ)) (p i v q k : ℕ) → v < 256 →
+    ((q k : ℕ) → get_or (get_or pages q []) k 0 < 256) →
+    get_or (get_or (set pages p (set (get_or pages p []) i v)) q []) k 0 < 256
 page_set-below [] p i v q k h l = l q k
 page_set-below (xs ∷ pages) zero i v zero k h l = set-below xs i v k h (l 0 k)
 page_set-below (xs ∷ pages) zero i v (suc q) k h l = l (suc q) k
@@ -132,7 +134,8 @@ with_byte-words c Ch v h w = omega arith
 with_byte-words c Dh v h w = omega arith
 with_byte-words c Bh v h w = omega arith
 
-pub with_segment-words : (c : Cpu) (r : SegmentRegister) (v : ℕ) → v < 65536 → HasWords c → HasWords (with_segment c r v)
+pub with_segment-words : (c : Cpu) (r : SegmentRegister) (v : ℕ) → v < 65536 → HasWords c →
+    HasWords (with_segment c r v)
 unfolding with_segment
 with_segment-words c Es v h w = omega arith
 with_segment-words c Cs v h w = omega arith
@@ -143,7 +146,8 @@ with_segment-words c Ds v h w = omega arith
 byte-word : (n : ℕ) → n < 256 → n < 65536
 byte-word n h = omega arith
 
-pub value-below : (g : Guest) (override : Option SegmentRegister) (o : Operand) → IsWellFormed g → AreValues o → value_of g override o < 65536
+pub value-below : (g : Guest) (override : Option SegmentRegister) (o : Operand) → IsWellFormed g → AreValues o →
+    value_of g override o < 65536
 unfolding value_of
 value-below g override operand.Nothing f v = omega arith
 value-below g override (operand.ByteRegister r) f v = (let x = byte-below g.cpu r f.registers in omega arith)
@@ -157,11 +161,13 @@ value-below g override operand.One f v = omega arith
 value-below g override (operand.Target n) f v = v
 value-below g override (operand.FarTarget n s) f v = v.0
 
-pub value_in-below : (w : Width) (g : Guest) (override : Option SegmentRegister) (o : Operand) → value_in w g override o < size w
+pub value_in-below : (w : Width) (g : Guest) (override : Option SegmentRegister) (o : Operand) →
+    value_in w g override o < size w
 unfolding value_in
 value_in-below w g override o = mod-below w _
 
-pub far_segment-below : (g : Guest) (override : Option SegmentRegister) (o : Operand) → IsWellFormed g → AreValues o → far_segment_of g override o < 65536
+pub far_segment-below : (g : Guest) (override : Option SegmentRegister) (o : Operand) → IsWellFormed g → AreValues o →
+    far_segment_of g override o < 65536
 unfolding far_segment_of
 far_segment-below g override operand.Nothing f v = omega arith
 far_segment-below g override (operand.ByteRegister r) f v = omega arith
@@ -187,14 +193,28 @@ address-below c operand.One = omega arith
 address-below c (operand.Target n) = omega arith
 address-below c (operand.FarTarget n s) = omega arith
 
-pub stored : (g : Guest) (override : Option SegmentRegister) (o : Operand) (v : ℕ) → v < 65536 → IsWellFormed g → IsWellFormed (with_operand g override o v)
+pub stored : (g : Guest) (override : Option SegmentRegister) (o : Operand) (v : ℕ) → v < 65536 → IsWellFormed g →
+    IsWellFormed (with_operand g override o v)
 unfolding with_operand
 stored g override operand.Nothing v h f = f
-stored g override (operand.ByteRegister r) v h f = record { registers = with_byte-words g.cpu r (v % 256) (omega arith) f.registers; memory = f.memory }
-stored g override (operand.WordRegister r) v h f = record { registers = with_word-words g.cpu r v h f.registers; memory = f.memory }
-stored g override (operand.SegmentRegister r) v h f = record { registers = with_segment-words g.cpu r v h f.registers; memory = f.memory }
-stored g override (operand.Memory memory.Byte a) v h f = record { registers = f.registers; memory = poke-below g.memory _ (v % 256) (omega arith) f.memory }
-stored g override (operand.Memory memory.Word a) v h f = record { registers = f.registers; memory = poke16-below g.memory _ _ v h f.memory }
+stored g override (operand.ByteRegister r) v h f =
+    record { registers = with_byte-words g.cpu r (v % 256) (omega arith) f.registers; memory = f.memory }
+stored g override (operand.WordRegister r) v h f = record {
+  registers = with_word-words g.cpu r v h f.registers;
+  memory = f.memory;
+}
+stored g override (operand.SegmentRegister r) v h f = record {
+  registers = with_segment-words g.cpu r v h f.registers;
+  memory = f.memory;
+}
+stored g override (operand.Memory memory.Byte a) v h f = record {
+  registers = f.registers;
+  memory = poke-below g.memory _ (v % 256) (omega arith) f.memory;
+}
+stored g override (operand.Memory memory.Word a) v h f = record {
+  registers = f.registers;
+  memory = poke16-below g.memory _ _ v h f.memory;
+}
 stored g override (operand.ByteValue n) v h f = f
 stored g override (operand.WordValue n) v h f = f
 stored g override operand.One v h f = f

@@ -48,7 +48,8 @@ fills-values is.Short m o d h f = subst AreValues (sym f.2) (extended-below f.0 
 fills-values is.Near m o d h f = subst AreValues (sym f.2) f.1
 fills-values (is.Direct w) m o d h f = subst AreValues (sym f.2) tt
 fills-values is.Far m o d h f = subst AreValues (sym f.4) (f.2, f.3)
-fills-values (is.Escape r) m o d h f = subst AreValues (sym f.0) (let x : 8 * (r % 8) + m.register < 256 = omega arith in x)
+fills-values (is.Escape r) m o d h f = subst AreValues (sym f.0) (let x : 8 * (r % 8) + m.register < 256 =
+    omega arith in x)
 fills-values (is.Byte r) m o d h f = subst AreValues (sym f.0) tt
 fills-values (is.Word r) m o d h f = subst AreValues (sym f.0) tt
 fills-values (is.TheSegment r) m o d h f = subst AreValues (sym f.0) tt
@@ -61,4 +62,5 @@ pub keeps_well_formed : InstructionsKeepWellFormed
 keeps_well_formed g i bytes len w s =
     let a = s.action in
     let h = action-small i.action s.rest a in
-    effect_kept g i len w (fills-values a.template.first a.fields i.action.first a.first_part h a.first) (fills-values a.template.second a.fields i.action.second a.second_part h a.second)
+    effect_kept g i len w (fills-values a.template.first a.fields i.action.first a.first_part h a.first)
+    (fills-values a.template.second a.fields i.action.second a.second_part h a.second)

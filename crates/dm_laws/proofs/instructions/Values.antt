@@ -85,11 +85,14 @@ move-below Left w m h = to_left w m.value false
 move-below LogicalRight w m h = to_right w m.value false h
 move-below ArithmeticRight w m h = to_right w m.value _ h
 
-moves-below : (op : ShiftOperation) (w : Width) (k : ℕ) (m : Shifted) → m.value < size w → (moves op w k m).value < size w
+moves-below : (op : ShiftOperation) (w : Width) (k : ℕ) (m : Shifted) → m.value < size w →
+    (moves op w k m).value < size w
 moves-below op w zero m h = subst (λ z. z.value < size w) (sym (moves-zero op w m)) h
-moves-below op w (suc k) m h = subst (λ z. z.value < size w) (sym (moves-last op w k m)) (move-below op w (moves op w k m) (moves-below op w k m h))
+moves-below op w (suc k) m h = subst (λ z. z.value < size w) (sym (moves-last op w k m))
+    (move-below op w (moves op w k m) (moves-below op w k m h))
 
-pub shift-below : (op : ShiftOperation) (w : Width) (n count : ℕ) (f : Flags) → n < size w → shift_value op w n count f < size w
+pub shift-below : (op : ShiftOperation) (w : Width) (n count : ℕ) (f : Flags) → n < size w →
+    shift_value op w n count f < size w
 unfolding shift_value
 shift-below op w n count f h = moves-below op w count (record { value = n; carry = f.carry }) h
 
@@ -112,36 +115,47 @@ half-below : (w : Width) → half w * size w ≤ size w * size w
 half-below Byte = omega arith
 half-below Word = omega arith
 
-pub product-below : (sign : Sign) (w : Width) (a b : ℕ) → a < size w → b < size w → product_value sign w a b < size w * size w
+pub product-below : (sign : Sign) (w : Width) (a b : ℕ) → a < size w → b < size w →
+    product_value sign w a b < size w * size w
 unfolding product_value
 product-below Unsigned w a b h k = unsigned-product w a b h k
-product-below Signed w a b h k = twos-below (size w * size w) (signed w a *ℤ signed w b) (let p = product-small w a b h k in let q = half-below w in omega arith)
+product-below Signed w a b h k = twos-below (size w * size w) (signed w a *ℤ signed w b) (let p =
+    product-small w a b h k in let q = half-below w in omega arith)
 
 -- quotients
 half-size : (w : Width) → half w < size w
 half-size Byte = omega arith
 half-size Word = omega arith
 
-signed-parts : (w : Width) (q r : ℤ) (d : ℕ) → d < size w → unsigned_abs r < unsigned_abs (signed w d) → (x : Division) → signed_division w q r ≡ Some x → (x.quotient < size w) × (x.remainder < size w)
+signed-parts : (w : Width) (q r : ℤ) (d : ℕ) → d < size w → unsigned_abs r < unsigned_abs (signed w d) →
+    (x : Division) → signed_division w q r ≡ Some x → (x.quotient < size w) × (x.remainder < size w)
 unfolding signed_division
 signed-parts w q r d h k x e =
-    let y = if-some (nat_le (half w) (unsigned_abs q)) (record { quotient = twos_complement (size w) q; remainder = twos_complement (size w) r }) x e in
+    let y = if-some (nat_le (half w) (unsigned_abs q)) (record {
+      quotient = twos_complement (size w) q;
+      remainder = twos_complement (size w) r;
+    }) x e in
     let F : Division → Type 0 = λ z. (z.quotient < size w) × (z.remainder < size w) in
     let s = half-size w in
     let t = divisor-small w d h in
     let u = below _ _ y.0 in
     subst F y.1 (twos-below (size w) q (omega arith), twos-below (size w) r (omega arith))
 
-signed-below : (w : Width) (n d : ℕ) (t : Bool) (x : Division) → d < size w → nat_eq d 0 ≡ t → (if t then None else signed_division w (int_div (signed_double w n) (signed w d)) (int_rem (signed_double w n) (signed w d))) ≡ Some x → (x.quotient < size w) × (x.remainder < size w)
+signed-below : (w : Width) (n d : ℕ) (t : Bool) (x : Division) → d < size w → nat_eq d 0 ≡ t →
+    (if t then None else signed_division w (int_div (signed_double w n) (signed w d))
+    (int_rem (signed_double w n) (signed w d))) ≡ Some x → (x.quotient < size w) × (x.remainder < size w)
 signed-below w n d true x h t e = absurd (let z = e in cc)
 signed-below w n d false x h t e =
     let p = positive d t in
     let q = divisor-positive w d h (omega arith) in
-    signed-parts w (int_div (signed_double w n) (signed w d)) (int_rem (signed_double w n) (signed w d)) d h (rem_below (signed_double w n) (signed w d) q) x e
+    signed-parts w (int_div (signed_double w n) (signed w d)) (int_rem (signed_double w n) (signed w d)) d h
+    (rem_below (signed_double w n) (signed w d) q) x e
 
-pub quotient-below : (sign : Sign) (w : Width) (n d : ℕ) (x : Division) → d < size w → quotient_of sign w n d ≡ Some x → (x.quotient < size w) × (x.remainder < size w)
+pub quotient-below : (sign : Sign) (w : Width) (n d : ℕ) (x : Division) → d < size w → quotient_of sign w n d ≡ Some x →
+    (x.quotient < size w) × (x.remainder < size w)
 unfolding quotient_of
-quotient-below Unsigned w n d x h e = (let y = (unsigned_divides w n d).divided x e in let l = y.less in (y.fits, omega arith))
+quotient-below Unsigned w n d x h e = (let y = (unsigned_divides w n d).divided x e in let l = y.less in
+    (y.fits, omega arith))
 quotient-below Signed w n d x h e = signed-below w n d (nat_eq d 0) x h refl e
 
 -- adjustments
@@ -155,7 +169,8 @@ choice-below false x y h k = k
 pub adjusted-below : (a : Adjustment) (ax : ℕ) (f : Flags) → adjusted_value a ax f < 65536
 unfolding adjusted_value
 adjusted-below AsciiAddition ax f = choice-below (low_digit_off (al_of ax) f) _ _ (halves-below _ _) (halves-below _ _)
-adjusted-below AsciiSubtraction ax f = choice-below (low_digit_off (al_of ax) f) _ _ (halves-below _ _) (halves-below _ _)
+adjusted-below AsciiSubtraction ax f = choice-below (low_digit_off (al_of ax) f) _ _ (halves-below _ _)
+    (halves-below _ _)
 adjusted-below DecimalAddition ax f = halves-below _ _
 adjusted-below DecimalSubtraction ax f = halves-below _ _
 adjusted-below AsciiMultiplication ax f = halves-below (al_of ax / 10) (al_of ax % 10)

@@ -30,16 +30,22 @@ last-same (x ∷ P) (y ∷ Q) p q e =
     let r = last-same P Q p q (tail-same x y (P ++ p ∷ []) (Q ++ q ∷ []) e) in
     (ap₂ (λ z Z. z ∷ Z) (head-same x y (P ++ p ∷ []) (Q ++ q ∷ []) e) r.0, r.1)
 
-went-on : (ps zs rs : Processes) (x r : Cpu) (c : Cpu) (m : Memory) (code : ℕ) (answer : Ending) → zs.parents ≡ ps.parents ++ record { segment = ps.present; cpu = return_registers c m } ∷ [] → GoesOn zs x code answer rs r → GoesOnAsParent ps c m code answer rs r
+went-on : (ps zs rs : Processes) (x r : Cpu) (c : Cpu) (m : Memory) (code : ℕ) (answer : Ending) →
+    zs.parents ≡ ps.parents ++ record { segment = ps.present; cpu = return_registers c m } ∷ [] →
+    GoesOn zs x code answer rs r → GoesOnAsParent ps c m code answer rs r
 went-on ps zs rs x r c m code Returned e (p, is, left, back) =
-    let s = last-same ps.parents rs.parents (record { segment = ps.present; cpu = return_registers c m }) p (sym e ∙ is) in
+    let s = last-same ps.parents rs.parents (record { segment = ps.present; cpu = return_registers c m }) p (sym e
+    ∙ is) in
     record {
       returned = refl;
-      processes = left ∙ ap₂ (λ (y : ℕ) (Y : List Parent). record { present = y; parents = Y; code = code }) (ap (λ z. z.segment) (sym s.1)) (sym s.0);
+      processes = left ∙ ap₂ (λ (y : ℕ) (Y : List Parent). record { present = y; parents = Y; code = code })
+          (ap (λ z. z.segment) (sym s.1)) (sym s.0);
       registers = back ∙ ap (λ z. z.cpu) (sym s.1);
     }
-went-on ps zs rs x r c m code Exited e (none, left, back) = absurd (ends-some ps.parents (record { segment = ps.present; cpu = return_registers c m }) (sym e ∙ none))
+went-on ps zs rs x r c m code Exited e (none, left, back) =
+    absurd (ends-some ps.parents (record { segment = ps.present; cpu = return_registers c m }) (sym e ∙ none))
 
 pub goes_on : ParentGoesOn
 goes_on upper ps rs c r m f store strategy code l =
-    went-on ps l.ending rs l.last_registers r c m code l.answer (l.parents ∙ ap (λ z. z.parents) l.execs.processes) l.ends.2.goes_on
+    went-on ps l.ending rs l.last_registers r c m code l.answer (l.parents
+    ∙ ap (λ z. z.parents) l.execs.processes) l.ends.2.goes_on

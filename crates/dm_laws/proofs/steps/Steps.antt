@@ -16,11 +16,13 @@ use Rattle.dm_machine.specs.Step.{Acts, ActsUnlessEnded, Instructs, MakesStep, a
 use Rattle.dm_laws.specs.steps.Steps.{InstructionsKeepStatesWellFormed, IsNoService, StepIsPossible}
 
 acts : (s : State) (e : Option EntryPoint) → IsNoService e → ((x : Answer) → Acts s e x → ⊥) → ⊥
-acts s None n none = none (stop_at Unlisted s) (Instructs.unlisted (λ i length b. none (instructed s i length) (Instructs.listed i length b refl)) refl)
+acts s None n none = none (stop_at Unlisted s) (Instructs.unlisted (λ i length b. none (instructed s i length)
+    (Instructs.listed i length b refl)) refl)
 acts s (Some (entry_point.Service service)) n none = n
 acts s (Some (entry_point.Driver driver)) n none = none (driven s driver) refl
 
-possibly : (s : State) (o : Option ℕ) → IsNoService (entry_point_at s.cpu.cs s.cpu.ip) → ((x : Answer) → ActsUnlessEnded s o x → ⊥) → ⊥
+possibly : (s : State) (o : Option ℕ) → IsNoService (entry_point_at s.cpu.cs s.cpu.ip) →
+    ((x : Answer) → ActsUnlessEnded s o x → ⊥) → ⊥
 possibly s (Some code) n none = none (stop_at (Exited code) s) refl
 possibly s None n none = acts s (entry_point_at s.cpu.cs s.cpu.ip) n none
 
@@ -32,17 +34,21 @@ possible s n none = possibly s s.exited n none
 IsLeft : Answer → Type 0
 IsLeft x = IsWellFormed (guest x.state.cpu x.state.memory)
 
-after-kept : (s : State) (n : Next) (g : Guest) → IsWellFormed (guest s.cpu s.memory) → IsWellFormed g → IsLeft (after s n g)
+after-kept : (s : State) (n : Next) (g : Guest) → IsWellFormed (guest s.cpu s.memory) → IsWellFormed g →
+    IsLeft (after s n g)
 unfolding IsLeft
 after-kept s Go g w v = v
 after-kept s Halt g w v = w
 
 instructs-kept : (s : State) (x : Answer) → Instructs s x → IsWellFormed (guest s.cpu s.memory) → IsLeft x
 unfolding IsLeft
-instructs-kept s x (Instructs.listed i length b e) w = subst IsLeft (sym e) (after-kept s (next_of i.action.mnemonic) (effect (guest s.cpu s.memory) i length) w (keeps_well_formed (guest s.cpu s.memory) i _ length w b.spells))
+instructs-kept s x (Instructs.listed i length b e) w =
+    subst IsLeft (sym e) (after-kept s (next_of i.action.mnemonic) (effect (guest s.cpu s.memory) i length) w
+    (keeps_well_formed (guest s.cpu s.memory) i _ length w b.spells))
 instructs-kept s x (Instructs.unlisted n e) w = subst IsLeft (sym e) w
 
-unless-kept : (s : State) (o : Option ℕ) (x : Answer) → entry_point_at s.cpu.cs s.cpu.ip ≡ None → ActsUnlessEnded s o x → IsWellFormed (guest s.cpu s.memory) → IsLeft x
+unless-kept : (s : State) (o : Option ℕ) (x : Answer) → entry_point_at s.cpu.cs s.cpu.ip ≡ None →
+    ActsUnlessEnded s o x → IsWellFormed (guest s.cpu s.memory) → IsLeft x
 unfolding IsLeft
 unless-kept s (Some code) x n a w = subst IsLeft (sym a) w
 unless-kept s None x n a w = instructs-kept s x (let F : Option EntryPoint → Type 0 = λ e. Acts s e x in subst F n a) w

@@ -15,10 +15,16 @@ first_stays p xs ys i e =
     let below : i < length (xs ++ ys) = subst (λ n. i < n) (sym (length-append xs ys)) (omega (arith, found.0)) in
     let passes : p (get_or (xs ++ ys) i 0) ≡ true = ap p (get_or_append_left xs ys 0 i found.0) ∙ found.1 in
     let at : position_or_len p (xs ++ ys) ≡ i =
-    position_or_len_is p (xs ++ ys) i 0 (omega (arith, below)) (λ k l. ap p (get_or_append_left xs ys 0 k (omega (arith, l, found.0))) ∙ found.2 k l) (λ l. passes) in
-    ap (λ k. cond (nat_lt k (length (xs ++ ys))) (Some k) None) at ∙ ap (λ b. cond b (Some i) None) (lt-ltb i (length (xs ++ ys)) below)
+    position_or_len_is p (xs ++ ys) i 0 (omega (arith, below)) (λ k l. ap p (get_or_append_left xs ys 0 k (omega (
+      arith,
+      l,
+      found.0,
+    ))) ∙ found.2 k l) (λ l. passes) in
+    ap (λ k. cond (nat_lt k (length (xs ++ ys))) (Some k) None) at
+    ∙ ap (λ b. cond b (Some i) None) (lt-ltb i (length (xs ++ ys)) below)
 
-pub line_stays : (input bytes : List ℕ) (line : ℕ) → line_length input ≡ Some line → line_length (input ++ bytes) ≡ Some line
+pub line_stays : (input bytes : List ℕ) (line : ℕ) → line_length input ≡ Some line →
+    line_length (input ++ bytes) ≡ Some line
 unfolding line_length
 line_stays input bytes line e = first_stays (λ byte. byte == 0x0D) input bytes line e
 

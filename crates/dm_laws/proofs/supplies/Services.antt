@@ -40,7 +40,8 @@ module _ (bytes : List ℕ) (more : Bool) where
   unfolding echo_character
   echoes s goes = echo s s.console.input goes
 
-  character : (s : State) (input : List ℕ) → Goes (character_of s input) → A (character_of s input) ≡ character_of (G s) (input ++ bytes)
+  character : (s : State) (input : List ℕ) → Goes (character_of s input) → A (character_of s input)
+      ≡ character_of (G s) (input ++ bytes)
   character s [] goes = absurd (goes refl)
   character s (byte ∷ rest) goes = refl
 
@@ -57,7 +58,8 @@ module _ (bytes : List ℕ) (more : Bool) where
   writes s = refl
 
   direct : (s : State) (b : Bool) → (b && is_used_up s.console.input) ≡ false
-      → A (if b then poll_character s else write_character s) ≡ (if b then poll_character (G s) else write_character (G s))
+      → A (if b then poll_character s else write_character s) ≡ (if b then poll_character (G s) else
+      write_character (G s))
   unfolding poll_character
   direct s true e = poll s s.console.input e
   direct s false e = writes s
@@ -76,7 +78,8 @@ module _ (bytes : List ℕ) (more : Bool) where
 
   -- ---- lines
 
-  line : (s : State) (m : ℕ) (o : Option ℕ) → o ≡ line_length s.console.input → Goes (line_read s m o) → A (line_read s m o) ≡ line_read (G s) m (line_length (s.console.input ++ bytes))
+  line : (s : State) (m : ℕ) (o : Option ℕ) → o ≡ line_length s.console.input → Goes (line_read s m o) →
+      A (line_read s m o) ≡ line_read (G s) m (line_length (s.console.input ++ bytes))
   line s m None e goes = absurd (goes refl)
   line s m (Some k) e goes =
       let fits = line_ends s.console.input k (sym e) in
@@ -84,11 +87,15 @@ module _ (bytes : List ℕ) (more : Bool) where
         memory = filled s.memory s.cpu.ds s.cpu.dx (kept_bytes m input);
         console = record s.console { input = rest; more = more };
       })) in
-      ap (λ input. end input (drop (k + 1) s.console.input ++ bytes)) (sym (taken s.console.input bytes k (omega (arith, fits))))
+      ap (λ input. end input (drop (k + 1) s.console.input ++ bytes)) (sym (taken s.console.input bytes k (omega (
+        arith,
+        fits,
+      ))))
       ∙ ap (λ rest. end (take k (s.console.input ++ bytes)) rest) (sym (left s.console.input bytes (k + 1) fits))
       ∙ ap (line_read (G s) m) (sym (line_stays s.console.input bytes k (sym e)))
 
-  into : (s : State) (m : ℕ) (b : Bool) → Goes (if b then go (interrupt_returned s) else line_read s m (line_length s.console.input))
+  into : (s : State) (m : ℕ) (b : Bool) → Goes (if b then go (interrupt_returned s) else
+      line_read s m (line_length s.console.input))
       → A (if b then go (interrupt_returned s) else line_read s m (line_length s.console.input))
       ≡ (if b then go (interrupt_returned (G s)) else line_read (G s) m (line_length (s.console.input ++ bytes)))
   into s m true goes = refl
@@ -96,14 +103,18 @@ module _ (bytes : List ℕ) (more : Bool) where
 
   pub reads_line : (s : State) → Goes (read_line s) → A (read_line s) ≡ read_line (G s)
   unfolding read_line
-  reads_line s goes = into s (peek s.memory (linear s.memory.a20 s.cpu.ds s.cpu.dx)) (peek s.memory (linear s.memory.a20 s.cpu.ds s.cpu.dx) == 0) goes
+  reads_line s goes = into s (peek s.memory (linear s.memory.a20 s.cpu.ds s.cpu.dx))
+      (peek s.memory (linear s.memory.a20 s.cpu.ds s.cpu.dx) == 0) goes
 
   -- ---- 0Ch
 
   five : (s : State) (a b c d e : Bool) → (b && polls_in_vain s) ≡ false
-      → Goes (if a then echo_character s else if b then direct_character s else if c then read_character s else if d then read_character s else if e then read_line s else go (interrupt_returned (with_al s 0)))
-      → A (if a then echo_character s else if b then direct_character s else if c then read_character s else if d then read_character s else if e then read_line s else go (interrupt_returned (with_al s 0)))
-      ≡ (if a then echo_character (G s) else if b then direct_character (G s) else if c then read_character (G s) else if d then read_character (G s) else if e then read_line (G s) else go (interrupt_returned (with_al (G s) 0)))
+      → Goes (if a then echo_character s else if b then direct_character s else if c then read_character s else if d
+      then read_character s else if e then read_line s else go (interrupt_returned (with_al s 0)))
+      → A (if a then echo_character s else if b then direct_character s else if c then read_character s else if d then
+      read_character s else if e then read_line s else go (interrupt_returned (with_al s 0)))
+      ≡ (if a then echo_character (G s) else if b then direct_character (G s) else if c then read_character (G s) else
+      if d then read_character (G s) else if e then read_line (G s) else go (interrupt_returned (with_al (G s) 0)))
   five s true b c d e asks goes = echoes s goes
   five s false true c d e asks goes = acts_directly s asks
   five s false false true d e asks goes = reads s goes
@@ -111,9 +122,11 @@ module _ (bytes : List ℕ) (more : Bool) where
   five s false false false false true asks goes = reads_line s goes
   five s false false false false false asks goes = refl
 
-  pub flushes : (s : State) → (byte_of s.cpu Al == 0x06 && polls_in_vain s) ≡ false → Goes (flush_and_read s) → A (flush_and_read s) ≡ flush_and_read (G s)
+  pub flushes : (s : State) → (byte_of s.cpu Al == 0x06 && polls_in_vain s) ≡ false → Goes (flush_and_read s) →
+      A (flush_and_read s) ≡ flush_and_read (G s)
   unfolding flush_and_read
-  flushes s asks goes = let n = byte_of s.cpu Al in five s (n == 0x01) (n == 0x06) (n == 0x07) (n == 0x08) (n == 0x0A) asks goes
+  flushes s asks goes = let n = byte_of s.cpu Al in five s (n == 0x01) (n == 0x06) (n == 0x07) (n == 0x08)
+      (n == 0x0A) asks goes
 
   -- ---- handles
 
@@ -124,25 +137,35 @@ module _ (bytes : List ℕ) (more : Bool) where
       let none : n ≡ 0 = eqb-true n 0 (both_hold m (n == 0) outer.0).1 in
       omega (arith, l, none, ltb-true 0 cx outer.1))
 
-  same : (s : State) (read : List ℕ) → length read ≤ length s.console.input → A (read_from_console s read) ≡ read_from_console (G s) read
+  same : (s : State) (read : List ℕ) → length read ≤ length s.console.input → A (read_from_console s read)
+      ≡ read_from_console (G s) read
   same s read l =
-      let end : List ℕ → Answer = λ rest. go (with_carry (interrupt_returned (with_ax (with_input (with_read (G s) read) rest) (length read))) false) in
+      let end : List ℕ → Answer =
+      λ rest. go (with_carry (interrupt_returned (with_ax (with_input (with_read (G s) read) rest) (length read)))
+      false) in
       ap end (sym (left s.console.input bytes (length read) l))
 
-  enough : (s : State) → s.cpu.cx ≤ length s.console.input → A (read_unless (waits s) s) ≡ read_unless (waits (G s)) (G s)
+  enough : (s : State) → s.cpu.cx ≤ length s.console.input → A (read_unless (waits s) s)
+      ≡ read_unless (waits (G s)) (G s)
   enough s l =
       let input = s.console.input in let cx = s.cpu.cx in
-      let more_fits : cx ≤ length (input ++ bytes) = subst (λ n. cx ≤ n) (sym (length-append input bytes)) (omega (arith, l)) in
-      let here : read_unless (waits s) s ≡ read_from_console s (take cx input) = ap (λ b. read_unless b s) (waits_not s.console.more (length input) cx l) in
-      let there : read_unless (waits (G s)) (G s) ≡ read_from_console (G s) (take cx (input ++ bytes)) = ap (λ b. read_unless b (G s)) (waits_not more (length (input ++ bytes)) cx more_fits) in
-      ap A here ∙ same s (take cx input) (subst (λ n. n ≤ length input) (sym (length-take-le cx input l)) l) ∙ ap (read_from_console (G s)) (sym (taken input bytes cx l)) ∙ sym there
+      let more_fits : cx ≤ length (input ++ bytes) = subst (λ n. cx ≤ n) (sym (length-append input bytes))
+      (omega (arith, l)) in
+      let here : read_unless (waits s) s ≡ read_from_console s (take cx input) =
+      ap (λ b. read_unless b s) (waits_not s.console.more (length input) cx l) in
+      let there : read_unless (waits (G s)) (G s) ≡ read_from_console (G s) (take cx (input ++ bytes)) =
+      ap (λ b. read_unless b (G s)) (waits_not more (length (input ++ bytes)) cx more_fits) in
+      ap A here ∙ same s (take cx input) (subst (λ n. n ≤ length input) (sym (length-take-le cx input l)) l)
+      ∙ ap (read_from_console (G s)) (sym (taken input bytes cx l)) ∙ sym there
 
   by_handle : (s : State) (b : Bool) → (b && nat_lt (length s.console.input) s.cpu.cx) ≡ false
-      → A (if b then read_unless (waits s) s else bad_handle s) ≡ (if b then read_unless (waits (G s)) (G s) else bad_handle (G s))
+      → A (if b then read_unless (waits s) s else bad_handle s) ≡ (if b then read_unless (waits (G s)) (G s) else
+      bad_handle (G s))
   unfolding bad_handle
   by_handle s true e = enough s (ltb-false (length s.console.input) s.cpu.cx e)
   by_handle s false e = refl
 
-  pub reads_handle : (s : State) → (nat_lt s.cpu.bx 3 && nat_lt (length s.console.input) s.cpu.cx) ≡ false → A (read_handle s) ≡ read_handle (G s)
+  pub reads_handle : (s : State) → (nat_lt s.cpu.bx 3 && nat_lt (length s.console.input) s.cpu.cx) ≡ false →
+      A (read_handle s) ≡ read_handle (G s)
   unfolding read_handle
   reads_handle s asks = by_handle s (nat_lt s.cpu.bx 3) asks

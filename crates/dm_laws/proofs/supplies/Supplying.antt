@@ -61,7 +61,8 @@ module _ (bytes : List ℕ) (more : Bool) where
   on_settled s (Ok u) m = refl
   on_settled s (Err e) m = refl
 
-  on_executed : (s : State) (r : Result (Unit {0}) ExecRefusal) (q : Processes) (c : Cpu) (m : Memory) → A (executed s r q c m) ≡ executed (G s) r q c m
+  on_executed : (s : State) (r : Result (Unit {0}) ExecRefusal) (q : Processes) (c : Cpu) (m : Memory) →
+      A (executed s r q c m) ≡ executed (G s) r q c m
   on_executed s (Ok u) q c m = refl
   on_executed s (Err e) q c m = refl
 
@@ -69,7 +70,8 @@ module _ (bytes : List ℕ) (more : Bool) where
   on_overlaid s (Ok u) m = refl
   on_overlaid s (Err e) m = refl
 
-  on_concluded : (s : State) (code : ℕ) (r : Result Ending ArenaDestroyed) (q : Processes) (c : Cpu) (m : Memory) → A (concluded s code r q c m) ≡ concluded (G s) code r q c m
+  on_concluded : (s : State) (code : ℕ) (r : Result Ending ArenaDestroyed) (q : Processes) (c : Cpu) (m : Memory) →
+      A (concluded s code r q c m) ≡ concluded (G s) code r q c m
   on_concluded s code (Ok Returned) q c m = refl
   on_concluded s code (Ok Exited) q c m = refl
   on_concluded s code (Err e) q c m = refl
@@ -105,7 +107,12 @@ module _ (bytes : List ℕ) (more : Bool) where
   }
 
   loading : (s : State) (b : Bool) (x : Answer) → LoadingAs b s x → LoadingAs b (G s) (A x)
-  loading s true x l = record { result = l.result; memory = l.memory; overlays = l.overlays; answer = ap A l.answer ∙ on_overlaid s l.result l.memory }
+  loading s true x l = record {
+    result = l.result;
+    memory = l.memory;
+    overlays = l.overlays;
+    answer = ap A l.answer ∙ on_overlaid s l.result l.memory;
+  }
   loading s false x l = record {
     result = l.result;
     processes = l.processes;
@@ -121,7 +128,12 @@ module _ (bytes : List ℕ) (more : Bool) where
 
   sets_link : (s : State) (o : Option Bool) (x : Answer) → SetsLink o s x → SetsLink o (G s) (A x)
   sets_link s None x e = ap A e
-  sets_link s (Some on) x l = record { result = l.result; memory = l.memory; links = l.links; answer = ap A l.answer ∙ on_settled s l.result l.memory }
+  sets_link s (Some on) x l = record {
+    result = l.result;
+    memory = l.memory;
+    links = l.links;
+    answer = ap A l.answer ∙ on_settled s l.result l.memory;
+  }
 
   strategies : (s : State) (f : StrategyFunction) (x : Answer) → StrategyCalls s f x → StrategyCalls (G s) f (A x)
   strategies s TellStrategy x e = ap A e
@@ -130,7 +142,8 @@ module _ (bytes : List ℕ) (more : Bool) where
   strategies s SetLink x l = sets_link s (wanted s.upper s.cpu.bx) x l
   strategies s Unknown x e = ap A e
 
-  writes_handle : (s : State) (b : Bool) → A (if b then write_to_console s else bad_handle s) ≡ (if b then write_to_console (G s) else bad_handle (G s))
+  writes_handle : (s : State) (b : Bool) → A (if b then write_to_console s else bad_handle s) ≡ (if b then
+      write_to_console (G s) else bad_handle (G s))
   unfolding bad_handle
   writes_handle s true = refl
   writes_handle s false = refl
@@ -138,7 +151,8 @@ module _ (bytes : List ℕ) (more : Bool) where
   goes_by : (x y : Answer) → x ≡ y → (x.stop ≡ Some InputEnded → ⊥) → y.stop ≡ Some InputEnded → ⊥
   goes_by x y e goes h = goes (ap (λ (z : Answer). z.stop) e ∙ h)
 
-  calls : (s : State) (f : Function) (x : Answer) → Calls s f x → asks_by s f ≡ false → (x.stop ≡ Some InputEnded → ⊥) → Calls (G s) f (A x)
+  calls : (s : State) (f : Function) (x : Answer) → Calls s f x → asks_by s f ≡ false → (x.stop ≡ Some InputEnded → ⊥) →
+      Calls (G s) f (A x)
   unfolding write_handle print set_vector get_vector tell_version tell_process tell_code no_function
   calls s function.EchoCharacter x e a goes = ap A e ∙ echoes bytes more s (goes_by x _ e goes)
   calls s function.WriteCharacter x e a goes = ap A e ∙ writes bytes more s
@@ -155,9 +169,24 @@ module _ (bytes : List ℕ) (more : Bool) where
   calls s function.GetVector x e a goes = ap A e
   calls s function.ReadHandle x e a goes = ap A e ∙ reads_handle bytes more s a
   calls s function.WriteHandle x e a goes = ap A e ∙ writes_handle s _
-  calls s function.Allocate x l a goes = record { result = l.result; memory = l.memory; allocates = l.allocates; answer = ap A l.answer ∙ on_allocated s l.result l.memory }
-  calls s function.Free x l a goes = record { result = l.result; memory = l.memory; frees = l.frees; answer = ap A l.answer ∙ on_settled s l.result l.memory }
-  calls s function.Resize x l a goes = record { result = l.result; memory = l.memory; resizes = l.resizes; answer = ap A l.answer ∙ on_settled s l.result l.memory }
+  calls s function.Allocate x l a goes = record {
+    result = l.result;
+    memory = l.memory;
+    allocates = l.allocates;
+    answer = ap A l.answer ∙ on_allocated s l.result l.memory;
+  }
+  calls s function.Free x l a goes = record {
+    result = l.result;
+    memory = l.memory;
+    frees = l.frees;
+    answer = ap A l.answer ∙ on_settled s l.result l.memory;
+  }
+  calls s function.Resize x l a goes = record {
+    result = l.result;
+    memory = l.memory;
+    resizes = l.resizes;
+    answer = ap A l.answer ∙ on_settled s l.result l.memory;
+  }
   calls s function.LoadProgram x l a goes = loading s _ x l
   calls s function.Exit x t a goes = terminating s (byte_of s.cpu Al) x t
   calls s function.ExitCode x e a goes = ap A e
@@ -178,21 +207,25 @@ module _ (bytes : List ℕ) (more : Bool) where
   after_next s Halt g = refl
 
   instructs : (s : State) (x : Answer) → Instructs s x → Instructs (G s) (A x)
-  instructs s x (Instructs.listed i length b e) = Instructs.listed i length b (ap A e ∙ after_next s (next_of i.action.mnemonic) (effect (guest s.cpu s.memory) i length))
+  instructs s x (Instructs.listed i length b e) = Instructs.listed i length b (ap A e
+      ∙ after_next s (next_of i.action.mnemonic) (effect (guest s.cpu s.memory) i length))
   instructs s x (Instructs.unlisted n e) = Instructs.unlisted n (ap A e)
 
-  acts : (s : State) (p : Option EntryPoint) (x : Answer) → Acts s p x → asks_at s p ≡ false → (x.stop ≡ Some InputEnded → ⊥) → Acts (G s) p (A x)
+  acts : (s : State) (p : Option EntryPoint) (x : Answer) → Acts s p x → asks_at s p ≡ false →
+      (x.stop ≡ Some InputEnded → ⊥) → Acts (G s) p (A x)
   acts s None x i a goes = instructs s x i
   acts s (Some (entry_point.Driver driver)) x e a goes = ap A e ∙ drives s driver
   acts s (Some (entry_point.Service service.DivideError)) x t a goes = terminating s 0xFF x t
   acts s (Some (entry_point.Service service.Terminate)) x t a goes = terminating s 0 x t
   acts s (Some (entry_point.Service service.Dos)) x c a goes = calls s (function_of (byte_of s.cpu Ah)) x c a goes
 
-  unless_ended : (s : State) (o : Option ℕ) (x : Answer) → ActsUnlessEnded s o x → asks s ≡ false → (x.stop ≡ Some InputEnded → ⊥) → ActsUnlessEnded (G s) o (A x)
+  unless_ended : (s : State) (o : Option ℕ) (x : Answer) → ActsUnlessEnded s o x → asks s ≡ false →
+      (x.stop ≡ Some InputEnded → ⊥) → ActsUnlessEnded (G s) o (A x)
   unless_ended s (Some code) x e a goes = ap A e
   unless_ended s None x t a goes = acts s (entry_point_at s.cpu.cs s.cpu.ip) x t a goes
 
-  steps : (s : State) (x : Answer) → MakesStep s x → asks s ≡ false → (x.stop ≡ Some InputEnded → ⊥) → MakesStep (G s) (A x)
+  steps : (s : State) (x : Answer) → MakesStep s x → asks s ≡ false → (x.stop ≡ Some InputEnded → ⊥) →
+      MakesStep (G s) (A x)
   unfolding MakesStep
   steps s x m a goes = unless_ended s s.exited x m a goes
 
@@ -203,7 +236,8 @@ module _ (bytes : List ℕ) (more : Bool) where
 
   pub goes : (s : State) (n : ℕ) (t : State) → GoesUnasked s n t → Goes (G s) n (G t)
   goes s n t GoesUnasked.here = Goes.here
-  goes s n t (GoesUnasked.further k u v g a m) = Goes.further k (G u) (G v) (goes s k u g) (steps u (record { stop = None; state = v }) m a no_stop)
+  goes s n t (GoesUnasked.further k u v g a m) = Goes.further k (G u) (G v) (goes s k u g)
+      (steps u (record { stop = None; state = v }) m a no_stop)
 
 pub steps_take : StepsTakeMoreInput
 steps_take s x bytes more m a goes = steps bytes more s x m a goes
@@ -211,7 +245,8 @@ steps_take s x bytes more m a goes = steps bytes more s x m a goes
 -- a run and then another one
 joined : (s : State) (n : ℕ) (t : State) (m : ℕ) (u : State) → Goes s n t → Goes t m u → Goes s (n + m) u
 joined s n t m u first Goes.here = subst (λ k. Goes s k t) (omega arith) first
-joined s n t m u first (Goes.further k v w g step) = subst (λ j. Goes s j w) (omega arith) (Goes.further (n + k) v w (joined s n t k v first g) step)
+joined s n t m u first (Goes.further k v w g step) =
+    subst (λ j. Goes s j w) (omega arith) (Goes.further (n + k) v w (joined s n t k v first g) step)
 
 pub pieces_are_one : PiecesAreOneInput
 pieces_are_one s t pieces n more (GoesByPieces.whole r u k g) = goes [] more r k u g
@@ -219,5 +254,7 @@ pieces_are_one s t pieces n more (GoesByPieces.piece r v u k m bytes others g re
     let all : List ℕ = bytes ++ concat others in
     let one : State = supplied all more v in
     let two : State = supplied (concat others) more (supplied bytes v.console.more v) in
-    let same : one ≡ two = ap (λ input. record v { console = record v.console { input = input; more = more } }) (sym (append_assoc v.console.input bytes (concat others))) in
-    joined (supplied all more r) k two m (supplied [] more u) (subst (λ w. Goes (supplied all more r) k w) same (goes all more r k v g)) (pieces_are_one (supplied bytes v.console.more v) u others m more rest)
+    let same : one ≡ two = ap (λ input. record v { console = record v.console { input = input; more = more } })
+    (sym (append_assoc v.console.input bytes (concat others))) in
+    joined (supplied all more r) k two m (supplied [] more u) (subst (λ w. Goes (supplied all more r) k w) same
+    (goes all more r k v g)) (pieces_are_one (supplied bytes v.console.more v) u others m more rest)

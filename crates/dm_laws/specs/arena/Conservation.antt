@@ -33,7 +33,8 @@ pub record Allocated (upper : Bool) (S T : Memory) (n owner segment : ℕ) : Typ
 -- 48h, if it succeeds, conserves the blocks
 abbrev pub AllocationConservesBlocks : Type 0
 AllocationConservesBlocks =
-    (upper : Bool) (S T : Memory) (strategy : Strategy) (n owner segment : ℕ) → Allocates upper S strategy n owner (Ok segment) T → Allocated upper S T n owner segment
+    (upper : Bool) (S T : Memory) (strategy : Strategy) (n owner segment : ℕ) →
+    Allocates upper S strategy n owner (Ok segment) T → Allocated upper S T n owner segment
 
 -- the block at the segment becomes free where it is; each other block is kept, and every other block was there before
 pub record Freed (S T : Memory) (segment : ℕ) : Type 0 where
@@ -51,7 +52,8 @@ pub record Freed (S T : Memory) (segment : ℕ) : Type 0 where
 
 -- 49h, if it succeeds, conserves the blocks
 abbrev pub FreeingConservesBlocks : Type 0
-FreeingConservesBlocks = (upper : Bool) (S T : Memory) (segment : ℕ) → Frees upper S segment (Ok tt) T → Freed S T segment
+FreeingConservesBlocks = (upper : Bool) (S T : Memory) (segment : ℕ) → Frees upper S segment (Ok tt) T →
+    Freed S T segment
 
 -- the block at the segment has the wanted size, and its owner as before; its paragraphs all were its own or free; each
 -- other used block is kept, and every other block with an owner was there before
@@ -71,7 +73,8 @@ pub record Resized (upper : Bool) (S T : Memory) (segment n : ℕ) : Type 0 wher
 
 -- 4Ah, if it succeeds, conserves the blocks
 abbrev pub ResizingConservesBlocks : Type 0
-ResizingConservesBlocks = (upper : Bool) (S T : Memory) (segment n : ℕ) → Resizes upper S segment n (Ok tt) T → Resized upper S T segment n
+ResizingConservesBlocks = (upper : Bool) (S T : Memory) (segment n : ℕ) → Resizes upper S segment n (Ok tt) T →
+    Resized upper S T segment n
 
 -- 48h and then 49h of the new block leave the same list, once free blocks side by side are joined in both. Where upper
 -- memory belongs to the arena, the list must not come to have a header at the link block's segment by this: that
@@ -79,6 +82,7 @@ ResizingConservesBlocks = (upper : Bool) (S T : Memory) (segment n : ℕ) → Re
 -- no list does that DOS made.)
 abbrev pub AllocateThenFreeJoins : Type 0
 AllocateThenFreeJoins =
-    (upper : Bool) (S T U : Memory) (strategy : Strategy) (n owner segment : ℕ) (old new : List Header) → Allocates upper S strategy n owner (Ok segment) T
+    (upper : Bool) (S T U : Memory) (strategy : Strategy) (n owner segment : ℕ) (old new : List Header) →
+    Allocates upper S strategy n owner (Ok segment) T
     → Frees upper T segment (Ok tt) U → IsArena S first_header old → IsArena U first_header new
     → (upper ≡ true → is_linked new ≡ is_linked old) → join upper new ≡ join upper old

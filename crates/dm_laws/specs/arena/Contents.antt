@@ -14,7 +14,8 @@ use Rattle.dm_laws.specs.arena.Paragraphs.{paragraphs_taken}
 abbrev pub Succeeds : Bool → Memory → Memory → Type 0
 Succeeds upper S T =
     ((strategy : Strategy) × (n : ℕ) × (owner : ℕ) × (segment : ℕ) × Allocates upper S strategy n owner (Ok segment) T)
-    ⊎ (((segment : ℕ) × Frees upper S segment (Ok tt) T) ⊎ ((segment : ℕ) × (n : ℕ) × Resizes upper S segment n (Ok tt) T))
+    ⊎ (((segment : ℕ) × Frees upper S segment (Ok tt) T) ⊎ ((segment : ℕ) × (n : ℕ) ×
+    Resizes upper S segment n (Ok tt) T))
 
 -- the bytes of the list's blocks, without the headers, are the same in T as in S, by their linear addresses
 abbrev pub KeepsContents : List Header → Memory → Memory → Type 0
@@ -24,5 +25,6 @@ KeepsContents L S T = (b : Header) (a : ℕ) → IsIn b L → 16 * (b.segment + 
 -- memory, which ends at A000h. (Elsewhere a window can show a block's bytes where a header is)
 abbrev pub CallsKeepContents : Type 0
 CallsKeepContents =
-    (upper : Bool) (S T : Memory) (new : List Header) → Succeeds upper S T → IsArena T first_header new → first_header + paragraphs_taken new ≤ 0xA000
+    (upper : Bool) (S T : Memory) (new : List Header) → Succeeds upper S T → IsArena T first_header new →
+    first_header + paragraphs_taken new ≤ 0xA000
     → KeepsContents new S T

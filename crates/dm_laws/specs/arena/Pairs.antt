@@ -20,7 +20,9 @@ OwnsNone owner L = (b : Header) → IsIn b L → b.owner ≢ owner
 -- segment by this, as in `AllocateThenFreeJoins`
 abbrev pub PairThenReleaseJoins : Type 0
 PairThenReleaseJoins =
-    (upper : Bool) (S T E U : Memory) (strategy : Strategy) (environment least most : ℕ) (placed : Placed) (old taken new : List Header)
-    → Pairs upper S strategy environment least most (Ok placed) T → IsArena S first_header old → IsArena T first_header taken
+    (upper : Bool) (S T E U : Memory) (strategy : Strategy) (environment least most : ℕ) (placed : Placed)
+    (old taken new : List Header)
+    → Pairs upper S strategy environment least most (Ok placed) T → IsArena S first_header old →
+    IsArena T first_header taken
     → IsArena E first_header taken → Releases upper E placed.program (Ok tt) U → IsArena U first_header new
     → OwnsNone placed.program old → (upper ≡ true → is_linked new ≡ is_linked old) → join upper new ≡ join upper old

@@ -64,7 +64,8 @@ pub record HasPackedSum (y : Accumulator) (number h : ℕ) : Type 0 where
 abbrev pub PackedDigitsAdd : Type 0
 PackedDigitsAdd =
     (x : Accumulator) (b : ℕ) (carry : Bool) → x.ax < 65536 → IsPacked (al_of x.ax) → IsPacked b
-    → HasPackedSum (by_adjustment DecimalAddition (by_addition x b carry)) (packed (al_of x.ax) + packed b + from_bool carry) (ah_of x.ax)
+    → HasPackedSum (by_adjustment DecimalAddition (by_addition x b carry)) (packed (al_of x.ax) + packed b
+    + from_bool carry) (ah_of x.ax)
 
 -- AL has the digits of a difference: with what is taken away it makes the number, and 100 for the carry flag, which is
 -- the borrow; AH is h
@@ -77,7 +78,8 @@ pub record HasPackedDifference (y : Accumulator) (taken number h : ℕ) : Type 0
 abbrev pub PackedDigitsSubtract : Type 0
 PackedDigitsSubtract =
     (x : Accumulator) (b : ℕ) (borrow : Bool) → x.ax < 65536 → IsPacked (al_of x.ax) → IsPacked b
-    → HasPackedDifference (by_adjustment DecimalSubtraction (subtracted x b borrow)) (packed b + from_bool borrow) (packed (al_of x.ax)) (ah_of x.ax)
+    → HasPackedDifference (by_adjustment DecimalSubtraction (subtracted x b borrow)) (packed b + from_bool borrow)
+    (packed (al_of x.ax)) (ah_of x.ax)
 
 -- a byte with an unpacked digit, which is its low half; the high half is anything, as the 3 of an ASCII digit
 pub record IsUnpacked (n : ℕ) : Type 0 where
@@ -99,7 +101,8 @@ pub record HasUnpackedSum (y : Accumulator) (number h : ℕ) : Type 0 where
 abbrev pub UnpackedDigitsAdd : Type 0
 UnpackedDigitsAdd =
     (x : Accumulator) (b : ℕ) (carry : Bool) → x.ax < 65536 → IsUnpacked (al_of x.ax) → IsUnpacked b
-    → HasUnpackedSum (by_adjustment AsciiAddition (by_addition x b carry)) (unpacked (al_of x.ax) + unpacked b + from_bool carry) (ah_of x.ax)
+    → HasUnpackedSum (by_adjustment AsciiAddition (by_addition x b carry)) (unpacked (al_of x.ax) + unpacked b
+    + from_bool carry) (ah_of x.ax)
 
 -- AL is the digit of a difference: with what is taken away it makes the number, and 10 for the carry flag, which is the
 -- borrow; AH, which was h, has given it, modulo 256
@@ -112,7 +115,8 @@ pub record HasUnpackedDifference (y : Accumulator) (taken number h : ℕ) : Type
 abbrev pub UnpackedDigitsSubtract : Type 0
 UnpackedDigitsSubtract =
     (x : Accumulator) (b : ℕ) (borrow : Bool) → x.ax < 65536 → IsUnpacked (al_of x.ax) → IsUnpacked b
-    → HasUnpackedDifference (by_adjustment AsciiSubtraction (subtracted x b borrow)) (unpacked b + from_bool borrow) (unpacked (al_of x.ax)) (ah_of x.ax)
+    → HasUnpackedDifference (by_adjustment AsciiSubtraction (subtracted x b borrow)) (unpacked b + from_bool borrow)
+    (unpacked (al_of x.ax)) (ah_of x.ax)
 
 -- AH and AL have the digits of the number
 pub record HasDigits (y : Accumulator) (number : ℕ) : Type 0 where
@@ -123,17 +127,22 @@ pub record HasDigits (y : Accumulator) (number : ℕ) : Type 0 where
 -- MUL of two digits, and AAM
 abbrev pub UnpackedDigitsMultiply : Type 0
 UnpackedDigitsMultiply =
-    (x : Accumulator) (b : ℕ) → al_of x.ax < 10 → b < 10 → HasDigits (by_adjustment AsciiMultiplication (by_multiplication x b)) (al_of x.ax * b)
+    (x : Accumulator) (b : ℕ) → al_of x.ax < 10 → b < 10 →
+    HasDigits (by_adjustment AsciiMultiplication (by_multiplication x b)) (al_of x.ax * b)
 
 -- AAD, and DIV by a digit: AX is the number that the digits in AH and AL spell, which is the quotient times the divisor
 -- and the remainder, below the divisor
 pub record IsDividedByDigit (x : Accumulator) (d : ℕ) : Type 0 where
   pub quotient : ℕ
   pub remainder : ℕ
-  pub divided : quotient_of Unsigned Byte (by_adjustment AsciiDivision x).ax d ≡ Some (record { quotient = quotient; remainder = remainder })
+  pub divided : quotient_of Unsigned Byte (by_adjustment AsciiDivision x).ax d ≡ Some (record {
+    quotient = quotient;
+    remainder = remainder;
+  })
   pub number : quotient * d + remainder ≡ 10 * ah_of x.ax + al_of x.ax
   pub less : remainder < d
 
 -- AAD of two digits, and DIV by a digit that is not 0
 abbrev pub UnpackedDigitsDivide : Type 0
-UnpackedDigitsDivide = (x : Accumulator) (d : ℕ) → ah_of x.ax < 10 → al_of x.ax < 10 → d < 10 → d ≢ 0 → IsDividedByDigit x d
+UnpackedDigitsDivide = (x : Accumulator) (d : ℕ) → ah_of x.ax < 10 → al_of x.ax < 10 → d < 10 → d ≢ 0 →
+    IsDividedByDigit x d

@@ -64,9 +64,11 @@ after_difference x (p ∷ L) = after_difference (place_subtracted x p) L
 -- number and the first borrow they spell the first number, where the last borrow counts as much as a further place
 pub record NumbersComputed (x : Accumulator) (L : List Places) : Type 0 where
   pub sum :
-      packed_number (sum_bytes x L) + 100 ^ length L * from_bool (after_sum x L).flags.carry ≡ first_number L + second_number L + from_bool x.flags.carry
+      packed_number (sum_bytes x L) + 100 ^ length L * from_bool (after_sum x L).flags.carry
+      ≡ first_number L + second_number L + from_bool x.flags.carry
   pub difference :
-      packed_number (difference_bytes x L) + (second_number L + from_bool x.flags.carry) ≡ first_number L + 100 ^ length L * from_bool (after_difference x L).flags.carry
+      packed_number (difference_bytes x L) + (second_number L + from_bool x.flags.carry)
+      ≡ first_number L + 100 ^ length L * from_bool (after_difference x L).flags.carry
 
 -- decimal numbers of any length are added and subtracted
 abbrev pub NumbersAddAndSubtract : Type 0

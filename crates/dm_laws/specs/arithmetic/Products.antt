@@ -37,7 +37,8 @@ pub record IsSignedQuotient (w : Width) (n d : ℕ) (r : Division) : Type 0 wher
 -- IDIV of n by d has such a quotient, or none if d is 0 or the quotient is out of that range
 pub record DividesSigned (w : Width) (n d : ℕ) : Type 0 where
   pub divided : (r : Division) → quotient_of Signed w n d ≡ Some r → IsSignedQuotient w n d r
-  pub refused : quotient_of Signed w n d ≡ None → (d ≡ 0) ⊎ (half w * unsigned_abs (signed w d) ≤ unsigned_abs (signed_double w n))
+  pub refused : quotient_of Signed w n d ≡ None → (d ≡ 0) ⊎ (half w * unsigned_abs (signed w d)
+      ≤ unsigned_abs (signed_double w n))
 
 -- IDIV divides; the divisor is a value of the width
 abbrev pub SignedDivisionDivides : Type 0
@@ -46,7 +47,8 @@ SignedDivisionDivides = (w : Width) (n d : ℕ) → d < size w → DividesSigned
 -- MUL of a by d, and DIV by d: the quotient is a, with no remainder
 abbrev pub DivisionUndoesMultiplication : Type 0
 DivisionUndoesMultiplication =
-    (w : Width) (a d : ℕ) → a < size w → d ≢ 0 → quotient_of Unsigned w (product_value Unsigned w a d) d ≡ Some (record { quotient = a; remainder = 0 })
+    (w : Width) (a d : ℕ) → a < size w → d ≢ 0 → quotient_of Unsigned w (product_value Unsigned w a d) d
+    ≡ Some (record { quotient = a; remainder = 0 })
 
 -- IMUL of a by d, and IDIV by d: the same. The value that stands for -128 or -32,768 is no quotient of IDIV
 abbrev pub SignedDivisionUndoesMultiplication : Type 0

@@ -17,7 +17,10 @@ pub record Shiftable : Type 0 where
 
 -- a shift or rotate by `count` bits
 abbrev pub turned : ShiftOperation → Width → ℕ → Shiftable → Shiftable
-turned op w count x = record { value = shift_value op w x.value count x.flags; flags = flags_after_shift op w x.value count x.flags }
+turned op w count x = record {
+  value = shift_value op w x.value count x.flags;
+  flags = flags_after_shift op w x.value count x.flags;
+}
 
 -- the operand with the overflow flag cleared: shifts by one bit alone define that flag
 abbrev pub without_overflow : Shiftable → Shiftable
@@ -27,7 +30,8 @@ without_overflow x = record x { flags = record x.flags { overflow = false } }
 -- bit; the overflow flag apart
 abbrev pub ShiftsAddUp : Type 0
 ShiftsAddUp =
-    (op : ShiftOperation) (w : Width) (a b : ℕ) (x : Shiftable) → without_overflow (turned op w (a + b) x) ≡ without_overflow (turned op w b (turned op w a x))
+    (op : ShiftOperation) (w : Width) (a b : ℕ) (x : Shiftable) → without_overflow (turned op w (a + b) x)
+    ≡ without_overflow (turned op w b (turned op w a x))
 
 -- SHL multiplies by a power of 2, modulo the width; SHR divides by one, cut towards zero; SAR divides the signed number
 -- by one, cut towards minus infinity, so that the remainder is never negative
@@ -36,7 +40,8 @@ pub record ShiftsByPower (w : Width) (count : ℕ) (x : Shiftable) : Type 0 wher
   pub right : (turned LogicalRight w count x).value ≡ x.value / 2 ^ count
   pub remainder : ℕ
   pub less : remainder < 2 ^ count
-  pub signed_right : signed w (turned ArithmeticRight w count x).value *ℤ pos (2 ^ count) +ℤ pos remainder ≡ signed w x.value
+  pub signed_right : signed w (turned ArithmeticRight w count x).value *ℤ pos (2 ^ count) +ℤ pos remainder
+      ≡ signed w x.value
 
 -- shifts double and halve the values of a width
 abbrev pub ShiftingDoublesOrHalves : Type 0
@@ -46,10 +51,14 @@ ShiftingDoublesOrHalves = (w : Width) (count : ℕ) (x : Shiftable) → x.value 
 pub record RotatesBack (w : Width) (count : ℕ) (x : Shiftable) : Type 0 where
   pub left_right : (turned RotateRight w count (turned RotateLeft w count x)).value ≡ x.value
   pub right_left : (turned RotateLeft w count (turned RotateRight w count x)).value ≡ x.value
-  pub through_left_right : (turned RotateThroughCarryRight w count (turned RotateThroughCarryLeft w count x)).value ≡ x.value
-  pub carry_left_right : (turned RotateThroughCarryRight w count (turned RotateThroughCarryLeft w count x)).flags.carry ≡ x.flags.carry
-  pub through_right_left : (turned RotateThroughCarryLeft w count (turned RotateThroughCarryRight w count x)).value ≡ x.value
-  pub carry_right_left : (turned RotateThroughCarryLeft w count (turned RotateThroughCarryRight w count x)).flags.carry ≡ x.flags.carry
+  pub through_left_right : (turned RotateThroughCarryRight w count (turned RotateThroughCarryLeft w count x)).value
+      ≡ x.value
+  pub carry_left_right : (turned RotateThroughCarryRight w count (turned RotateThroughCarryLeft w count x)).flags.carry
+      ≡ x.flags.carry
+  pub through_right_left : (turned RotateThroughCarryLeft w count (turned RotateThroughCarryRight w count x)).value
+      ≡ x.value
+  pub carry_right_left : (turned RotateThroughCarryLeft w count (turned RotateThroughCarryRight w count x)).flags.carry
+      ≡ x.flags.carry
 
 -- the bits of a value of the width
 abbrev pub bits : Width → ℕ

@@ -36,7 +36,8 @@ pub record HasMapOf (m n : Memory) : Type 0 where
   pub a20 : n.a20 ≡ m.a20
   pub windows : n.windows ≡ m.windows
   pub ram_size : length n.low ≡ length m.low
-  pub page_sizes : (k : ℕ) → IfSome (slice_index_or m.windows k None) (λ page. length (page_bytes n page) ≡ length (page_bytes m page))
+  pub page_sizes : (k : ℕ) → IfSome (slice_index_or m.windows k None) (λ page. length (page_bytes n page)
+      ≡ length (page_bytes m page))
 
 -- guest h has what the instruction of `length` bytes at CS:IP depends on in guest g: the registers with the flags, the
 -- map of memory, and the bytes that the instruction reads there. Other bytes may differ. SP is a word, as all registers

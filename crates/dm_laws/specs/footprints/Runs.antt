@@ -24,7 +24,8 @@ pub data LeadsWriting (g : Guest) (inputs : List FarAddress) : List FarAddress �
   no_instruction : LeadsWriting g inputs [] g
   one_more : (written : List FarAddress) (k : Guest) (i : Ins) (length : ℕ) → LeadsWriting g inputs written k
       → BeginsWith (sixteen_after k.memory k.cpu.cs k.cpu.ip) i length → k.cpu.sp < 65536
-      → All (λ f. IsAmong g.memory inputs f ⊎ IsAmong g.memory written f) (own k.cpu length ++ bytes_of (reads k i length))
+      → All (λ f. IsAmong g.memory inputs f ⊎ IsAmong g.memory written f) (own k.cpu length
+      ++ bytes_of (reads k i length))
       → LeadsWriting g inputs (written ++ bytes_of (writes k i length)) (effect k i length)
 
 -- from guest h a run leads, too, with the same inputs, that writes at the same addresses: it leaves the same registers
@@ -41,5 +42,6 @@ pub record RunsTheSame (g h k : Guest) (inputs written : List FarAddress) : Type
 -- a run of instructions depends on registers, flags, the map of memory and its inputs, and on nothing else
 abbrev pub RunsDependOnInputs : Type 0
 RunsDependOnInputs =
-    (g h k : Guest) (inputs written : List FarAddress) → LeadsWriting g inputs written k → h.cpu ≡ g.cpu → HasMapOf g.memory h.memory
+    (g h k : Guest) (inputs written : List FarAddress) → LeadsWriting g inputs written k → h.cpu ≡ g.cpu →
+    HasMapOf g.memory h.memory
     → All (λ f. seen h.memory f ≡ seen g.memory f) inputs → RunsTheSame g h k inputs written

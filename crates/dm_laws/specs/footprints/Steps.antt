@@ -18,6 +18,8 @@ guest_of s = guest s.cpu s.memory
 -- that the instruction is decoded from, and on those that it reads. All else of both may differ
 abbrev pub StepsDependOnReads : Type 0
 StepsDependOnReads =
-    (s t : State) (i : Ins) (length : ℕ) → entry_point_at s.cpu.cs s.cpu.ip ≡ None → t.exited ≡ None → BeginsWith (fetched s.memory s.cpu) i length
-    → AgreesWhereRead (guest_of s) (guest_of t) i length → All (λ f. seen t.memory f ≡ seen s.memory f) (own s.cpu length)
+    (s t : State) (i : Ins) (length : ℕ) → entry_point_at s.cpu.cs s.cpu.ip ≡ None → t.exited ≡ None →
+    BeginsWith (fetched s.memory s.cpu) i length
+    → AgreesWhereRead (guest_of s) (guest_of t) i length → All (λ f. seen t.memory f ≡ seen s.memory f)
+    (own s.cpu length)
     → MakesStep t (instructed t i length) × DoesTheSame (guest_of s) (guest_of t) i length

@@ -58,17 +58,25 @@ after_both g i k j n = accumulator_of (effect (effect g i k) j n)
 -- what the pairs of instructions make of AL and the operand
 pub record ComputesInDecimal (g : Guest) (i j : Ins) (k n : ℕ) : Type 0 where
   pub daa :
-      (c : Bool) → IsOnAl i (sum_mnemonic c) → j.action.mnemonic ≡ op.Daa → IsPacked (al_of g.cpu.ax) → IsPacked (second_byte g i)
-      → HasPackedSum (after_both g i k j n) (packed (al_of g.cpu.ax) + packed (second_byte g i) + from_bool (carry_in c g)) (ah_of g.cpu.ax)
+      (c : Bool) → IsOnAl i (sum_mnemonic c) → j.action.mnemonic ≡ op.Daa → IsPacked (al_of g.cpu.ax) →
+      IsPacked (second_byte g i)
+      → HasPackedSum (after_both g i k j n) (packed (al_of g.cpu.ax) + packed (second_byte g i)
+      + from_bool (carry_in c g)) (ah_of g.cpu.ax)
   pub das :
-      (c : Bool) → IsOnAl i (difference_mnemonic c) → j.action.mnemonic ≡ op.Das → IsPacked (al_of g.cpu.ax) → IsPacked (second_byte g i)
-      → HasPackedDifference (after_both g i k j n) (packed (second_byte g i) + from_bool (carry_in c g)) (packed (al_of g.cpu.ax)) (ah_of g.cpu.ax)
+      (c : Bool) → IsOnAl i (difference_mnemonic c) → j.action.mnemonic ≡ op.Das → IsPacked (al_of g.cpu.ax) →
+      IsPacked (second_byte g i)
+      → HasPackedDifference (after_both g i k j n) (packed (second_byte g i) + from_bool (carry_in c g))
+      (packed (al_of g.cpu.ax)) (ah_of g.cpu.ax)
   pub aaa :
-      (c : Bool) → IsOnAl i (sum_mnemonic c) → j.action.mnemonic ≡ op.Aaa → IsUnpacked (al_of g.cpu.ax) → IsUnpacked (second_byte g i)
-      → HasUnpackedSum (after_both g i k j n) (unpacked (al_of g.cpu.ax) + unpacked (second_byte g i) + from_bool (carry_in c g)) (ah_of g.cpu.ax)
+      (c : Bool) → IsOnAl i (sum_mnemonic c) → j.action.mnemonic ≡ op.Aaa → IsUnpacked (al_of g.cpu.ax) →
+      IsUnpacked (second_byte g i)
+      → HasUnpackedSum (after_both g i k j n) (unpacked (al_of g.cpu.ax) + unpacked (second_byte g i)
+      + from_bool (carry_in c g)) (ah_of g.cpu.ax)
   pub aas :
-      (c : Bool) → IsOnAl i (difference_mnemonic c) → j.action.mnemonic ≡ op.Aas → IsUnpacked (al_of g.cpu.ax) → IsUnpacked (second_byte g i)
-      → HasUnpackedDifference (after_both g i k j n) (unpacked (second_byte g i) + from_bool (carry_in c g)) (unpacked (al_of g.cpu.ax)) (ah_of g.cpu.ax)
+      (c : Bool) → IsOnAl i (difference_mnemonic c) → j.action.mnemonic ≡ op.Aas → IsUnpacked (al_of g.cpu.ax) →
+      IsUnpacked (second_byte g i)
+      → HasUnpackedDifference (after_both g i k j n) (unpacked (second_byte g i) + from_bool (carry_in c g))
+      (unpacked (al_of g.cpu.ax)) (ah_of g.cpu.ax)
   pub aam :
       IsOfByte i op.Mul → j.action.mnemonic ≡ op.Aam → al_of g.cpu.ax < 10 → first_byte g i < 10
       → HasDigits (after_both g i k j n) (al_of g.cpu.ax * first_byte g i)

@@ -45,12 +45,15 @@ pub record IsRepeated (i : Ins) (w : Width) (operation : StringOperation) : Type
 -- performed fewer times than CX says, it has done as many elements, CX is so much lower, and IP is at the instruction
 -- again; as many times as CX says, it has done them all, CX is 0, and IP is past the instruction
 pub record RepeatsByCx (g : Guest) (i : Ins) (len : ℕ) (w : Width) (operation : StringOperation) : Type 0 where
-  pub part : (n : ℕ) → n < g.cpu.cx → performed n i len g ≡ with_cx_ip (elements n w i.prefixes.segment operation g) (g.cpu.cx - n) g.cpu.ip
-  pub whole : 0 < g.cpu.cx → performed g.cpu.cx i len g ≡ with_cx_ip (elements g.cpu.cx w i.prefixes.segment operation g) 0 (up g.cpu.ip len)
+  pub part : (n : ℕ) → n < g.cpu.cx → performed n i len g ≡ with_cx_ip (elements n w i.prefixes.segment operation g)
+      (g.cpu.cx - n) g.cpu.ip
+  pub whole : 0 < g.cpu.cx → performed g.cpu.cx i len g ≡ with_cx_ip (elements g.cpu.cx w i.prefixes.segment operation
+      g) 0 (up g.cpu.ip len)
   pub none : g.cpu.cx ≡ 0 → performed 1 i len g ≡ at_ip g (up g.cpu.ip len)
 
 -- REP with MOVS, STOS and LODS does as many elements as CX says
 abbrev pub RepetitionIsElements : Type 0
 RepetitionIsElements =
-    (g : Guest) (i : Ins) (len : ℕ) (w : Width) (operation : StringOperation) → IsRepeated i w operation → OnlyCounts operation → g.cpu.cx < 65536
+    (g : Guest) (i : Ins) (len : ℕ) (w : Width) (operation : StringOperation) → IsRepeated i w operation →
+    OnlyCounts operation → g.cpu.cx < 65536
     → RepeatsByCx g i len w operation

@@ -22,19 +22,24 @@ pub record HasRoomOnStack (g : Guest) : Type 0 where
   pub low : IsWritable (place g.memory (linear g.memory.a20 g.cpu.ss (down g.cpu.sp 2)))
   pub high : IsWritable (place g.memory (linear g.memory.a20 g.cpu.ss ((down g.cpu.sp 2 + 1) % 65536)))
   pub apart :
-      place g.memory (linear g.memory.a20 g.cpu.ss ((down g.cpu.sp 2 + 1) % 65536)) ≢ place g.memory (linear g.memory.a20 g.cpu.ss (down g.cpu.sp 2))
+      place g.memory (linear g.memory.a20 g.cpu.ss ((down g.cpu.sp 2 + 1) % 65536)) ≢ place g.memory
+      (linear g.memory.a20 g.cpu.ss (down g.cpu.sp 2))
 
 -- PUSH of one operand and POP into another: the second takes what was pushed, SP is as it was, and memory has the word
 -- below the stack's top; all else is as a move leaves it. Any override may stand at either instruction
 abbrev pub PopTakesWhatWasPushed : Type 0
 PopTakesWhatWasPushed =
-    (g : Guest) (first second : Option SegmentRegister) (a b : Operand) → IsWellFormed g → HasRoomOnStack g → pushed_value g first a < 65536
-    → stack_effect (stack_effect g first Push a) second Pop b ≡ with_operand (guest g.cpu (push g (pushed_value g first a)).memory) second b (pushed_value g first a)
+    (g : Guest) (first second : Option SegmentRegister) (a b : Operand) → IsWellFormed g → HasRoomOnStack g →
+    pushed_value g first a < 65536
+    → stack_effect (stack_effect g first Push a) second Pop b
+    ≡ with_operand (guest g.cpu (push g (pushed_value g first a)).memory) second b (pushed_value g first a)
 
 -- PUSH and POP of a register leave all registers as they were: of a word register but SP, and of a segment register
 pub record PushThenPopKeeps (g : Guest) : Type 0 where
-  pub word : (r : WordRegister) → r ≢ Sp → (first second : Option SegmentRegister) → (stack_effect (stack_effect g first Push (InWord r)) second Pop (InWord r)).cpu ≡ g.cpu
-  pub segment : (r : SegmentRegister) (first second : Option SegmentRegister) → (stack_effect (stack_effect g first Push (InSegment r)) second Pop (InSegment r)).cpu ≡ g.cpu
+  pub word : (r : WordRegister) → r ≢ Sp → (first second : Option SegmentRegister) →
+      (stack_effect (stack_effect g first Push (InWord r)) second Pop (InWord r)).cpu ≡ g.cpu
+  pub segment : (r : SegmentRegister) (first second : Option SegmentRegister) →
+      (stack_effect (stack_effect g first Push (InSegment r)) second Pop (InSegment r)).cpu ≡ g.cpu
 
 -- they do wherever the stack has room
 abbrev pub PushThenPopKeepsRegisters : Type 0

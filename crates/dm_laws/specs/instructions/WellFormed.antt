@@ -38,4 +38,5 @@ pub record IsWellFormed (g : Guest) : Type 0 where
 -- an instruction that some bytes spell leaves a well-formed guest well-formed; `len` is its length, as far as IP goes
 -- on
 abbrev pub InstructionsKeepWellFormed : Type 0
-InstructionsKeepWellFormed = (g : Guest) (i : Ins) (bytes : List ℕ) (len : ℕ) → IsWellFormed g → Spells i bytes → IsWellFormed (effect g i len)
+InstructionsKeepWellFormed = (g : Guest) (i : Ins) (bytes : List ℕ) (len : ℕ) → IsWellFormed g → Spells i bytes →
+    IsWellFormed (effect g i len)

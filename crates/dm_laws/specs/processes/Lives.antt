@@ -17,7 +17,8 @@ use Rattle.dm_proc.specs.Writes.{bytes_from}
 -- a child is started from processes ps, registers c and memory m, which leaves memory `first`; when it ends, memory is
 -- `last`, it is the present process, as after its start, and the same processes wait: children of its own have ended,
 -- too. Its end with `code` leaves processes rs, registers r and memory f. What lies between is anything at all
-pub record Lives (upper : Bool) (ps : Processes) (c : Cpu) (m : Memory) (store : List (List ℕ × List ℕ)) (strategy : Strategy) (code : ℕ) (rs : Processes) (r : Cpu) (f : Memory) : Type 0 where
+pub record Lives (upper : Bool) (ps : Processes) (c : Cpu) (m : Memory) (store : List (List ℕ ×
+    List ℕ)) (strategy : Strategy) (code : ℕ) (rs : Processes) (r : Cpu) (f : Memory) : Type 0 where
   pub started : Processes
   pub first_registers : Cpu
   pub first : Memory
@@ -32,7 +33,8 @@ pub record Lives (upper : Bool) (ps : Processes) (c : Cpu) (m : Memory) (store :
 
 -- the parent goes on: the processes are those before the call, but for the exit code, which waits for 4Dh; and the
 -- registers are those with which a successful call returns
-pub record GoesOnAsParent (ps : Processes) (c : Cpu) (m : Memory) (code : ℕ) (answer : Ending) (rs : Processes) (r : Cpu) : Type 0 where
+pub record GoesOnAsParent (ps : Processes) (c : Cpu) (m : Memory) (code : ℕ) (answer : Ending) (rs : Processes)
+    (r : Cpu) : Type 0 where
   pub returned : answer ≡ Returned
   pub processes : rs ≡ record ps { code = code }
   pub registers : r ≡ return_registers c m
@@ -40,12 +42,15 @@ pub record GoesOnAsParent (ps : Processes) (c : Cpu) (m : Memory) (code : ℕ) (
 -- whatever the child has done
 abbrev pub ParentGoesOn : Type 0
 ParentGoesOn =
-    (upper : Bool) (ps rs : Processes) (c r : Cpu) (m f : Memory) (store : List (List ℕ × List ℕ)) (strategy : Strategy) (code : ℕ)
+    (upper : Bool) (ps rs : Processes) (c r : Cpu) (m f : Memory) (store : List (List ℕ × List ℕ)) (strategy : Strategy)
+    (code : ℕ)
     (l : Lives upper ps c m store strategy code rs r f) → GoesOnAsParent ps c m code l.answer rs r
 
 -- the child leaves the list of blocks as it was at its start: `taken`, which has the child's two blocks; and memory has
 -- the sizes of the machine, as in every machine
-pub record LeavesBlocks (taken : List Header) {upper : Bool} {ps : Processes} {c : Cpu} {m : Memory} {store : List (List ℕ × List ℕ)} {strategy : Strategy} {code : ℕ} {rs : Processes} {r : Cpu} {f : Memory} (l : Lives upper ps c m store strategy code rs r f) : Type 0 where
+pub record LeavesBlocks (taken : List Header) {upper : Bool} {ps : Processes} {c : Cpu} {m : Memory}
+    {store : List (List ℕ × List ℕ)} {strategy : Strategy} {code : ℕ} {rs : Processes} {r : Cpu} {f : Memory}
+    (l : Lives upper ps c m store strategy code rs r f) : Type 0 where
   pub fits : Fits l.last
   pub at_first : IsArena l.execs.starts.middle first_header taken
   pub at_last : IsArena l.last first_header taken
@@ -56,7 +61,8 @@ pub record LeavesBlocks (taken : List Header) {upper : Bool} {ps : Processes} {c
 -- that passes over that segment
 abbrev pub ArenaIsBack : Type 0
 ArenaIsBack =
-    (upper : Bool) (ps rs : Processes) (c r : Cpu) (m f : Memory) (store : List (List ℕ × List ℕ)) (strategy : Strategy) (code : ℕ)
+    (upper : Bool) (ps rs : Processes) (c r : Cpu) (m f : Memory) (store : List (List ℕ × List ℕ)) (strategy : Strategy)
+    (code : ℕ)
     (l : Lives upper ps c m store strategy code rs r f) (old taken new : List Header) → LeavesBlocks taken l
     → IsArena m first_header old → IsArena f first_header new → OwnsNone l.started.present old
     → (upper ≡ true → is_linked new ≡ is_linked old) → join upper new ≡ join upper old
@@ -73,7 +79,9 @@ saved_vectors m segment = bytes_from m segment 0x0A 12
 -- copies in its prefix; what it makes of the vectors themselves does not matter
 abbrev pub VectorsAreBack : Type 0
 VectorsAreBack =
-    (upper : Bool) (ps rs : Processes) (c r : Cpu) (m f : Memory) (store : List (List ℕ × List ℕ)) (strategy : Strategy) (code : ℕ)
+    (upper : Bool) (ps rs : Processes) (c r : Cpu) (m f : Memory) (store : List (List ℕ × List ℕ)) (strategy : Strategy)
+    (code : ℕ)
     (l : Lives upper ps c m store strategy code rs r f) (taken : List Header) → LeavesBlocks taken l → Fits m
-    → first_header + paragraphs_taken taken ≤ 0xA000 → saved_vectors l.last l.started.present ≡ saved_vectors l.first l.started.present
+    → first_header + paragraphs_taken taken ≤ 0xA000 → saved_vectors l.last l.started.present
+    ≡ saved_vectors l.first l.started.present
     → vectors f ≡ vectors m

@@ -23,5 +23,6 @@ StepIsPossible = (s : State) → IsNoService (entry_point_at s.cpu.cs s.cpu.ip) 
 -- where neither a service nor a driver acts, a step from a well-formed state leaves one
 abbrev pub InstructionsKeepStatesWellFormed : Type 0
 InstructionsKeepStatesWellFormed =
-    (s : State) (x : Answer) → entry_point_at s.cpu.cs s.cpu.ip ≡ None → MakesStep s x → IsWellFormed (guest s.cpu s.memory)
+    (s : State) (x : Answer) → entry_point_at s.cpu.cs s.cpu.ip ≡ None → MakesStep s x →
+    IsWellFormed (guest s.cpu s.memory)
     → IsWellFormed (guest x.state.cpu x.state.memory)

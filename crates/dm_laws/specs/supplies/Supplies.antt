@@ -78,23 +78,27 @@ asks s = asks_at s (entry_point_at s.cpu.cs s.cpu.ip)
 -- it, whether or not still more may come
 abbrev pub StepsTakeMoreInput : Type 0
 StepsTakeMoreInput =
-    (s : State) (x : Answer) (bytes : List ℕ) (more : Bool) → MakesStep s x → asks s ≡ false → (x.stop ≡ Some InputEnded → ⊥)
+    (s : State) (x : Answer) (bytes : List ℕ) (more : Bool) → MakesStep s x → asks s ≡ false →
+    (x.stop ≡ Some InputEnded → ⊥)
     → MakesStep (supplied bytes more s) (supplied_answer bytes more x)
 
 -- n steps lead from s to this state; none of them ended the program, and none asked how much input there is
 pub data GoesUnasked (s : State) : ℕ → State → Type 0 where
   here : GoesUnasked s 0 s
-  further : (n : ℕ) (t u : State) → GoesUnasked s n t → asks t ≡ false → MakesStep t (record { stop = None; state = u }) → GoesUnasked s (n + 1) u
+  further : (n : ℕ) (t u : State) → GoesUnasked s n t → asks t ≡ false →
+      MakesStep t (record { stop = None; state = u }) → GoesUnasked s (n + 1) u
 
 -- so many steps lead from the first state to the last, none of which ended the program or asked how much input there
 -- is, where each of these pieces of input was supplied, one after another, between two of the steps
 pub data GoesByPieces : State → List (List ℕ) → ℕ → State → Type 0 where
   whole : (s t : State) (n : ℕ) → GoesUnasked s n t → GoesByPieces s [] n t
-  piece : (s t u : State) (n m : ℕ) (bytes : List ℕ) (pieces : List (List ℕ)) → GoesUnasked s n t → GoesByPieces (supplied bytes t.console.more t) pieces m u
+  piece : (s t u : State) (n m : ℕ) (bytes : List ℕ) (pieces : List (List ℕ)) → GoesUnasked s n t →
+      GoesByPieces (supplied bytes t.console.more t) pieces m u
       → GoesByPieces s (bytes ∷ pieces) (n + m) u
 
 -- where a program runs on input that comes in pieces, and no step asks how much of it is there, the same steps are made
 -- with all the pieces after the input from the start, whether or not more may come then
 abbrev pub PiecesAreOneInput : Type 0
 PiecesAreOneInput =
-    (s t : State) (pieces : List (List ℕ)) (n : ℕ) (more : Bool) → GoesByPieces s pieces n t → Goes (supplied (concat pieces) more s) n (supplied [] more t)
+    (s t : State) (pieces : List (List ℕ)) (n : ℕ) (more : Bool) → GoesByPieces s pieces n t →
+    Goes (supplied (concat pieces) more s) n (supplied [] more t)

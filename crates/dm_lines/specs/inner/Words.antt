@@ -127,11 +127,13 @@ those p (x ∷ xs) = onto (p x) x (those p xs)
 
 -- every other name of a mnemonic
 abbrev pub all_aliases : List Alias
-all_aliases = alias.Jc ∷ alias.Jnae ∷ alias.Jnc ∷ alias.Jnb ∷ alias.Je ∷ alias.Jne ∷ alias.Jna ∷ alias.Jnbe ∷ alias.Jpe ∷ alias.Jpo ∷ alias.Jnge ∷ alias.Jnl ∷ alias.Jng ∷ alias.Jnle ∷ alias.Loopz ∷ alias.Loopnz ∷ alias.Sal ∷ []
+all_aliases = alias.Jc ∷ alias.Jnae ∷ alias.Jnc ∷ alias.Jnb ∷ alias.Je ∷ alias.Jne ∷ alias.Jna ∷ alias.Jnbe ∷ alias.Jpe
+    ∷ alias.Jpo ∷ alias.Jnge ∷ alias.Jnl ∷ alias.Jng ∷ alias.Jnle ∷ alias.Loopz ∷ alias.Loopnz ∷ alias.Sal ∷ []
 
 -- every keyword
 abbrev pub all_keywords : List Keyword
-all_keywords = keyword.Nop ∷ keyword.Lock ∷ keyword.Rep ∷ keyword.Repe ∷ keyword.Repz ∷ keyword.Repne ∷ keyword.Repnz ∷ keyword.Far ∷ keyword.Short ∷ keyword.Byte ∷ keyword.Word ∷ keyword.Near ∷ keyword.Db ∷ keyword.Dw ∷ []
+all_keywords = keyword.Nop ∷ keyword.Lock ∷ keyword.Rep ∷ keyword.Repe ∷ keyword.Repz ∷ keyword.Repne ∷ keyword.Repnz
+    ∷ keyword.Far ∷ keyword.Short ∷ keyword.Byte ∷ keyword.Word ∷ keyword.Near ∷ keyword.Db ∷ keyword.Dw ∷ []
 
 -- all reserved words: the names of registers, the mnemonics of one word, their other names, and the keywords
 abbrev pub all_words : List Reserved

@@ -11,6 +11,8 @@ each_next : (f : ℕ → List Finding) (n : ℕ) → of_each f (n + 1) ≡ of_ea
 unfolding of_each
 each_next f n = rw add-one refl
 
-pub each_more : (old out new : List Finding) (f : ℕ → List Finding) (n : ℕ) → out ≡ old ++ of_each f n → new ≡ out ++ f n → new ≡ old ++ of_each f (n + 1)
+pub each_more : (old out new : List Finding) (f : ℕ → List Finding) (n : ℕ) → out ≡ old ++ of_each f n → new ≡ out
+    ++ f n → new ≡ old ++ of_each f (n + 1)
 each_more old out new f n e k =
-    k ∙ ap (λ (x : List Finding). x ++ f n) e ∙ append_assoc old (of_each f n) (f n) ∙ ap (λ (x : List Finding). old ++ x) (sym (each_next f n))
+    k ∙ ap (λ (x : List Finding). x ++ f n) e ∙ append_assoc old (of_each f n) (f n)
+    ∙ ap (λ (x : List Finding). old ++ x) (sym (each_next f n))

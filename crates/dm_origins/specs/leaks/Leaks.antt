@@ -30,7 +30,8 @@ told resident k = (if resident then Held k else Left k) ∷ []
 -- the finding about a handle of expanded memory, with the number of its pages, which may be 0, and whether it has a
 -- saved map. Handle 0 is always in use: there is a finding of it only if it has pages or a saved map
 abbrev pub pages_kept : Bool → ℕ → ℕ → Bool → List Finding
-pages_kept resident handle pages saved = if (handle == 0) && (pages == 0) && not saved then [] else told resident (kept.Handle handle pages saved)
+pages_kept resident handle pages saved = if (handle == 0) && (pages == 0) && not saved then [] else
+    told resident (kept.Handle handle pages saved)
 
 -- what is found of a handle of expanded memory, by its entry: nothing if it is not in use (None)
 abbrev pub if_in_use : Bool → Tables → ℕ → Option Handle → List Finding
@@ -43,7 +44,8 @@ handle_kept resident ems handle = if_in_use resident ems handle (slice_index_or 
 
 -- the finding that this window of the frame, from 0, still shows a page; none if it shows none
 abbrev pub window_kept : Bool → Memory → ℕ → List Finding
-window_kept resident m window = if is_some (slice_index_or m.windows window None) then told resident (kept.Window window) else []
+window_kept resident m window = if is_some (slice_index_or m.windows window None) then
+    told resident (kept.Window window) else []
 
 -- ---- extended memory
 
@@ -68,7 +70,8 @@ upper_kept resident tables k = if_given resident (slice_get tables.uppers k)
 
 -- the findings about the high memory area, if the program has it (`area`), and about A20, if it is on (`on`)
 abbrev pub switches_kept : Bool → Bool → Bool → List Finding
-switches_kept resident area on = (if area then told resident kept.Area else []) ++ (if on then told resident kept.Line else [])
+switches_kept resident area on = (if area then told resident kept.Area else []) ++ (if on then told resident kept.Line
+    else [])
 
 -- ---- all of it: there are 64 handles of expanded and 64 of extended memory, and at most 64 upper memory blocks
 
@@ -77,4 +80,5 @@ switches_kept resident area on = (if area then told resident kept.Area else []) 
 unfoldable pub leaks : Bool → State → List Finding
 leaks resident s =
     of_each (handle_kept resident s.ems) 64 ++ of_each (window_kept resident s.memory) 4
-    ++ of_each (block_kept resident s.xms) 64 ++ of_each (upper_kept resident s.xms) 64 ++ switches_kept resident s.xms.area s.memory.a20
+    ++ of_each (block_kept resident s.xms) 64 ++ of_each (upper_kept resident s.xms) 64
+    ++ switches_kept resident s.xms.area s.memory.a20

@@ -77,7 +77,8 @@ abbrev pub arranges : Cpu → Option Call → Bool
 arranges c None = false
 arranges c (Some DivideError) = true
 arranges c (Some Terminate) = true
-arranges c (Some (Dos number)) = is_arena_function (function_of number) || is_ending (function_of number) || is_starting c (function_of number)
+arranges c (Some (Dos number)) = is_arena_function (function_of number) || is_ending (function_of number) ||
+    is_starting c (function_of number)
 arranges c (Some (ExpandedMemory number)) = false
 arranges c (Some Multiplex) = false
 arranges c (Some (ExtendedMemory number)) = false
@@ -128,12 +129,14 @@ refused_by_dos c d f =
 -- the finding that a call of INT 67h failed with this status; none for 00h, success, and for 92h, which says that a
 -- move was done and its regions overlap
 abbrev pub refused_by_status : ExpandedFunction → ℕ → List Finding
-refused_by_status f status = if (status == 0) || (status == 0x92) then [] else refusal (is_stray_handle f status) status ∷ []
+refused_by_status f status = if (status == 0) || (status == 0x92) then [] else refusal (is_stray_handle f status) status
+    ∷ []
 
 -- the finding that a call of the extended memory driver failed: AX is 0, and BL, the error code, is not; else none.
 -- (To ask for A20 returns 0 in both if A20 is off)
 abbrev pub refused_by_error : ExtendedFunction → Cpu → List Finding
-refused_by_error f d = if (d.ax == 0) && not (byte_of d Bl == 0) then refusal (is_stray_extended f (byte_of d Bl)) (byte_of d Bl) ∷ [] else []
+refused_by_error f d = if (d.ax == 0) && not (byte_of d Bl == 0) then
+    refusal (is_stray_extended f (byte_of d Bl)) (byte_of d Bl) ∷ [] else []
 
 -- whether a call of a function of INT 21h is looked at for failure: 48h, 49h, 4Ah, 4Bh and 58h, and each that is not
 -- served. (Carry from a function of the console is left to the program)
@@ -148,7 +151,8 @@ abbrev pub call_findings : Cpu → Cpu → Option Call → List Finding
 call_findings c d None = []
 call_findings c d (Some DivideError) = DivisionError ∷ []
 call_findings c d (Some Terminate) = []
-call_findings c d (Some (Dos number)) = if may_be_refused (function_of number) then refused_by_dos c d (function_of number) else []
+call_findings c d (Some (Dos number)) = if may_be_refused (function_of number) then
+    refused_by_dos c d (function_of number) else []
 call_findings c d (Some (ExpandedMemory number)) = refused_by_status (expanded_function number) (byte_of d Ah)
 call_findings c d (Some Multiplex) = []
 call_findings c d (Some (ExtendedMemory number)) = refused_by_error (extended_function number) d

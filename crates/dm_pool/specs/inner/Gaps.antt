@@ -11,4 +11,6 @@ IsCovered bs k = is_clear bs k 1 ≡ false
 -- after them
 abbrev pub AreGaps : List (Option Extent) → ℕ → ℕ → List Run → Type 0
 AreGaps bs n k [] = (j : ℕ) → k ≤ j → j < n → IsCovered bs j
-AreGaps bs n k (g ∷ gs) = (k ≤ g.low) × ((j : ℕ) → k ≤ j → j < g.low → IsCovered bs j) × (0 < g.size) × (is_clear bs g.low g.size ≡ true) × (g.low + g.size ≤ n) × (g.low + g.size < n → IsCovered bs (g.low + g.size)) × AreGaps bs n (g.low + g.size) gs
+AreGaps bs n k (g ∷ gs) = (k ≤ g.low) × ((j : ℕ) → k ≤ j → j < g.low → IsCovered bs j) × (0 < g.size) ×
+    (is_clear bs g.low g.size ≡ true) × (g.low + g.size ≤ n) × (g.low + g.size < n → IsCovered bs (g.low + g.size)) ×
+    AreGaps bs n (g.low + g.size) gs

@@ -25,8 +25,10 @@ IsNth places order p b = get_or places (get_or order p 0) None ≡ Some b
 -- the order has the number of each block that has units once, rising by the places of the blocks
 pub record IsOrder (places : List (Option Extent)) (order : List ℕ) : Type 0 where
   pub live : (p : ℕ) → p < length order → (b : Extent) × IsNth places order p b × (0 < b.units)
-  pub rising : (p q : ℕ) (b d : Extent) → p < q → q < length order → IsNth places order p b → IsNth places order q d → b.base + b.units ≤ d.base
-  pub whole : (i : ℕ) (b : Extent) → get_or places i None ≡ Some b → 0 < b.units → (p : ℕ) × (p < length order) × (get_or order p 0 ≡ i)
+  pub rising : (p q : ℕ) (b d : Extent) → p < q → q < length order → IsNth places order p b → IsNth places order q d →
+      b.base + b.units ≤ d.base
+  pub whole : (i : ℕ) (b : Extent) → get_or places i None ≡ Some b → 0 < b.units → (p : ℕ) × (p < length order) ×
+      (get_or order p 0 ≡ i)
   pub counted : length order ≡ count_by has_units places
   pub small : (p : ℕ) → p < length order → get_or order p 0 < 576
 

@@ -15,4 +15,5 @@ IsLaidOut l (Block i) = (b : Extent) × (get_or l.places i None ≡ Some b)
 abbrev pub IsSpan : Layout → Part → ℕ → ℕ → Type 0
 IsSpan l Low from n = (from ≡ 0) × (n ≡ 0x110000)
 IsSpan l Scratch from n = (from ≡ 0x110000) × (n ≡ 0x200000)
-IsSpan l (Block i) from n = (b : Extent) × (get_or l.places i None ≡ Some b) × (from ≡ 0x310000 + b.base * 1024) × (n ≡ b.units * 1024)
+IsSpan l (Block i) from n = (b : Extent) × (get_or l.places i None ≡ Some b) × (from ≡ 0x310000 + b.base * 1024) ×
+    (n ≡ b.units * 1024)

@@ -21,7 +21,8 @@ digits_fit n i h k =
     omega (arith, most)
 
 -- one digit more is read
-pub digit_read : (w : List ℕ) (i n d : ℕ) (r : Option ℕ) → i < length w → Some d ≡ hex_digit_value (get_or w i 0) → digits_of n (drop i w) ≡ r → digits_of (n * 16 + d) (drop (i + 1) w) ≡ r
+pub digit_read : (w : List ℕ) (i n d : ℕ) (r : Option ℕ) → i < length w → Some d ≡ hex_digit_value (get_or w i 0) →
+    digits_of n (drop i w) ≡ r → digits_of (n * 16 + d) (drop (i + 1) w) ≡ r
 digit_read w i n d r h e k =
     let front : drop i w ≡ get_or w i 0 ∷ drop (i + 1) w = rw add-one (drop-cons w i 0 h) in
     ap (λ (o : Option ℕ). o >>= (λ x. digits_of (n * 16 + x) (drop (i + 1) w))) e

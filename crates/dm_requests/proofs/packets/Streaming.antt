@@ -7,7 +7,8 @@ use Rattle.dm_requests.specs.packets.Reading.{between, within, checked, half, on
 use Rattle.dm_requests.specs.packets.Streams.{Holds, ended, lone, packet, cut, cut_before_digits, cut_in_digits, IsContent, if_short, read_from}
 
 -- one byte more of a content that is kept only if it is short
-more_short : (content : List ℕ) (b : ℕ) (p q : Bool) → nat_le (length content) 0x4000 ≡ p → (length content == 0x4000) ≡ q
+more_short : (content : List ℕ) (b : ℕ) (p q : Bool) → nat_le (length content) 0x4000 ≡ p →
+    (length content == 0x4000) ≡ q
     → one_more (if p then Some content else None) b ≡ if_short (content ++ b ∷ [])
 more_short content b true true e f =
     let full = eqb-true (length content) 0x4000 f in
@@ -29,9 +30,12 @@ one_more_short content b = more_short content b (nat_le (length content) 0x4000)
 -- what is read of this text, wherever the stream stands before it, is what the text holds from the last `$` on
 record IsRead (text : List ℕ) : Type 0 where
   pub outside : Holds text (read_from between text)
-  pub inside : (content : List ℕ) → All IsContent content → Holds (36 ∷ content ++ text) (read_from (within (if_short content)) text)
-  pub digits : (content : List ℕ) → All IsContent content → Holds (36 ∷ content ++ 35 ∷ text) (read_from (checked (if_short content)) text)
-  pub digit : (content : List ℕ) (high : ℕ) → All IsContent content → high ≢ 36 → Holds (36 ∷ content ++ 35 ∷ high ∷ text) (read_from (half (if_short content) high) text)
+  pub inside : (content : List ℕ) → All IsContent content → Holds (36 ∷ content
+      ++ text) (read_from (within (if_short content)) text)
+  pub digits : (content : List ℕ) → All IsContent content → Holds (36 ∷ content ++ 35
+      ∷ text) (read_from (checked (if_short content)) text)
+  pub digit : (content : List ℕ) (high : ℕ) → All IsContent content → high ≢ 36 → Holds (36 ∷ content ++ 35 ∷ high
+      ∷ text) (read_from (half (if_short content) high) text)
 
 none_read : IsRead []
 none_read = record {
@@ -50,18 +54,23 @@ dollar_read b text rest e =
       outside = anew;
       inside = λ content all. cut content (36 ∷ text) (read_from (within (Some [])) text) all refl anew;
       digits = λ content all. cut_before_digits content (36 ∷ text) (read_from (within (Some [])) text) all refl anew;
-      digit = λ content high all other. cut_in_digits content (36 ∷ text) high (read_from (within (Some [])) text) all other refl anew;
+      digit = λ content high all other. cut_in_digits content (36 ∷ text) high (read_from (within (Some [])) text) all
+          other refl anew;
     })
 
 -- any other byte within a packet, by whether it is `#`
 inside_read : (b : ℕ) (text content : List ℕ) (d : Bool) → IsRead text → b ≢ 36 → (b == 35) ≡ d → All IsContent content
-    → Holds (36 ∷ content ++ b ∷ text) (read_from (if d then checked (if_short content) else within (one_more (if_short content) b)) text)
+    → Holds (36 ∷ content ++ b ∷ text) (read_from (if d then checked (if_short content) else
+    within (one_more (if_short content) b)) text)
 inside_read b text content true rest other e all = rw (eqb-true b 35 e) (rest.digits content all)
 inside_read b text content false rest other e all =
-    let more : All IsContent (content ++ b ∷ []) = All-append IsContent content (b ∷ []) all (All-cons IsContent b [] (other, eqb-false b 35 e) (All-nil IsContent)) in
+    let more : All IsContent (content ++ b ∷ []) = All-append IsContent content (b
+    ∷ []) all (All-cons IsContent b [] (other, eqb-false b 35 e) (All-nil IsContent)) in
     let holds : Holds (36 ∷ content ++ b ∷ text) (read_from (within (if_short (content ++ b ∷ []))) text) =
-    subst (λ (xs : List ℕ). Holds (36 ∷ xs) (read_from (within (if_short (content ++ b ∷ []))) text)) (append_assoc content (b ∷ []) text) (rest.inside (content ++ b ∷ []) more) in
-    subst (λ (c : Option (List ℕ)). Holds (36 ∷ content ++ b ∷ text) (read_from (within c) text)) (sym (one_more_short content b)) holds
+    subst (λ (xs : List ℕ). Holds (36 ∷ xs) (read_from (within (if_short (content ++ b ∷ []))) text))
+    (append_assoc content (b ∷ []) text) (rest.inside (content ++ b ∷ []) more) in
+    subst (λ (c : Option (List ℕ)). Holds (36 ∷ content ++ b ∷ text) (read_from (within c) text))
+    (sym (one_more_short content b)) holds
 
 -- any other byte
 other_read : (b : ℕ) (text : List ℕ) → IsRead text → (b == 36) ≡ false → IsRead (b ∷ text)
@@ -71,7 +80,8 @@ other_read b text rest e =
       outside = rw e (lone b text (read_from between text) other rest.outside);
       inside = λ content all. rw e (inside_read b text content (b == 35) rest other refl all);
       digits = λ content all. rw e (rest.digit content b all other);
-      digit = λ content high all first. rw e (packet content text high b (read_from between text) all first other rest.outside);
+      digit = λ content high all first. rw e (packet content text high b (read_from between text) all first other
+          rest.outside);
     }
 
 byte_read : (b : ℕ) (text : List ℕ) (d : Bool) → IsRead text → (b == 36) ≡ d → IsRead (b ∷ text)

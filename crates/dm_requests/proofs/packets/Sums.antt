@@ -4,7 +4,8 @@ use Rattle.std.proofs.Math.Nat.{mod-add-mod}
 use Rattle.std.proofs.lemmas.List.Sums.{sum_by_more}
 
 -- one byte more
-pub sum_more : (bytes : List ℕ) (i s : ℕ) → i < length bytes → s ≡ sum (take i bytes) % 256 → (s + get_or bytes i 0) % 256 ≡ sum (take (i + 1) bytes) % 256
+pub sum_more : (bytes : List ℕ) (i s : ℕ) → i < length bytes → s ≡ sum (take i bytes) % 256 →
+    (s + get_or bytes i 0) % 256 ≡ sum (take (i + 1) bytes) % 256
 sum_more bytes i s h e =
     ap (λ (n : ℕ). (n + get_or bytes i 0) % 256) e
     ∙ mod-add-mod (sum (take i bytes)) 256 (get_or bytes i 0)

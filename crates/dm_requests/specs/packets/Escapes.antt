@@ -21,7 +21,8 @@ abbrev pub unescaped_behind : List ℕ → Bool → List ℕ → Option (List �
 unescaped_behind front false [] = Some front
 unescaped_behind front true [] = None
 unescaped_behind front true (b ∷ bs) = unescaped_behind (front ++ bit_xor b 32 ∷ []) false bs
-unescaped_behind front false (b ∷ bs) = if b == 125 then unescaped_behind front true bs else unescaped_behind (front ++ b ∷ []) false bs
+unescaped_behind front false (b ∷ bs) = if b == 125 then unescaped_behind front true bs else
+    unescaped_behind (front ++ b ∷ []) false bs
 
 -- what a packet's content carries: each byte after `}` exclusive-or 20h, other bytes as they are; None if the last byte
 -- is an escape

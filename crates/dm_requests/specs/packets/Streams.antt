@@ -32,11 +32,16 @@ BeginsAnew (b ∷ bs) = b ≡ 36
 -- packets mean. A packet that the next `$` or the end of the stream cuts off is nothing
 pub data Holds : List ℕ → List Received → Type 0 where
   ended : Holds [] []
-  lone : (b : ℕ) (text : List ℕ) (told : List Received) → b ≢ 36 → Holds text told → Holds (b ∷ text) (option_to_list (lone_byte b) ++ told)
-  packet : (content text : List ℕ) (high low : ℕ) (told : List Received) → All IsContent content → high ≢ 36 → low ≢ 36 → Holds text told
+  lone : (b : ℕ) (text : List ℕ) (told : List Received) → b ≢ 36 → Holds text told →
+      Holds (b ∷ text) (option_to_list (lone_byte b) ++ told)
+  packet : (content text : List ℕ) (high low : ℕ) (told : List Received) → All IsContent content → high ≢ 36 →
+      low ≢ 36 → Holds text told
       → Holds (36 ∷ content ++ 35 ∷ high ∷ low ∷ text) (packet_of (if_short content) high low ∷ told)
-  cut : (content text : List ℕ) (told : List Received) → All IsContent content → BeginsAnew text → Holds text told → Holds (36 ∷ content ++ text) told
-  cut_before_digits : (content text : List ℕ) (told : List Received) → All IsContent content → BeginsAnew text → Holds text told
+  cut : (content text : List ℕ) (told : List Received) → All IsContent content → BeginsAnew text → Holds text told →
+      Holds (36 ∷ content ++ text) told
+  cut_before_digits : (content text : List ℕ) (told : List Received) → All IsContent content → BeginsAnew text →
+      Holds text told
       → Holds (36 ∷ content ++ 35 ∷ text) told
-  cut_in_digits : (content text : List ℕ) (high : ℕ) (told : List Received) → All IsContent content → high ≢ 36 → BeginsAnew text → Holds text told
+  cut_in_digits : (content text : List ℕ) (high : ℕ) (told : List Received) → All IsContent content → high ≢ 36 →
+      BeginsAnew text → Holds text told
       → Holds (36 ∷ content ++ 35 ∷ high ∷ text) told

@@ -41,9 +41,15 @@ one_gone [] i = omega arith
 one_gone (p ∷ ps) zero = omega (arith, counted p ps, counted None ps, one_most p, nothing_counts)
 one_gone (p ∷ ps) (suc i) = let rest = one_gone ps i in omega (arith, counted p ps, counted p (set ps i None), rest)
 
-none_there : (ps : List (Option Extent)) → ((i : ℕ) (b : Extent) → get_or ps i None ≡ Some b → ⊥) → count_by is_some ps ≡ 0
+none_there : (ps : List (Option Extent)) → ((i : ℕ) (b : Extent) → get_or ps i None ≡ Some b → ⊥) →
+    count_by is_some ps ≡ 0
 none_there [] h = refl
-none_there (None ∷ ps) h = let rest = none_there ps (λ i. h (suc i)) in omega (arith, counted None ps, nothing_counts, rest)
+none_there (None ∷ ps) h = let rest = none_there ps (λ i. h (suc i)) in omega (
+  arith,
+  counted None ps,
+  nothing_counts,
+  rest,
+)
 none_there (Some c ∷ ps) h = absurd (h 0 c refl)
 
 gone : (ps : List (Option Extent)) (i : ℕ) → get_or (set ps i None) i None ≡ None
@@ -51,15 +57,21 @@ gone [] i = refl
 gone (p ∷ ps) zero = refl
 gone (p ∷ ps) (suc i) = gone ps i
 
-covered : (n : ℕ) (at : ℕ → ℕ) (ps : List (Option Extent)) → ((i : ℕ) (b : Extent) → get_or ps i None ≡ Some b → (k : ℕ) × (k < n) × (at k ≡ i)) → count_by is_some ps ≤ n
+covered : (n : ℕ) (at : ℕ → ℕ) (ps : List (Option Extent)) → ((i : ℕ) (b : Extent) → get_or ps i None ≡ Some b →
+    (k : ℕ) × (k < n) × (at k ≡ i)) → count_by is_some ps ≤ n
 covered zero at ps h = omega (arith, none_there ps (λ i b e. let lt = (h i b e).1 in omega (arith, lt)))
 covered (suc m) at ps h =
     let less : List (Option Extent) = set ps (at m) None in
-    let other : (i : ℕ) (b : Extent) → get_or less i None ≡ Some b → i ≢ at m = λ i b e f. none-some b (sym (gone ps (at m)) ∙ ap (λ k. get_or less k None) (sym f) ∙ e) in
+    let other : (i : ℕ) (b : Extent) → get_or less i None ≡ Some b → i ≢ at m =
+    λ i b e f. none-some b (sym (gone ps (at m)) ∙ ap (λ k. get_or less k None) (sym f) ∙ e) in
     let rest = covered m at less (λ i b e.
     let ne = other i b e in
     let k = h i b (sym (get_or-set_other ps (at m) i None None ne) ∙ e) in
-    let below : k.0 < m = elim (cases_lt k.0 m) [ inl lt ↦ lt | inr le ↦ let lt = k.1 in let last : k.0 ≡ m = omega (arith, le, lt) in absurd (ne (sym k.2 ∙ ap at last)) ] in
+    let below : k.0 < m = elim (cases_lt k.0 m) [
+      | inl lt ↦ lt
+      | inr le ↦ let lt = k.1 in let last : k.0 ≡ m =
+          omega (arith, le, lt) in absurd (ne (sym k.2 ∙ ap at last))
+    ] in
     (k.0, below, k.2)) in
     omega (arith, one_gone ps (at m), rest)
 
@@ -73,10 +85,19 @@ used (Some h ∷ hs) = h.block ∷ used hs
 used_length : (hs : List (Option Handle)) → length (used hs) ≡ count_by is_some hs
 unfolding used
 used_length [] = refl
-used_length (None ∷ hs) = let rest = used_length hs in omega (arith, sum_by-cons (λ (o : Option Handle). cond (is_some o) 1 0) None hs, rest)
-used_length (Some h ∷ hs) = let rest = used_length hs in omega (arith, sum_by-cons (λ (o : Option Handle). cond (is_some o) 1 0) (Some h) hs, rest)
+used_length (None ∷ hs) = let rest = used_length hs in omega (
+  arith,
+  sum_by-cons (λ (o : Option Handle). cond (is_some o) 1 0) None hs,
+  rest,
+)
+used_length (Some h ∷ hs) = let rest = used_length hs in omega (
+  arith,
+  sum_by-cons (λ (o : Option Handle). cond (is_some o) 1 0) (Some h) hs,
+  rest,
+)
 
-in_used : (hs : List (Option Handle)) (k : ℕ) (h : Handle) → handle_at hs k ≡ Some h → (j : ℕ) × (j < length (used hs)) × (get_or (used hs) j 0 ≡ h.block)
+in_used : (hs : List (Option Handle)) (k : ℕ) (h : Handle) → handle_at hs k ≡ Some h → (j : ℕ) ×
+    (j < length (used hs)) × (get_or (used hs) j 0 ≡ h.block)
 unfolding used
 in_used [] k h e = absurd (none-some h e)
 in_used (None ∷ hs) zero h e = absurd (none-some h e)
@@ -87,10 +108,16 @@ in_used (Some g ∷ hs) (suc k) h e = let r = in_used hs k h e in let lt = r.1 i
 abbrev owner : List Page → List (Option Handle) → ℕ → ℕ
 owner ps hs k = cond (nat_lt k (length ps)) (block_at ps k) (get_or (used hs) (k - length ps) 0)
 
-page_owner : (ps : List Page) (hs : List (Option Handle)) (b : ℕ) → IsOwned ps b → (k : ℕ) × (k < length ps + length (used hs)) × (owner ps hs k ≡ b)
-page_owner ps hs b o = let lt = o.1 in (o.0, omega (arith, lt), ap (λ t. cond t (block_at ps o.0) (get_or (used hs) (o.0 - length ps) 0)) (lt-ltb o.0 (length ps) lt) ∙ o.2)
+page_owner : (ps : List Page) (hs : List (Option Handle)) (b : ℕ) → IsOwned ps b → (k : ℕ) ×
+    (k < length ps + length (used hs)) × (owner ps hs k ≡ b)
+page_owner ps hs b o = let lt = o.1 in (
+  o.0,
+  omega (arith, lt),
+  ap (λ t. cond t (block_at ps o.0) (get_or (used hs) (o.0 - length ps) 0)) (lt-ltb o.0 (length ps) lt) ∙ o.2,
+)
 
-handle_owner : (ps : List Page) (hs : List (Option Handle)) (b : ℕ) → IsHandled hs b → (k : ℕ) × (k < length ps + length (used hs)) × (owner ps hs k ≡ b)
+handle_owner : (ps : List Page) (hs : List (Option Handle)) (b : ℕ) → IsHandled hs b → (k : ℕ) ×
+    (k < length ps + length (used hs)) × (owner ps hs k ≡ b)
 handle_owner ps hs b h =
     let r = in_used hs h.0 h.1 h.2 in
     let lt = r.1 in
@@ -98,13 +125,16 @@ handle_owner ps hs b h =
     let back : k - length ps ≡ r.0 = omega arith in (
       k,
       omega (arith, lt),
-      ap (λ t. cond t (block_at ps k) (get_or (used hs) (k - length ps) 0)) (le-ltb k (length ps) (omega arith)) ∙ ap (λ j. get_or (used hs) j 0) back ∙ r.2 ∙ h.3,
+      ap (λ t. cond t (block_at ps k) (get_or (used hs) (k - length ps) 0)) (le-ltb k (length ps) (omega arith))
+          ∙ ap (λ j. get_or (used hs) j 0) back ∙ r.2 ∙ h.3,
     )
 
 -- there are as many blocks as pages and handles in use at most
-all_blocks : (s : State) → AreConsistent s → count_by is_some s.memory.blocks.places ≤ length s.ems.pages + count_by is_some s.xms.handles
+all_blocks : (s : State) → AreConsistent s → count_by is_some s.memory.blocks.places ≤ length s.ems.pages
+    + count_by is_some s.xms.handles
 all_blocks s l =
-    let most = covered (length s.ems.pages + length (used s.xms.handles)) (owner s.ems.pages s.xms.handles) s.memory.blocks.places (λ i b e.
+    let most = covered (length s.ems.pages + length (used s.xms.handles)) (owner s.ems.pages s.xms.handles)
+    s.memory.blocks.places (λ i b e.
     let short : i < 576 = omega (arith, below_length s.memory.blocks.places i b e, l.ems.places) in
     elim (l.whole i (short, (b, e))) [
       | inl o ↦ page_owner s.ems.pages s.xms.handles i o

@@ -12,11 +12,13 @@ use Rattle.dm_services.specs.Laws.{with_change}
 -- each service keeps A20, the windows, and the number, place and size of the pool's blocks: in memory it writes bytes
 -- alone
 abbrev pub ServicesKeepTheMap : Type 0
-ServicesKeepTheMap = (s : State) (service : Service) (x : Answer) → Serves s service x → IsShaped s.memory x.state.memory
+ServicesKeepTheMap = (s : State) (service : Service) (x : Answer) → Serves s service x →
+    IsShaped s.memory x.state.memory
 
 -- each service keeps the tables of expanded and of extended memory
 abbrev pub ServicesKeepTheTables : Type 0
-ServicesKeepTheTables = (s : State) (service : Service) (x : Answer) → Serves s service x → (x.state.ems ≡ s.ems) × (x.state.xms ≡ s.xms)
+ServicesKeepTheTables = (s : State) (service : Service) (x : Answer) → Serves s service x → (x.state.ems ≡ s.ems) ×
+    (x.state.xms ≡ s.xms)
 
 -- the result x with `change` applied to the memory of its state; the stop stays
 abbrev pub answer_with : (Memory → Memory) → Answer → Answer

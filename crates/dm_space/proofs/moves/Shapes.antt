@@ -17,5 +17,6 @@ moves_keep = record {
   moving = λ m from to n. stored-shaped m to 0 (bytes_in m from n);
   exchanging = λ m from to n.
       let t = span_written m to 0 (bytes_in m from n) in
-      shaped-then m t (spans_exchanged m from to n) (stored-shaped m to 0 (bytes_in m from n)) (stored-shaped t from 0 (bytes_in m to n));
+      shaped-then m t (spans_exchanged m from to n) (stored-shaped m to 0 (bytes_in m from n))
+      (stored-shaped t from 0 (bytes_in m to n));
 }

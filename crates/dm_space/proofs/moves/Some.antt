@@ -32,7 +32,8 @@ none-any n f i e h = either (f i) refl
 abbrev pub Found : ℕ → (ℕ → Bool) → Type 0
 Found n f = (i : ℕ) × (i < n) × (f i ≡ true)
 
-found-more : (n : ℕ) (f : ℕ → Bool) (b : Bool) → any_below n f ≡ b → (any_below n f ≡ true → Found n f) → any_below (suc n) f ≡ true → Found (suc n) f
+found-more : (n : ℕ) (f : ℕ → Bool) (b : Bool) → any_below n f ≡ b → (any_below n f ≡ true → Found n f) →
+    any_below (suc n) f ≡ true → Found (suc n) f
 found-more n f true q more e = (let g = more q in (g.0, omega (arith, g.1), g.2))
 found-more n f false q more e = (n, omega arith, sym (ap (λ b. b || f n) q) ∙ e)
 
@@ -74,7 +75,8 @@ meet-up a n b l le some = elim (cases_lt (b - a) n) [
       yes ∙ sym (two-true n l (λ i j. a + i == b + j) (b - a) 0 in_range some same)
   | inr past ↦
       let no : nat_lt (b - a) n ≡ false = grind (arith, nat_tests) in
-      no ∙ sym (two-none n l (λ i j. a + i == b + j) (λ i j h g. let less : a + i < b + j = omega arith in grind (arith, nat_tests)))
+      no ∙ sym (two-none n l (λ i j. a + i == b + j) (λ i j h g. let less : a + i < b + j = omega arith in
+      grind (arith, nat_tests)))
 ]
 
 pub meet-down : (a n b l : ℕ) → b < a → 0 < n → nat_lt (a - b) l ≡ any_two n l (λ i j. a + i == b + j)
@@ -86,12 +88,15 @@ meet-down a n b l le some = elim (cases_lt (a - b) l) [
       yes ∙ sym (two-true n l (λ i j. a + i == b + j) 0 (a - b) some in_range same)
   | inr past ↦
       let no : nat_lt (a - b) l ≡ false = grind (arith, nat_tests) in
-      no ∙ sym (two-none n l (λ i j. a + i == b + j) (λ i j h g. let less : b + j < a + i = omega arith in grind (arith, nat_tests)))
+      no ∙ sym (two-none n l (λ i j. a + i == b + j) (λ i j h g. let less : b + j < a + i = omega arith in
+      grind (arith, nat_tests)))
 ]
 
 -- ranges in two blocks
-pub meet-page : (p q a n b l : ℕ) → p ≡ q → any_two n l (λ i j. a + i == b + j) ≡ any_two n l (λ i j. (p == q) && (a + i == b + j))
-meet-page p q a n b l e = (let t : (p == q) ≡ true = grind (arith, nat_tests) in ap (λ t. any_two n l (λ i j. t && (a + i == b + j))) (sym t))
+pub meet-page : (p q a n b l : ℕ) → p ≡ q → any_two n l (λ i j. a + i == b + j) ≡ any_two n l (λ i j. (p == q) &&
+    (a + i == b + j))
+meet-page p q a n b l e = (let t : (p == q) ≡ true = grind (arith, nat_tests) in
+    ap (λ t. any_two n l (λ i j. t && (a + i == b + j))) (sym t))
 
 pub meet-none : (p q a n b l : ℕ) → (p == q) ≡ false → false ≡ any_two n l (λ i j. (p == q) && (a + i == b + j))
 meet-none p q a n b l e = sym (two-never n l) ∙ ap (λ t. any_two n l (λ i j. t && (a + i == b + j))) (sym e)

@@ -5,4 +5,7 @@ use Rattle.dm_space.specs.Memory.{Held}
 
 -- what a space holds, by its store, the blocks that its windows show, and A20
 abbrev pub held : Stored → List (Option ℕ) → Bool → Held
-held s windows a20 = record { memory = record { low = s.low; blocks = s.blocks; windows = windows; a20 = a20 }; scratch = s.scratch }
+held s windows a20 = record {
+  memory = record { low = s.low; blocks = s.blocks; windows = windows; a20 = a20 };
+  scratch = s.scratch;
+}

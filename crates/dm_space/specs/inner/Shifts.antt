@@ -1,4 +1,5 @@
--- The table by which a space finds the spots of bytes in its windows, as its invariant and private contracts speak of it.
+-- The table by which a space finds the spots of bytes in its windows, as its invariant and private contracts speak of
+-- it.
 use Rattle.std.specs.Prelude.{◌≡◌, ℕ, ◌+◌, ◌-◌, ◌*◌, ◌^◌, ◌<◌, ◌≤◌, List, Option, Some, None, slice_index, slice_index_or}
 use Rattle.dm_pool.specs.declared.extent.Extent.{Extent}
 
@@ -18,4 +19,5 @@ pub record IsShift (places : List (Option Extent)) (block : Option ℕ) (k n : �
 -- each number of the table below 2 ^ 63 leads from the addresses of a window to the spots of the page that it shows
 pub record AreShifts (places : List (Option Extent)) (windows : List (Option ℕ)) (shifts : List ℕ) : Type 0 where
   pub most : (k : ℕ) → k < 68 → slice_index shifts k ≤ 0x8000000000000000
-  pub shown : (k : ℕ) → k < 68 → slice_index shifts k < 0x8000000000000000 → IsShift places (slice_index_or windows (k - 56) None) k (slice_index shifts k)
+  pub shown : (k : ℕ) → k < 68 → slice_index shifts k < 0x8000000000000000 →
+      IsShift places (slice_index_or windows (k - 56) None) k (slice_index shifts k)

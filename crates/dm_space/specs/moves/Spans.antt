@@ -62,8 +62,10 @@ spans_exchanged m from to n = span_written (span_written m to 0 (bytes_in m from
 -- block
 abbrev pub IsWithin : Memory → SpanKind → List ℕ → ℕ → Type 0
 IsWithin m Linear blocks end = end ≤ 0x10FFF0
-IsWithin m Pages blocks end = (end ≤ 0x4000 * length blocks) × ((k : ℕ) → k < length blocks → IsPage m (slice_index blocks k))
-IsWithin m Single blocks end = (length blocks ≡ 1) × IsLive m.blocks (slice_index blocks 0) × (end ≤ length (page_bytes m (slice_index blocks 0)))
+IsWithin m Pages blocks end = (end ≤ 0x4000 * length blocks) × ((k : ℕ) → k < length blocks →
+    IsPage m (slice_index blocks k))
+IsWithin m Single blocks end = (length blocks ≡ 1) × IsLive m.blocks (slice_index blocks 0) ×
+    (end ≤ length (page_bytes m (slice_index blocks 0)))
 
 -- the first n bytes of a span lie below linear address 10FFF0h, within its pages, or within its block, by its kind;
 -- they end below 2 ^ 32

@@ -23,9 +23,11 @@ use Rattle.dm_target.specs.Watching.{Hits, is_in_range, watched_bytes}
 -- there was no memory to keep the watched bytes before a service or driver
 pub data Looks (watches : List Point) (s : State) : Option Pause → State → Type 0 where
   passed : (t : State) → IsRun s 1 AllSteps t → Hits watches s t None → Looks watches s None t
-  hits : (point : Point) (t : State) → IsRun s 1 AllSteps t → Hits watches s t (Some point) → Looks watches s (Some (Hit point)) t
+  hits : (point : Point) (t : State) → IsRun s 1 AllSteps t → Hits watches s t (Some point) →
+      Looks watches s (Some (Hit point)) t
   stops : (why : Stop) (t : State) → why ≢ AllSteps → IsRun s 1 why t → Looks watches s (Some (Stopped why)) t
-  wants : (what : EntryPoint) → watches ≢ [] → entry_point_at s.cpu.cs s.cpu.ip ≡ Some what → Looks watches s (Some (Stopped NoMemory)) s
+  wants : (what : EntryPoint) → watches ≢ [] → entry_point_at s.cpu.cs s.cpu.ip ≡ Some what →
+      Looks watches s (Some (Stopped NoMemory)) s
 
 -- why going on pauses after the call of `run` for one step, which returned a stop, and a hit if the step was made
 abbrev pub pause_at : Stop → Option Point → Option Pause
@@ -34,15 +36,20 @@ pause_at AllSteps (Some point) = Some (Hit point)
 pause_at why hit = Some (Stopped why)
 
 -- a step under watchpoints, and whether it led to a breakpoint or out of the range if it hit no watchpoint
-pub data Ends (points : List ℕ) (watches : List Point) (span : Option StepRange) (s : State) : Option Pause → State → Type 0 where
-  goes_on : (t : State) → IsRun s 1 AllSteps t → Hits watches s t None → has_arrived points span t ≡ false → Ends points watches span s None t
-  arrives : (t : State) → IsRun s 1 AllSteps t → Hits watches s t None → has_arrived points span t ≡ true → Ends points watches span s (Some Arrived) t
+pub data Ends (points : List ℕ) (watches : List Point) (span : Option StepRange) (s : State) : Option Pause → State →
+    Type 0 where
+  goes_on : (t : State) → IsRun s 1 AllSteps t → Hits watches s t None → has_arrived points span t ≡ false →
+      Ends points watches span s None t
+  arrives : (t : State) → IsRun s 1 AllSteps t → Hits watches s t None → has_arrived points span t ≡ true →
+      Ends points watches span s (Some Arrived) t
   ends : (pause : Pause) (t : State) → Looks watches s (Some pause) t → Ends points watches span s (Some pause) t
 
 -- n steps lead from s to this state and hit no watchpoint; the last may have led to a breakpoint, none before it did
-pub data PassesNear (points : List ℕ) (watches : List Point) (span : Option StepRange) (s : State) : ℕ → State → Type 0 where
+pub data PassesNear (points : List ℕ) (watches : List Point) (span : Option StepRange) (s : State) : ℕ → State →
+    Type 0 where
   none : PassesNear points watches span s 0 s
-  last : (n : ℕ) (t u : State) → Passes points watches span s n t → IsRun t 1 AllSteps u → Hits watches t u None → PassesNear points watches span s (n + 1) u
+  last : (n : ℕ) (t u : State) → Passes points watches span s n t → IsRun t 1 AllSteps u → Hits watches t u None →
+      PassesNear points watches span s (n + 1) u
 
 -- what the range of a watchpoint is marked with
 abbrev pub level_of : WatchedAccess → ℕ
@@ -69,7 +76,8 @@ Keeps n old new = (p : ℕ) → n ≤ level_at old p → n ≤ level_at new p
 
 -- the pair of the segment with this linear address without A20, if the segment reaches it
 abbrev pub pair_at : ℕ → ℕ → List Breakpoint
-pair_at segment address = if nat_le (segment * 16) address && nat_le address (segment * 16 + 0xFFFF) then record { segment = segment; offset = address - segment * 16 } ∷ [] else []
+pair_at segment address = if nat_le (segment * 16) address && nat_le address (segment * 16 + 0xFFFF) then
+    record { segment = segment; offset = address - segment * 16 } ∷ [] else []
 
 -- the pairs of the segment whose linear address may be this one: the address itself, or it and 100000h, which is the
 -- same address while A20 is off

@@ -42,9 +42,17 @@ no_details = record {
 
 -- what a program has allocated at its end
 abbrev pub kept_details : Kept → Details
-kept_details (kept.Handle handle pages saved) = record no_details { handle = handle; pages = pages; saved = truth_number saved }
+kept_details (kept.Handle handle pages saved) = record no_details {
+  handle = handle;
+  pages = pages;
+  saved = truth_number saved;
+}
 kept_details (kept.Window window) = record no_details { window = window }
-kept_details (kept.Block handle kib locked) = record no_details { handle = handle; kib = kib; locked = truth_number locked }
+kept_details (kept.Block handle kib locked) = record no_details {
+  handle = handle;
+  kib = kib;
+  locked = truth_number locked;
+}
 kept_details (kept.Upper at) = record no_details { block = at }
 kept_details kept.Area = no_details
 kept_details kept.Line = no_details
@@ -53,7 +61,11 @@ kept_details kept.Line = no_details
 -- it; a window, and a byte in it; a byte elsewhere; the code of an error; paragraphs that were wanted and are
 -- available; and what a program has allocated at its end. A failed allocation has the code 8, not enough memory
 abbrev pub details_of : Finding → Details
-details_of (Overwritten at old new) = record no_details { header = at; old_contents = contents_record old; new_contents = contents_record new }
+details_of (Overwritten at old new) = record no_details {
+  header = at;
+  old_contents = contents_record old;
+  new_contents = contents_record new;
+}
 details_of (MappedAway at) = record no_details { header = at }
 details_of (Destroyed at) = record no_details { header = at }
 details_of Whole = no_details
@@ -66,7 +78,11 @@ details_of (Short asked largest) = record no_details { code = 8; wanted = asked;
 details_of (FreeRead block segment offset) = record no_details { block = block; segment = segment; offset = offset }
 details_of (FreeWritten block segment offset) = record no_details { block = block; segment = segment; offset = offset }
 details_of (StackFreed at) = record no_details { block = at }
-details_of (WindowLost window segment offset) = record no_details { window = window; segment = segment; offset = offset }
+details_of (WindowLost window segment offset) = record no_details {
+  window = window;
+  segment = segment;
+  offset = offset;
+}
 details_of (RomWritten segment offset) = record no_details { segment = segment; offset = offset }
 details_of (NothingWritten segment offset) = record no_details { segment = segment; offset = offset }
 details_of (TailWritten at byte) = record no_details { header = at; byte = byte }

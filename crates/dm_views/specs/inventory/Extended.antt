@@ -13,7 +13,12 @@ use Rattle.dm_views.specs.inventory.Records.{records_in_turn}
 -- the record of the block of handle `before + 1`; none if the handle is not in use. Handles count from 1
 abbrev pub extended_record : Tables → Memory → ℕ → Option ExtendedBlock
 extended_record xms m before =
-    option_map (λ (h : Handle). record { address = begin_address m h.block; locks = h.locks; handle = before + 1; kib = h.kib }) (slot xms (before + 1))
+    option_map (λ (h : Handle). record {
+      address = begin_address m h.block;
+      locks = h.locks;
+      handle = before + 1;
+      kib = h.kib;
+    }) (slot xms (before + 1))
 
 -- the records of the blocks of the handles in use, in rising order
 abbrev pub extended_records : Tables → Memory → List ExtendedBlock

@@ -6,4 +6,5 @@ use Rattle.dm_views.specs.inventory.Arena.{IsListedArena}
 
 -- two listings of the arena are the same
 abbrev pub ArenaHasOneList : Type 0
-ArenaHasOneList = (upper : Bool) (m : Memory) (a b : List ArenaBlock) (s t : Option ℕ) → IsListedArena upper m a s → IsListedArena upper m b t → (a ≡ b) × (s ≡ t)
+ArenaHasOneList = (upper : Bool) (m : Memory) (a b : List ArenaBlock) (s t : Option ℕ) → IsListedArena upper m a s →
+    IsListedArena upper m b t → (a ≡ b) × (s ≡ t)

@@ -16,7 +16,12 @@ truth_number b = if b then 1 else 0
 -- the record of the handle with this number; none if it is not in use
 abbrev pub handle_record : Tables → ℕ → Option PageHandle
 handle_record ems number =
-    option_map (λ (h : Handle). record { number = number; pages = page_count ems number; name = h.name; saved = truth_number (is_some h.saved) }) (slice_index_or ems.handles number None)
+    option_map (λ (h : Handle). record {
+      number = number;
+      pages = page_count ems number;
+      name = h.name;
+      saved = truth_number (is_some h.saved);
+    }) (slice_index_or ems.handles number None)
 
 -- the records of the handles in use, in rising order
 abbrev pub handle_records : Tables → List PageHandle
@@ -29,4 +34,5 @@ window_record (Some shown) = record { shows = 1; handle = shown.0; page = shown.
 
 -- what the four windows show
 abbrev pub window_records : Tables → Memory → List Window
-window_records ems m = window_record (page_shown ems m 0) ∷ window_record (page_shown ems m 1) ∷ window_record (page_shown ems m 2) ∷ window_record (page_shown ems m 3) ∷ []
+window_records ems m = window_record (page_shown ems m 0) ∷ window_record (page_shown ems m 1)
+    ∷ window_record (page_shown ems m 2) ∷ window_record (page_shown ems m 3) ∷ []

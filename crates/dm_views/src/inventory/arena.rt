@@ -86,7 +86,9 @@ fn end_of(walked: Walked<'_>) -> Option<u16>
 fn put_second(out: &mut Vec<ArenaBlock>, first: Headers<'_>) -> Result<Option<u16>, AllocError>
     requires first { first.second ≡ false }
     requires over { first.at ≡ None }
-    ensures { IfOk result (λ broken. (records : List ArenaBlock) × (out.new.items ≡ out.old.items ++ records) × ((L : List Header) → IsArena first.entry.memory first_header L → IsListed first.entry.memory L link_header 1 records broken)) }
+    ensures { IfOk result (λ broken. (records : List ArenaBlock) × (out.new.items ≡ out.old.items ++ records) ×
+        ((L : List Header) → IsArena first.entry.memory first_header L →
+        IsListed first.entry.memory L link_header 1 records broken)) }
 {
     let walked = put_list(out, first.walk_second(), SECOND)?;
     Ok(end_of(walked))
@@ -105,7 +107,8 @@ pub fn list_arena(
     space: &Space,
     upper: bool,
 ) -> Result<Option<u16>, AllocError>
-    ensures { IfOk result (λ broken. (records : List ArenaBlock) × (out.new.items ≡ out.old.items ++ records) × IsListedArena upper space.now.memory records broken) }
+    ensures { IfOk result (λ broken. (records : List ArenaBlock) × (out.new.items ≡ out.old.items ++ records) ×
+        IsListedArena upper space.now.memory records broken) }
 {
     let first = match put_list(out, walk(space), FIRST)? {
         Walked::Over(first) => first,

@@ -37,7 +37,8 @@ fn put_block(
     before: u16,
 ) -> Result<(), AllocError>
     requires { before < 64 }
-    ensures { OnOk result (out.new.items ≡ out.old.items ++ record_list (extended_record xms.now space.now.memory before)) }
+    ensures { OnOk result (out.new.items ≡ out.old.items
+        ++ record_list (extended_record xms.now space.now.memory before)) }
 {
     let handle = before + 1;
     let Some(slot) = xms.handle(handle) else {

@@ -20,5 +20,6 @@ pub record IsOutside (x : Extended) (block bytes : ℕ) : Type 0 where
 -- other such block; and the windows stay. Of the blocks' bytes nothing is said
 pub record LeavesOutside (x y : Extended) : Type 0 where
   pub blocks : (block bytes : ℕ) → IsOutside x block bytes → IsOutside y block bytes
-  pub others : (block : ℕ) → IsLive y.memory.blocks block → IsNoHandles y block → IsLive x.memory.blocks block × IsNoHandles x block
+  pub others : (block : ℕ) → IsLive y.memory.blocks block → IsNoHandles y block → IsLive x.memory.blocks block ×
+      IsNoHandles x block
   pub windows : y.memory.windows ≡ x.memory.windows

@@ -12,7 +12,8 @@ with_gap k l gs = if k == l then gs else record { low = k; size = l - k } ∷ gs
 -- the gaps from paragraph k to the end of upper memory between blocks that rise and begin at k or above
 abbrev pub gaps_between : ℕ → List Upper → List Run
 gaps_between k [] = with_gap k all_paragraphs []
-gaps_between k (u ∷ us) = with_gap k (u.segment - first_segment) (gaps_between (u.segment - first_segment + u.paragraphs) us)
+gaps_between k (u ∷ us) = with_gap k (u.segment - first_segment) (gaps_between (u.segment - first_segment
+    + u.paragraphs) us)
 
 -- the segment of a paragraph of upper memory
 abbrev pub segment_of : Option ℕ → Option ℕ

@@ -7,5 +7,6 @@ use Rattle.dm_alu.proofs.shifts.rotated_right.Goals as goal
 pub returns-clause-moved : goal.returns-clause-moved
 returns-clause-moved c =
     let moved = turned_right c.args.width c.args.start c.args.count (omega arith) (omega arith) in
-    let back = turned_back c.args.width c.args.start.value (c.args.count % bits_of c.args.width) (omega arith) (mod_bits c.args.width c.args.count) in
+    let back = turned_back c.args.width c.args.start.value (c.args.count % bits_of c.args.width) (omega arith)
+    (mod_bits c.args.width c.args.count) in
     cc

@@ -8,5 +8,8 @@ write_joined-requires-clause-placing c =
 
 pub returns-clause-memory : goal.returns-clause-memory
 returns-clause-memory c =
-    let p = c.in_ok-plan.ensures.plan in
-    (p.taking, p.segment_is, placed _ _ _ _ _ _ c.in_ok-plan.plan.cut p.taking p.cut_is p.clear _ c.write_joined.ensures.memory)
+    let p = c.in_ok-plan.ensures.plan in (
+      p.taking,
+      p.segment_is,
+      placed _ _ _ _ _ _ c.in_ok-plan.plan.cut p.taking p.cut_is p.clear _ c.write_joined.ensures.memory,
+    )

@@ -12,16 +12,28 @@ pub returns-then-entry-clause-block : goal.returns-then-entry-clause-block
 returns-then-entry-clause-block c = λ L s.
     (let k = c.walk.invariant L s in
     let f = c.joined_at-entry.ensures.front k.0 k.1.spelled in
-    all_block _ _ L _ _ _ _ _ k.0 k.1 _ f.0 f.1 _ (c.meet-choice.ensures.block ∙ ap (λ o. pick c.args.upper c.args.strategy c.args.n c.walk.choice.block (option_to_list o)) c.left_part.ensures) (c.meet-choice.ensures.largest ∙ ap (λ o. max c.walk.choice.largest (largest c.args.upper c.args.strategy (option_to_list o))) c.left_part.ensures) c.if-entry.true)
+    all_block _ _ L _ _ _ _ _ k.0 k.1 _ f.0 f.1 _ (c.meet-choice.ensures.block
+    ∙ ap (λ o. pick c.args.upper c.args.strategy c.args.n c.walk.choice.block (option_to_list o))
+    c.left_part.ensures) (c.meet-choice.ensures.largest
+    ∙ ap (λ o. max c.walk.choice.largest (largest c.args.upper c.args.strategy (option_to_list o)))
+    c.left_part.ensures) c.if-entry.true)
 
 pub returns-then-entry-clause-largest : goal.returns-then-entry-clause-largest
 returns-then-entry-clause-largest c = λ L s.
     (let k = c.walk.invariant L s in
     let f = c.joined_at-entry.ensures.front k.0 k.1.spelled in
-    all_largest _ _ L _ _ _ _ _ k.0 k.1 _ f.0 f.1 _ (c.meet-choice.ensures.block ∙ ap (λ o. pick c.args.upper c.args.strategy c.args.n c.walk.choice.block (option_to_list o)) c.left_part.ensures) (c.meet-choice.ensures.largest ∙ ap (λ o. max c.walk.choice.largest (largest c.args.upper c.args.strategy (option_to_list o))) c.left_part.ensures) c.if-entry.true)
+    all_largest _ _ L _ _ _ _ _ k.0 k.1 _ f.0 f.1 _ (c.meet-choice.ensures.block
+    ∙ ap (λ o. pick c.args.upper c.args.strategy c.args.n c.walk.choice.block (option_to_list o))
+    c.left_part.ensures) (c.meet-choice.ensures.largest
+    ∙ ap (λ o. max c.walk.choice.largest (largest c.args.upper c.args.strategy (option_to_list o)))
+    c.left_part.ensures) c.if-entry.true)
 
 pub walk-preserved : goal.walk-preserved
 walk-preserved c = λ L s.
     (let k = c.walk.invariant L s in
     let f = c.joined_at-entry.ensures.front k.0 k.1.spelled in
-    met_more _ _ L _ _ _ _ _ k.0 k.1 _ f.0 f.1 _ (c.meet-choice.ensures.block ∙ ap (λ o. pick c.args.upper c.args.strategy c.args.n c.walk.choice.block (option_to_list o)) c.left_part.ensures) (c.meet-choice.ensures.largest ∙ ap (λ o. max c.walk.choice.largest (largest c.args.upper c.args.strategy (option_to_list o))) c.left_part.ensures) c.if-entry.false _ c.next-segment.ensures)
+    met_more _ _ L _ _ _ _ _ k.0 k.1 _ f.0 f.1 _ (c.meet-choice.ensures.block
+    ∙ ap (λ o. pick c.args.upper c.args.strategy c.args.n c.walk.choice.block (option_to_list o))
+    c.left_part.ensures) (c.meet-choice.ensures.largest
+    ∙ ap (λ o. max c.walk.choice.largest (largest c.args.upper c.args.strategy (option_to_list o)))
+    c.left_part.ensures) c.if-entry.false _ c.next-segment.ensures)

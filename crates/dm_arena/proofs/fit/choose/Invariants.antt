@@ -6,7 +6,8 @@ use Rattle.dm_arena.specs.inner.Walks.{IsChoosing}
 use Rattle.dm_arena.proofs.fit.choose.Given as goal
 
 abbrev pub invariant-walk : goal.invariant-walk
-invariant-walk l = (L : List Header) → IsSpelledFrom l.space.memory first_header L → (K : List Header) × IsChoosing l.upper l.space.memory L l.strategy l.n l.spoken l.segment l.choice K
+invariant-walk l = (L : List Header) → IsSpelledFrom l.space.memory first_header L → (K : List Header) ×
+    IsChoosing l.upper l.space.memory L l.strategy l.n l.spoken l.segment l.choice K
 
 abbrev pub decreases-walk : goal.decreases-walk
 decreases-walk l = 0x10000 - l.segment

@@ -7,5 +7,11 @@ join_from-requires-clause-joined c = λ L a. record {
   done = [];
   rest = L;
   nonempty = a.0.0;
-  joining = record { rest = a.0.1; spells = a.0.1; is = refl; within = λ g w. w; differs = record { shape = shaped-same _; kept = λ p ne. refl } };
+  joining = record {
+    rest = a.0.1;
+    spells = a.0.1;
+    is = refl;
+    within = λ g w. w;
+    differs = record { shape = shaped-same _; kept = λ p ne. refl };
+  };
 }

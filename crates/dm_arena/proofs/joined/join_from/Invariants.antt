@@ -6,7 +6,8 @@ use Rattle.dm_arena.proofs.joined.join_from.Given as goal
 
 abbrev pub invariant-walk : goal.invariant-walk
 invariant-walk l = record {
-  list : (L : List Header) → IsArena l.initial.space.memory first_header L → (done : List Header) × (K : List Header) × IsNonEmpty K × IsJoiningAll l.upper l.initial.space.memory first_header L l.space.memory l.segment done K;
+  list : (L : List Header) → IsArena l.initial.space.memory first_header L → (done : List Header) × (K : List Header) ×
+      IsNonEmpty K × IsJoiningAll l.upper l.initial.space.memory first_header L l.space.memory l.segment done K;
   scratch : l.space.scratch ≡ l.initial.space.scratch;
 }
 

@@ -20,5 +20,7 @@ pub loop-entry-preserved : goal.loop-entry-preserved
 loop-entry-preserved c = record {
   there = c.loop-entry.invariant.there;
   fits = omega arith;
-  front = λ L s. (let j = c.loop-entry.invariant.front L s in joining_more _ _ L _ c.spelled_entry-after.result j.0 j.1 c.if-entry.false (search rules) (search rules) (omega arith) _ c.next.ensures c.spelled_entry-after.ensures.front);
+  front = λ L s. (let j = c.loop-entry.invariant.front L s in
+      joining_more _ _ L _ c.spelled_entry-after.result j.0 j.1 c.if-entry.false (search rules) (search rules)
+      (omega arith) _ c.next.ensures c.spelled_entry-after.ensures.front);
 }

@@ -9,7 +9,8 @@ abbrev pub invariant-loop-entry : goal.invariant-loop-entry
 invariant-loop-entry l = record {
   there : l.entry.header.segment ≡ l.segment;
   fits : next l.entry.header ≤ 0xFFFF;
-  front : (L : List Header) → IsSpelledFrom l.space.memory l.segment L → (K : List Header) × IsJoining l.upper l.space.memory L l.entry K;
+  front : (L : List Header) → IsSpelledFrom l.space.memory l.segment L → (K : List Header) ×
+      IsJoining l.upper l.space.memory L l.entry K;
 }
 
 abbrev pub decreases-loop-entry : goal.decreases-loop-entry

@@ -6,7 +6,8 @@ use Rattle.dm_arena.proofs.owned.release.Given as goal
 
 abbrev pub invariant-walk : goal.invariant-walk
 invariant-walk l = record {
-  list : (L : List Header) → IsArena l.initial.space.memory l.first L → (P : List Header) × (K : List Header) × IsNonEmpty K × IsReleasing l.initial.space.memory l.first l.owner L l.space.memory l.here P K;
+  list : (L : List Header) → IsArena l.initial.space.memory l.first L → (P : List Header) × (K : List Header) ×
+      IsNonEmpty K × IsReleasing l.initial.space.memory l.first l.owner L l.space.memory l.here P K;
   scratch : l.space.scratch ≡ l.initial.space.scratch;
 }
 

@@ -20,4 +20,5 @@ pub walk-preserved : goal.walk-preserved
 walk-preserved c = λ L s.
     (let k = c.walk.invariant L s in
     let f = c.joined_at-entry.ensures.front k.0 k.1.spelled in
-    looked-more _ _ L _ _ k.0 k.1 _ c.joined_at-entry.ensures.there f.0 f.1 c.if-is_on.ensures c.if-entry.false _ c.next-segment.ensures)
+    looked-more _ _ L _ _ k.0 k.1 _ c.joined_at-entry.ensures.there f.0 f.1 c.if-is_on.ensures c.if-entry.false _
+    c.next-segment.ensures)

@@ -14,10 +14,12 @@ pub returns-then-entry : goal.returns-then-entry
 returns-then-entry c = λ L M s m.
     (let k = c.walk.invariant L s in
     let f = c.spelled_entry-entry.ensures.front k.0 k.1.spelled in
-    none-outside _ L _ _ _ _ k.0 k.1 _ c.spelled_entry-entry.ensures.there f.0 f.1 M m c.if-is_on_outside.ensures c.if-entry.true)
+    none-outside _ L _ _ _ _ k.0 k.1 _ c.spelled_entry-entry.ensures.there f.0 f.1 M m c.if-is_on_outside.ensures
+    c.if-entry.true)
 
 pub walk-preserved : goal.walk-preserved
 walk-preserved c = λ L s.
     (let k = c.walk.invariant L s in
     let f = c.spelled_entry-entry.ensures.front k.0 k.1.spelled in
-    outside-more _ L _ _ _ _ k.0 k.1 _ c.spelled_entry-entry.ensures.there f.0 f.1 c.if-is_on_outside.ensures c.if-entry.false _ c.next-segment.ensures)
+    outside-more _ L _ _ _ _ k.0 k.1 _ c.spelled_entry-entry.ensures.there f.0 f.1 c.if-is_on_outside.ensures
+    c.if-entry.false _ c.next-segment.ensures)

@@ -10,7 +10,8 @@ abbrev pub invariant-loop-entry : goal.invariant-loop-entry
 invariant-loop-entry l = record {
   there : l.entry.header.segment ≡ l.fn.first.header.segment;
   fits : next l.entry.header ≤ 0xFFFF;
-  front : (L : List Header) → IsSpelledFrom l.space.memory l.fn.first.header.segment L → (K : List Header) × IsRunOpen l.upper l.space.memory L l.entry l.several K;
+  front : (L : List Header) → IsSpelledFrom l.space.memory l.fn.first.header.segment L → (K : List Header) ×
+      IsRunOpen l.upper l.space.memory L l.entry l.several K;
   proceeds : LeadsOn l.space.memory l.fn.first.header.segment l.entry.last (next l.entry.header);
 }
 

@@ -14,7 +14,8 @@ pub returns-then-entry-clause-survey : goal.returns-then-entry-clause-survey
 returns-then-entry-clause-survey c = λ L s.
     (let k = c.walk.invariant.surveying L s in
     let f = taken_front _ _ _ _ (search rules) (c.in-Some.ensures.front k.0 k.1.choosing.spelled) in
-    survey_whole _ _ L _ _ _ _ _ _ k.0 k.1 s (record { entry = c.in-Some.entry; several = false }) f.0 f.1 _ c.meet-choice.ensures.block c.meet-choice.ensures.largest c.if-entry.true _ refl)
+    survey_whole _ _ L _ _ _ _ _ _ k.0 k.1 s (record { entry = c.in-Some.entry; several = false }) f.0 f.1 _
+    c.meet-choice.ensures.block c.meet-choice.ensures.largest c.if-entry.true _ refl)
 
 pub walk-preserved-then-not-is_free : goal.walk-preserved-then-not-is_free
 walk-preserved-then-not-is_free c = record {
@@ -24,24 +25,33 @@ walk-preserved-then-not-is_free c = record {
   surveying = λ L s.
       (let k = c.walk.invariant.surveying L s in
       let f = taken_front _ _ _ _ (search rules) (c.in-Some.ensures.front k.0 k.1.choosing.spelled) in
-      survey_more _ _ L _ _ _ _ _ _ k.0 k.1 s (record { entry = c.in-Some.entry; several = false }) f.0 f.1 _ c.meet-choice.ensures.block c.meet-choice.ensures.largest c.if-entry.false _ _ c.walk.several c.next-segment.ensures (or_none _) c.next_from-from.ensures);
+      survey_more _ _ L _ _ _ _ _ _ k.0 k.1 s (record { entry = c.in-Some.entry; several = false }) f.0 f.1 _
+      c.meet-choice.ensures.block c.meet-choice.ensures.largest c.if-entry.false _ _ c.walk.several
+      c.next-segment.ensures (or_none _) c.next_from-from.ensures);
 }
 
 pub returns-then-run-clause-survey : goal.returns-then-run-clause-survey
 returns-then-run-clause-survey c = λ L s.
     (let k = c.walk.invariant.surveying L s in
-    let f = c.in-Some-low_run_after.ensures.front k.0 (subst (λ x. IsSpelledFrom c.args.space.now.memory x k.0) (sym c.in-Some.ensures.there) k.1.choosing.spelled) in
-    survey_whole _ _ L _ _ _ _ _ _ k.0 k.1 s c.in-Some-low_run_after.run' f.0 f.1 _ c.meet-choice-in-walk.ensures.block c.meet-choice-in-walk.ensures.largest c.if-run.true _ refl)
+    let f = c.in-Some-low_run_after.ensures.front k.0 (subst (λ x. IsSpelledFrom c.args.space.now.memory x k.0)
+    (sym c.in-Some.ensures.there) k.1.choosing.spelled) in
+    survey_whole _ _ L _ _ _ _ _ _ k.0 k.1 s c.in-Some-low_run_after.run' f.0 f.1 _ c.meet-choice-in-walk.ensures.block
+    c.meet-choice-in-walk.ensures.largest c.if-run.true _ refl)
 
 pub walk-preserved : goal.walk-preserved
 walk-preserved c = record {
   led = (let u = c.walk.invariant.led in
-      let m = stands-up _ _ _ c.if-run.false ((subst (λ x. LeadsOn c.args.space.now.memory x c.in-Some-low_run_after.run'.entry.last (next c.in-Some-low_run_after.run'.entry.header)) c.in-Some.ensures.there c.in-Some-low_run_after.ensures.proceeds) u.0 u.1) in
+      let m = stands-up _ _ _ c.if-run.false ((subst (λ x. LeadsOn c.args.space.now.memory x
+      c.in-Some-low_run_after.run'.entry.last (next c.in-Some-low_run_after.run'.entry.header))
+      c.in-Some.ensures.there c.in-Some-low_run_after.ensures.proceeds) u.0 u.1) in
       (m.0, subst (λ t. Leads c.args.space.now.memory [] first_header m.0 t) (sym c.next-segment-in-walk.ensures) m.1));
   surveying = λ L s.
       (let k = c.walk.invariant.surveying L s in
-      let f = c.in-Some-low_run_after.ensures.front k.0 (subst (λ x. IsSpelledFrom c.args.space.now.memory x k.0) (sym c.in-Some.ensures.there) k.1.choosing.spelled) in
-      survey_more _ _ L _ _ _ _ _ _ k.0 k.1 s c.in-Some-low_run_after.run' f.0 f.1 _ c.meet-choice-in-walk.ensures.block c.meet-choice-in-walk.ensures.largest c.if-run.false _ _ c.if-several.several c.next-segment-in-walk.ensures (elim c.if-several.branch [
+      let f = c.in-Some-low_run_after.ensures.front k.0 (subst (λ x. IsSpelledFrom c.args.space.now.memory x k.0)
+      (sym c.in-Some.ensures.there) k.1.choosing.spelled) in
+      survey_more _ _ L _ _ _ _ _ _ k.0 k.1 s c.in-Some-low_run_after.run' f.0 f.1 _ c.meet-choice-in-walk.ensures.block
+      c.meet-choice-in-walk.ensures.largest c.if-run.false _ _ c.if-several.several c.next-segment-in-walk.ensures
+      (elim c.if-several.branch [
         | then-several w ↦ or_true _ _ _ w.if-several.true w.several-is
         | else-several w ↦ or_false _ _ _ w.if-several.false w.several-is
       ]) c.next_from-from-in-walk.ensures);

@@ -7,4 +7,5 @@ use Rattle.dm_asm.proofs.assembly.add_label.Goals as goal
 
 pub returns-in-Ok-true-clause-added : goal.returns-in-Ok-true-clause-added
 returns-in-Ok-true-clause-added c = λ list kept.
-    subst (λ (l : Option Name'.Name). IsFree l list × AreKept c.add.new.self (list ++ own_label l c.args.place)) (sym c.in-Some.is) (c.in-Ok-true.ensures.added c.in-Ok-true.field-0-test list kept)
+    subst (λ (l : Option Name'.Name). IsFree l list × AreKept c.add.new.self (list ++ own_label l c.args.place))
+    (sym c.in-Some.is) (c.in-Ok-true.ensures.added c.in-Ok-true.field-0-test list kept)

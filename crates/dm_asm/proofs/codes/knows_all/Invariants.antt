@@ -5,4 +5,5 @@ use Rattle.dm_asm.specs.inner.Kept.{AreKept}
 use Rattle.dm_asm.proofs.codes.knows_all.Given as goal
 
 abbrev pub invariant-loop-value : goal.invariant-loop-value
-invariant-loop-value l = (list : List Label) → AreKept l.labels list → AllByRecursion (λ v. IsSome (label_place list v)) (take l.value-index l.values)
+invariant-loop-value l = (list : List Label) → AreKept l.labels list →
+    AllByRecursion (λ v. IsSome (label_place list v)) (take l.value-index l.values)

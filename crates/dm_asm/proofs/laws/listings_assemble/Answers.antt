@@ -19,4 +19,5 @@ pub returns-clause-bytes : goal.returns-clause-bytes
 returns-clause-bytes c = listings_assemble (laws c)
 
 pub returns-clause-answer : goal.returns-clause-answer
-returns-clause-answer c = λ bytes text answer fit few l a. one_answer c.words_are_one_instruction.ensures text answer (Ok bytes) a (listings_assemble (laws c) bytes text fit few l)
+returns-clause-answer c = λ bytes text answer fit few l a. one_answer c.words_are_one_instruction.ensures text answer
+    (Ok bytes) a (listings_assemble (laws c) bytes text fit few l)

@@ -6,7 +6,8 @@ pub returns-then-entry-clause-found : goal.returns-then-entry-clause-found
 returns-then-entry-clause-found c = λ L s.
     (let k = c.walk.invariant.seeking L s in
     let f = c.spelled_entry-entry.ensures.front k.1 k.2.spelled in
-    no_end _ L _ _ c.spelled_entry-entry.result k.0 k.1 k.2 f.0 f.1 (λ q. c.if-next.false (c.next.ensures ∙ q)) c.if-entry.true)
+    no_end _ L _ _ c.spelled_entry-entry.result k.0 k.1 k.2 f.0 f.1 (λ q. c.if-next.false (c.next.ensures
+    ∙ q)) c.if-entry.true)
 
 pub walk-preserved : goal.walk-preserved
 walk-preserved c = record {
@@ -14,5 +15,6 @@ walk-preserved c = record {
   seeking = λ L s.
       (let k = c.walk.invariant.seeking L s in
       let f = c.spelled_entry-entry.ensures.front k.1 k.2.spelled in
-      seeking_more _ L _ _ c.spelled_entry-entry.result k.0 k.1 k.2 f.0 f.1 (λ q. c.if-next.false (c.next.ensures ∙ q)) c.if-entry.false _ c.next-here.ensures);
+      seeking_more _ L _ _ c.spelled_entry-entry.result k.0 k.1 k.2 f.0 f.1 (λ q. c.if-next.false (c.next.ensures
+      ∙ q)) c.if-entry.false _ c.next-here.ensures);
 }

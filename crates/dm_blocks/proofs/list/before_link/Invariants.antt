@@ -8,7 +8,8 @@ use Rattle.dm_blocks.proofs.list.before_link.Given as goal
 abbrev pub invariant-walk : goal.invariant-walk
 invariant-walk l = record {
   small : l.here ≤ 0xFFFF;
-  seeking : (L : List Header) → IsSpelledFrom l.space.memory first_header L → (P : List Header) × (K : List Header) × IsSeeking l.space.memory L link_header l.here P K;
+  seeking : (L : List Header) → IsSpelledFrom l.space.memory first_header L → (P : List Header) × (K : List Header) ×
+      IsSeeking l.space.memory L link_header l.here P K;
 }
 
 abbrev pub decreases-walk : goal.decreases-walk

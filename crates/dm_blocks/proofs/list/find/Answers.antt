@@ -6,13 +6,15 @@ pub returns-then-here-segment-clause-found : goal.returns-then-here-segment-clau
 returns-then-here-segment-clause-found c = λ L s.
     (let k = c.walk.invariant.finding L s in
     let f = c.spelled_entry-entry.ensures.front k.1 k.2.spelled in
-    found_block _ L _ _ c.spelled_entry-entry.result c.spelled_entry-entry.ensures.there k.0 k.1 k.2 f.0 f.1 c.if-here-segment.true)
+    found_block _ L _ _ c.spelled_entry-entry.result c.spelled_entry-entry.ensures.there k.0 k.1 k.2 f.0 f.1
+    c.if-here-segment.true)
 
 pub returns-then-entry-clause-found : goal.returns-then-entry-clause-found
 returns-then-entry-clause-found c = λ L s.
     (let k = c.walk.invariant.finding L s in
     let f = c.spelled_entry-entry.ensures.front k.1 k.2.spelled in
-    found_none _ L _ _ c.spelled_entry-entry.result c.spelled_entry-entry.ensures.there k.0 k.1 k.2 f.0 f.1 c.if-here-segment.false c.if-entry.true)
+    found_none _ L _ _ c.spelled_entry-entry.result c.spelled_entry-entry.ensures.there k.0 k.1 k.2 f.0 f.1
+    c.if-here-segment.false c.if-entry.true)
 
 pub walk-preserved : goal.walk-preserved
 walk-preserved c = record {
@@ -20,5 +22,6 @@ walk-preserved c = record {
   finding = λ L s.
       (let k = c.walk.invariant.finding L s in
       let f = c.spelled_entry-entry.ensures.front k.1 k.2.spelled in
-      finding_more _ L _ _ c.spelled_entry-entry.result c.spelled_entry-entry.ensures.there k.0 k.1 k.2 f.0 f.1 c.if-here-segment.false c.if-entry.false _ c.next-here.ensures);
+      finding_more _ L _ _ c.spelled_entry-entry.result c.spelled_entry-entry.ensures.there k.0 k.1 k.2 f.0 f.1
+      c.if-here-segment.false c.if-entry.false _ c.next-here.ensures);
 }

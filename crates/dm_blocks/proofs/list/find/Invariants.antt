@@ -7,7 +7,8 @@ use Rattle.dm_blocks.proofs.list.find.Given as goal
 abbrev pub invariant-walk : goal.invariant-walk
 invariant-walk l = record {
   small : l.here ≤ 0xFFFF;
-  finding : (L : List Header) → IsSpelledFrom l.space.memory 0x100 L → (P : List Header) × (K : List Header) × IsFinding l.space.memory L l.segment l.here P K;
+  finding : (L : List Header) → IsSpelledFrom l.space.memory 0x100 L → (P : List Header) × (K : List Header) ×
+      IsFinding l.space.memory L l.segment l.here P K;
 }
 
 abbrev pub decreases-walk : goal.decreases-walk

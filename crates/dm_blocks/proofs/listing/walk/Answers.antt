@@ -8,7 +8,11 @@ invariant_of-result c = (
   refl,
   (
     [],
-    record { path = refl; clear = record { writable = λ h w. absurd w; apart = λ h g w. absurd w }; apart = λ g w v. w },
+    record {
+      path = refl;
+      clear = record { writable = λ h w. absurd w; apart = λ h g w. absurd w };
+      apart = λ g w v. w;
+    },
     c.new.ensures _,
     cursor-none _ _,
   ),

@@ -5,13 +5,22 @@ use Rattle.dm_blocks.proofs.LowPart.{leads-first, stands-up}
 use Rattle.dm_blocks.proofs.low.find_low.Goals as goal
 
 pub walk-init : goal.walk-init
-walk-init c = record { small = omega arith; led = ([], leads-first _); finding = λ L s. ([], L, record { spelled = s; is = refl; none = λ h w. absurd w }) }
+walk-init c = record {
+  small = omega arith;
+  led = ([], leads-first _);
+  finding = λ L s. (
+    [],
+    L,
+    record { spelled = s; is = refl; none = λ h w. absurd w },
+  );
+}
 
 pub returns-then-entry-clause-found : goal.returns-then-entry-clause-found
 returns-then-entry-clause-found c = λ L s.
     (let k = c.walk.invariant.finding L s in
     let f = c.in-Some.ensures.front k.1 k.2.spelled in
-    found_none _ L _ _ c.in-Some.entry c.in-Some.ensures.there k.0 k.1 k.2 f.0 f.1 c.if-here-segment.false c.if-entry.true)
+    found_none _ L _ _ c.in-Some.entry c.in-Some.ensures.there k.0 k.1 k.2 f.0 f.1 c.if-here-segment.false
+    c.if-entry.true)
 
 pub walk-preserved : goal.walk-preserved
 walk-preserved c =
@@ -23,5 +32,6 @@ walk-preserved c =
       finding = λ L s.
           (let k = c.walk.invariant.finding L s in
           let f = c.in-Some.ensures.front k.1 k.2.spelled in
-          finding_more _ L _ _ c.in-Some.entry c.in-Some.ensures.there k.0 k.1 k.2 f.0 f.1 c.if-here-segment.false c.if-entry.false _ c.next-here.ensures);
+          finding_more _ L _ _ c.in-Some.entry c.in-Some.ensures.there k.0 k.1 k.2 f.0 f.1 c.if-here-segment.false
+          c.if-entry.false _ c.next-here.ensures);
     }

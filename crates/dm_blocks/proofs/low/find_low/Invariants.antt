@@ -9,7 +9,8 @@ abbrev pub invariant-walk : goal.invariant-walk
 invariant-walk l = record {
   small : l.here ≤ 0xFFFF;
   led : (P : List Header) × Leads l.space.memory [] 0x100 P l.here;
-  finding : (L : List Header) → IsSpelledFrom l.space.memory 0x100 L → (P : List Header) × (K : List Header) × IsFinding l.space.memory L l.segment l.here P K;
+  finding : (L : List Header) → IsSpelledFrom l.space.memory 0x100 L → (P : List Header) × (K : List Header) ×
+      IsFinding l.space.memory L l.segment l.here P K;
 }
 
 abbrev pub decreases-walk : goal.decreases-walk

@@ -3,4 +3,5 @@ use Rattle.dm_c.proofs.Taken.{taken}
 use Rattle.dm_c.proofs.exports.dm_c_run_until.Goals as goal
 
 pub returns : goal.returns
-returns c = called c.in-Some.host.value c.run_until-status.new.host (taken (λ b. b.value) c.take.result c.in-Some.host _ c.take.ensures.machine c.in-Some.is) c.put.ensures (rw c.deref_mut.ensures.value at c.run_until-status.ensures)
+returns c = called c.in-Some.host.value c.run_until-status.new.host (taken (λ b. b.value) c.take.result c.in-Some.host _
+    c.take.ensures.machine c.in-Some.is) c.put.ensures (rw c.deref_mut.ensures.value at c.run_until-status.ensures)

@@ -3,4 +3,5 @@ use Rattle.dm_c.proofs.Taken.{taken}
 use Rattle.dm_c.proofs.lists.dm_c_finding_counts.Goals as goal
 
 pub returns : goal.returns
-returns c = called c.in-Some.host.value c.in-Some.host.value (taken (λ b. b.value) c.take.result c.in-Some.host _ c.take.ensures.machine c.in-Some.is) c.put.ensures (rw c.deref.ensures at c.finding_counts-status.ensures)
+returns c = called c.in-Some.host.value c.in-Some.host.value (taken (λ b. b.value) c.take.result c.in-Some.host _
+    c.take.ensures.machine c.in-Some.is) c.put.ensures (rw c.deref.ensures at c.finding_counts-status.ensures)

@@ -4,4 +4,5 @@ use Rattle.dm_checker.specs.Watching.{header_of}
 use Rattle.dm_checker.proofs.arranged.has_size.Given as goal
 
 abbrev pub invariant-loop-watched : goal.invariant-loop-watched
-invariant-loop-watched l = has_size l.segment l.size (map header_of l.headers) ≡ has_size l.segment l.size (map header_of (drop l.watched-index l.headers))
+invariant-loop-watched l = has_size l.segment l.size (map header_of l.headers)
+    ≡ has_size l.segment l.size (map header_of (drop l.watched-index l.headers))

@@ -4,4 +4,5 @@ use Rattle.dm_checker.specs.Watching.{header_of}
 use Rattle.dm_checker.proofs.freed.is_free_at.Given as goal
 
 abbrev pub invariant-loop-watched : goal.invariant-loop-watched
-invariant-loop-watched l = is_free_at (map header_of l.headers) l.segment ≡ is_free_at (map header_of (drop l.watched-index l.headers)) l.segment
+invariant-loop-watched l = is_free_at (map header_of l.headers) l.segment
+    ≡ is_free_at (map header_of (drop l.watched-index l.headers)) l.segment

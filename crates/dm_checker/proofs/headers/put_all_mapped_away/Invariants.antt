@@ -7,4 +7,6 @@ use Rattle.dm_checker.specs.Watching.{header_of, IsWatched}
 use Rattle.dm_checker.proofs.headers.put_all_mapped_away.Given as goal
 
 abbrev pub invariant-loop-watched : goal.invariant-loop-watched
-invariant-loop-watched l = (S : Memory) → l.windows ≡ S.windows → All (IsWatched S) l.headers → l.out.items ≡ l.initial.out.items ++ flat_map (mapped_away S l.space.memory) (map header_of (take l.watched-index l.headers))
+invariant-loop-watched l = (S : Memory) → l.windows ≡ S.windows → All (IsWatched S) l.headers →
+    l.out.items ≡ l.initial.out.items ++ flat_map (mapped_away S l.space.memory)
+    (map header_of (take l.watched-index l.headers))

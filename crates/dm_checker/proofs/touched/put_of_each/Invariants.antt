@@ -6,4 +6,6 @@ use Rattle.dm_checker.specs.Watching.{header_of}
 use Rattle.dm_checker.proofs.touched.put_of_each.Given as goal
 
 abbrev pub invariant-loop-watched : goal.invariant-loop-watched
-invariant-loop-watched l = l.out.items ≡ l.initial.out.items ++ flat_map (of_header l.a20 (bytes_of l.touched.reads) (bytes_of l.touched.writes)) (map header_of (take l.watched-index l.headers))
+invariant-loop-watched l = l.out.items ≡ l.initial.out.items
+    ++ flat_map (of_header l.a20 (bytes_of l.touched.reads) (bytes_of l.touched.writes))
+    (map header_of (take l.watched-index l.headers))

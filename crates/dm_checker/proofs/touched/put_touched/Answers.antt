@@ -23,5 +23,10 @@ returns c =
     let out = c.args.out.now.items in
     let F : Option (Ins × ℕ) → Type 0 = λ o. IsNextAct s o in
     let next = subst F c.in-Some.is (c.instruction.ensures s c.requires) in
-    let first = c.in_ok-put_of_headers.ensures ∙ ap (λ (b : Bool). out ++ of_headers b (bytes_of rs) (bytes_of ws) (broken_at w.broken) (map header_of w.headers.items)) c.a20.ensures.a20 in
-    on_ok_weaker c.put_of_places.result (λ e. touches_some s w c.in-Some.ins c.in-Some.len c.args.before.now.cpu c.space-space.result.now.memory rs ws out c.put_of_headers.new.out.items c.put_of_places.new.out.items next c.requires.cpu c.space-space.ensures c.touched-touched.ensures.reads c.touched-touched.ensures.writes first e) c.put_of_places.ensures
+    let first = c.in_ok-put_of_headers.ensures ∙ ap (λ (b : Bool). out
+    ++ of_headers b (bytes_of rs) (bytes_of ws) (broken_at w.broken) (map header_of w.headers.items))
+    c.a20.ensures.a20 in
+    on_ok_weaker c.put_of_places.result (λ e. touches_some s w c.in-Some.ins c.in-Some.len c.args.before.now.cpu
+    c.space-space.result.now.memory rs ws out c.put_of_headers.new.out.items c.put_of_places.new.out.items next
+    c.requires.cpu c.space-space.ensures c.touched-touched.ensures.reads c.touched-touched.ensures.writes first e)
+    c.put_of_places.ensures

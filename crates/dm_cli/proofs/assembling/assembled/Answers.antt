@@ -13,11 +13,13 @@ returns-in_err-text-clause-fault g c =
 pub returns-in_err-bytes-clause-fault : goal.returns-in_err-bytes-clause-fault
 returns-in_err-bytes-clause-fault g c =
     let p = err_from_is_err_and c.from_residual-in_err-bytes.result c.from_residual-in_err-bytes.ensures.1 in
-    rw (p.1, p.2) (asm_fault _ _ _ _ c.in_ok-text.ensures.bytes (rw c.as_slice.ensures.value at c.in_err-bytes.ensures.refused))
+    rw (p.1, p.2) (asm_fault _ _ _ _ c.in_ok-text.ensures.bytes (rw c.as_slice.ensures.value at
+    c.in_err-bytes.ensures.refused))
 
 pub returns-in_err-text-clause-reads : goal.returns-in_err-text-clause-reads
 returns-in_err-text-clause-reads g c =
-    let p = err_from_is_err_and c.from_residual.result c.from_residual.ensures.1 in rw (p.1, p.2) c.in_err-text.ensures.reads
+    let p = err_from_is_err_and c.from_residual.result c.from_residual.ensures.1 in
+    rw (p.1, p.2) c.in_err-text.ensures.reads
 
 pub returns-in_err-bytes-clause-reads : goal.returns-in_err-bytes-clause-reads
 returns-in_err-bytes-clause-reads g c =

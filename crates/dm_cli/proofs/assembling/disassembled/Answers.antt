@@ -9,7 +9,12 @@ returns-in_err-bytes-clause-fault g c =
     rw (p.1, p.2) (bytes_unread _ c.in_err-bytes.ensures.fault)
 
 pub returns-then-len-gt-MOST_PROGRAM_BYTES-clause-fault : goal.returns-then-len-gt-MOST_PROGRAM_BYTES-clause-fault
-returns-then-len-gt-MOST_PROGRAM_BYTES-clause-fault g c = bytes_too_long _ c.in_ok-bytes.ensures.bytes (omega (arith, c.len.ensures, c.if-len-gt-MOST_PROGRAM_BYTES.true, c.in_ok-bytes.bytes.ok))
+returns-then-len-gt-MOST_PROGRAM_BYTES-clause-fault g c = bytes_too_long _ c.in_ok-bytes.ensures.bytes (omega (
+  arith,
+  c.len.ensures,
+  c.if-len-gt-MOST_PROGRAM_BYTES.true,
+  c.in_ok-bytes.bytes.ok,
+))
 
 pub returns-clause-fault : goal.returns-clause-fault
 returns-clause-fault g c = bytes_no_memory

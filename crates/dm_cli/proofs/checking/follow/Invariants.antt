@@ -10,7 +10,10 @@ invariant-loop-stop g l = record {
   way : (s : State) (n : ℕ) → IsUnderWay s n l.fn.machine l.fn.run → IsUnderWay s n l.machine l.run;
   free : l.run.free ≡ l.fn.run.free;
   count : l.count ≡ length l.run.report.listed;
-  printed : HasPrinted l.failed (lines_in l.fn.form l.run.report.listed) (record { bytes = g.E.Out.taken l.fn.error; failures = g.E.Out.failures l.fn.error })
+  printed : HasPrinted l.failed (lines_in l.fn.form l.run.report.listed) (record {
+    bytes = g.E.Out.taken l.fn.error;
+    failures = g.E.Out.failures l.fn.error;
+  })
       (record { bytes = g.E.Out.taken l.error; failures = g.E.Out.failures l.error });
   program : HasProgram l.machine;
 }

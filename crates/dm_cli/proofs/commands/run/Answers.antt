@@ -17,7 +17,8 @@ returns-clause-does g c = run_of_machine _ _ _ _ c.in_ok-machine.ensures.started
 
 pub returns-in_err-machine-clause-reads : goal.returns-in_err-machine-clause-reads
 returns-in_err-machine-clause-reads g c =
-    let p = err_from_is_err_and c.from_residual.result c.from_residual.ensures.1 in rw (p.1, p.2) c.in_err-machine.ensures.reads
+    let p = err_from_is_err_and c.from_residual.result c.from_residual.ensures.1 in
+    rw (p.1, p.2) c.in_err-machine.ensures.reads
 
 pub returns-clause-reads : goal.returns-clause-reads
 returns-clause-reads g c = all_read (read_ok _ _ c.in_ok-machine.ensures.reads) c.run_machine.ensures.reads

@@ -13,11 +13,14 @@ returns-in_err-machine-clause-does g c =
     rw (p.1, p.2) (not_begun _ c.in_err-machine.ensures.fault (Keeps-refl _) refl)
 
 pub returns-clause-does : goal.returns-clause-does
-returns-clause-does g c = debugs_with _ _ _ _ _ _ _ _ _ _ c.in_ok-machine.ensures.started (rw c.new-session.ensures at c.converse_with.ensures)
+returns-clause-does g c = debugs_with _ _ _ _ _ _ _ _ _ _ c.in_ok-machine.ensures.started
+    (rw c.new-session.ensures at c.converse_with.ensures)
 
 pub returns-in_err-machine-clause-reads : goal.returns-in_err-machine-clause-reads
 returns-in_err-machine-clause-reads g c =
-    let p = err_from_is_err_and c.from_residual.result c.from_residual.ensures.1 in rw (p.1, p.2) c.in_err-machine.ensures.reads
+    let p = err_from_is_err_and c.from_residual.result c.from_residual.ensures.1 in
+    rw (p.1, p.2) c.in_err-machine.ensures.reads
 
 pub returns-clause-reads : goal.returns-clause-reads
-returns-clause-reads g c = all_read (read_ok _ _ c.in_ok-machine.ensures.reads) (session_tells _ _ _ _ _ _ _ _ c.converse_with.ensures)
+returns-clause-reads g c = all_read (read_ok _ _ c.in_ok-machine.ensures.reads)
+    (session_tells _ _ _ _ _ _ _ _ c.converse_with.ensures)

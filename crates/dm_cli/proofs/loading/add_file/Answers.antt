@@ -18,15 +18,18 @@ returns-in_err-name-clause-fault g c =
 
 pub returns-in-Err-clause-fault : goal.returns-in-Err-clause-fault
 returns-in-Err-clause-fault g c =
-    rw c.from.ensures (fault_of_store c.in-Err.refusal _ _ _ _ _ c.in_ok-bytes.ensures.bytes c.in_ok-name.ensures.name.0 c.in_ok-name.ensures.name.1
+    rw c.from.ensures (fault_of_store c.in-Err.refusal _ _ _ _ _ c.in_ok-bytes.ensures.bytes c.in_ok-name.ensures.name.0
+    c.in_ok-name.ensures.name.1
     (λ e. c.in-Err.ensures.twice.0 (ap Err e)))
 
 pub returns-then-not-names_file-clause-fault : goal.returns-then-not-names_file-clause-fault
-returns-then-not-names_file-clause-fault g c = nameless _ (λ h. let e = c.names_file.ensures.1 h in let no = c.if-not-names_file.true in cc) refl
+returns-then-not-names_file-clause-fault g c = nameless _ (λ h. let e = c.names_file.ensures.1 h in let no =
+    c.if-not-names_file.true in cc) refl
 
 pub returns-in_err-bytes-clause-reads : goal.returns-in_err-bytes-clause-reads
 returns-in_err-bytes-clause-reads g c =
-    let p = err_from_is_err_and c.from_residual.result c.from_residual.ensures.1 in rw (p.1, p.2) c.in_err-bytes.ensures.reads
+    let p = err_from_is_err_and c.from_residual.result c.from_residual.ensures.1 in
+    rw (p.1, p.2) c.in_err-bytes.ensures.reads
 
 pub returns-in_err-name-clause-reads : goal.returns-in_err-name-clause-reads
 returns-in_err-name-clause-reads g c =
@@ -34,10 +37,12 @@ returns-in_err-name-clause-reads g c =
     rw (p.1, p.2) (all_read (read_ok _ _ c.in_ok-bytes.ensures.reads) (name_tells _ _ c.in_err-name.ensures.fault))
 
 pub returns-in-Err-clause-reads : goal.returns-in-Err-clause-reads
-returns-in-Err-clause-reads g c = rw c.from.ensures (all_read (read_ok _ _ c.in_ok-bytes.ensures.reads) (store_tells c.in-Err.refusal))
+returns-in-Err-clause-reads g c = rw c.from.ensures (all_read (read_ok _ _ c.in_ok-bytes.ensures.reads)
+    (store_tells c.in-Err.refusal))
 
 pub returns-in-Ok-clause-reads : goal.returns-in-Ok-clause-reads
 returns-in-Ok-clause-reads g c = all_read (read_ok _ _ c.in_ok-bytes.ensures.reads) tt
 
 pub returns-then-not-names_file-clause-reads : goal.returns-then-not-names_file-clause-reads
-returns-then-not-names_file-clause-reads g c = all_read refl (inr (λ h. let e = c.names_file.ensures.1 h in let no = c.if-not-names_file.true in cc))
+returns-then-not-names_file-clause-reads g c = all_read refl (inr (λ h. let e = c.names_file.ensures.1 h in let no =
+    c.if-not-names_file.true in cc))

@@ -19,18 +19,24 @@ returns-clause-ok c =
     }
 
 pub returns-then-tail-gt-MOST_TAIL_BYTES-clause-fault : goal.returns-then-tail-gt-MOST_TAIL_BYTES-clause-fault
-returns-then-tail-gt-MOST_TAIL_BYTES-clause-fault c = tail_is_long (rw c.as_bytes-tail.ensures.value at c.if-tail-gt-MOST_TAIL_BYTES.true)
+returns-then-tail-gt-MOST_TAIL_BYTES-clause-fault c =
+    tail_is_long (rw c.as_bytes-tail.ensures.value at c.if-tail-gt-MOST_TAIL_BYTES.true)
 
 pub returns-in_err-first-clause-fault : goal.returns-in_err-first-clause-fault
 returns-in_err-first-clause-fault c =
     let p = err_from_is_err_and c.from_residual.result c.from_residual.ensures.1 in
-    let none = none_first (λ path. path.now) c.args.options.now.files.items (rw (c.ok_or.ensures.ok_part, c.in_err-first.was, c.deref.ensures.value) at c.first.ensures.value) in
+    let none = none_first (λ path. path.now) c.args.options.now.files.items (rw (
+      c.ok_or.ensures.ok_part,
+      c.in_err-first.was,
+      c.deref.ensures.value,
+    ) at c.first.ensures.value) in
     rw (p.1, p.2, error_of_none _ _ _ (sym c.ok_or.ensures.value ∙ c.in_err-first.was)) (no_first
     (search (arith, c.if-tail-gt-MOST_TAIL_BYTES.false, c.as_bytes-tail.ensures.value)) none)
 
 pub returns-in_err-program_name-clause-fault : goal.returns-in_err-program_name-clause-fault
 returns-in_err-program_name-clause-fault c =
-    let p = err_from_is_err_and c.from_residual-in_err-program_name.result c.from_residual-in_err-program_name.ensures.1 in
+    let p = err_from_is_err_and c.from_residual-in_err-program_name.result
+    c.from_residual-in_err-program_name.ensures.1 in
     let head = first_of (λ path. path.now) c.args.options.now.files.items c.in_ok-first.first.now
     (rw (c.ok_or.ensures.ok_part, c.in_ok-first.was, c.deref.ensures.value) at c.first.ensures.value) in
     rw (p.1, p.2) (first_refused c.in_ok-first.first.now.now head.0 _
@@ -50,4 +56,6 @@ returns-in_err-load-clause-fault c =
 
 pub returns-in_err-program_name-clause-reads : goal.returns-in_err-program_name-clause-reads
 returns-in_err-program_name-clause-reads c =
-    let p = err_from_is_err_and c.from_residual-in_err-program_name.result c.from_residual-in_err-program_name.ensures.1 in rw (p.1, p.2) (name_tells _ _ c.in_err-program_name.ensures.fault)
+    let p = err_from_is_err_and c.from_residual-in_err-program_name.result
+    c.from_residual-in_err-program_name.ensures.1 in
+    rw (p.1, p.2) (name_tells _ _ c.in_err-program_name.ensures.fault)

@@ -23,15 +23,18 @@ returns-in_err-programs-clause-fault g c =
 pub returns-in_err-input-clause-fault : goal.returns-in_err-input-clause-fault
 returns-in_err-input-clause-fault g c =
     let p = err_from_is_err_and c.from_residual-in_err-input.result c.from_residual-in_err-input.ensures.1 in
-    rw (p.1, p.2) (of_input _ _ (rw (c.as_slice.ensures.value) at c.in_ok-programs.ensures.store) c.in_err-input.ensures.fault)
+    rw (p.1, p.2) (of_input _ _ (rw (c.as_slice.ensures.value) at c.in_ok-programs.ensures.store)
+    c.in_err-input.ensures.fault)
 
 pub returns-clause-fault : goal.returns-clause-fault
 returns-clause-fault g c =
-    IfErr-weaker c.begun.result _ _ (λ e h. of_machine _ _ e (rw (c.as_slice.ensures.value) at c.in_ok-programs.ensures.store) c.in_ok-input.ensures.bytes h) c.begun.ensures.fault
+    IfErr-weaker c.begun.result _ _ (λ e h. of_machine _ _ e (rw (c.as_slice.ensures.value) at
+    c.in_ok-programs.ensures.store) c.in_ok-input.ensures.bytes h) c.begun.ensures.fault
 
 pub returns-in_err-programs-clause-reads : goal.returns-in_err-programs-clause-reads
 returns-in_err-programs-clause-reads g c =
-    let p = err_from_is_err_and c.from_residual.result c.from_residual.ensures.1 in rw (p.1, p.2) c.in_err-programs.ensures.reads
+    let p = err_from_is_err_and c.from_residual.result c.from_residual.ensures.1 in
+    rw (p.1, p.2) c.in_err-programs.ensures.reads
 
 pub returns-in_err-input-clause-reads : goal.returns-in_err-input-clause-reads
 returns-in_err-input-clause-reads g c =

@@ -6,7 +6,10 @@ use Rattle.dm_cli.proofs.loading.read_programs.Given as goal
 -- the files so far are in the store, in their order, and each was read
 abbrev pub invariant-loop-path : goal.invariant-loop-path
 invariant-loop-path g l = record {
-  stores : Stores (g.F.Storage.contents l.initial.storage) (map (λ path. path.now) (take l.path-index l.paths)) l.programs;
+  stores : Stores (g.F.Storage.contents l.initial.storage) (map (λ path. path.now) (take l.path-index l.paths))
+      l.programs;
   all : g.F.Storage.unread l.storage ≡ g.F.Storage.unread l.initial.storage;
-  kept : IsKept (g.F.Storage.contents l.initial.storage) (g.F.Storage.contents l.storage) (g.F.Storage.saved l.initial.storage) (g.F.Storage.saved l.storage) (g.F.Storage.failures l.initial.storage) (g.F.Storage.failures l.storage);
+  kept : IsKept (g.F.Storage.contents l.initial.storage) (g.F.Storage.contents l.storage)
+      (g.F.Storage.saved l.initial.storage) (g.F.Storage.saved l.storage) (g.F.Storage.failures l.initial.storage)
+      (g.F.Storage.failures l.storage);
 }

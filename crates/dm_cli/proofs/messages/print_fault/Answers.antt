@@ -4,7 +4,8 @@ pub returns-in-CannotRead : goal.returns-in-CannotRead
 returns-in-CannotRead g c = rw c.in-CannotRead.is (rw c.as_bytes.ensures.value at c.print_each.ensures)
 
 pub returns-in-CannotWrite : goal.returns-in-CannotWrite
-returns-in-CannotWrite g c = rw c.in-CannotWrite.is (rw c.as_bytes-in-CannotWrite.ensures.value at c.print_each-in-CannotWrite.ensures)
+returns-in-CannotWrite g c = rw c.in-CannotWrite.is (rw c.as_bytes-in-CannotWrite.ensures.value at
+    c.print_each-in-CannotWrite.ensures)
 
 pub returns-in-NotFound : goal.returns-in-NotFound
 returns-in-NotFound g c = rw c.in-NotFound.is c.print.ensures

@@ -10,7 +10,8 @@ behind_last : (path : List ℕ) (start : ℕ) → start ≤ length path → (0 <
     → ((k : ℕ) → start ≤ k → k < length path → get_or path k 0 ≢ 47)
     → take (length path - start) (drop start path) ≡ last_part path
 behind_last path start within behind none =
-    let left : suffix_len (λ b. not (b == 47)) path ≡ length path - start = suffix_len_is (λ b. not (b == 47)) path start 0 within
+    let left : suffix_len (λ b. not (b == 47)) path ≡ length path - start =
+    suffix_len_is (λ b. not (b == 47)) path start 0 within
     (λ k from till. ap not (ne_eqb _ 47 (none k from till)))
     (λ some. ap not (eq-eqb _ 47 (behind some))) in
     let from : length path - suffix_len (λ b. not (b == 47)) path ≡ start = omega (arith, left, within) in

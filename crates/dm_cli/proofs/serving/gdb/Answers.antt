@@ -19,11 +19,14 @@ pub returns-in_default-clause-reads : goal.returns-in_default-clause-reads
 returns-in_default-clause-reads g c = all_read (read_ok _ _ c.in_ok-machine.ensures.reads) tt
 
 pub returns-clause-does : goal.returns-clause-does
-returns-clause-does g c = serves_with _ _ _ _ _ _ _ _ _ c.in_ok-machine.ensures.started (rw c.in-Ok.ensures at c.serve_with.ensures)
+returns-clause-does g c = serves_with _ _ _ _ _ _ _ _ _ c.in_ok-machine.ensures.started
+    (rw c.in-Ok.ensures at c.serve_with.ensures)
 
 pub returns-in_err-machine-clause-reads : goal.returns-in_err-machine-clause-reads
 returns-in_err-machine-clause-reads g c =
-    let p = err_from_is_err_and c.from_residual.result c.from_residual.ensures.1 in rw (p.1, p.2) c.in_err-machine.ensures.reads
+    let p = err_from_is_err_and c.from_residual.result c.from_residual.ensures.1 in
+    rw (p.1, p.2) c.in_err-machine.ensures.reads
 
 pub returns-clause-reads : goal.returns-clause-reads
-returns-clause-reads g c = all_read (read_ok _ _ c.in_ok-machine.ensures.reads) (conversation_tells _ _ _ _ _ _ _ _ c.serve_with.ensures)
+returns-clause-reads g c = all_read (read_ok _ _ c.in_ok-machine.ensures.reads)
+    (conversation_tells _ _ _ _ _ _ _ _ c.serve_with.ensures)

@@ -9,5 +9,6 @@ returns-in_default g c = no_buffer_for (Keeps-refl _) refl
 
 pub returns : goal.returns
 returns g c =
-    let known = known_of_plain_reader g.I.Read.remaining c.in-Ok.requests c.args.requests c.in-Ok.ensures.capacity c.in-Ok.ensures.empty c.in-Ok.ensures.inner in
+    let known = known_of_plain_reader g.I.Read.remaining c.in-Ok.requests c.args.requests c.in-Ok.ensures.capacity
+    c.in-Ok.ensures.empty c.in-Ok.ensures.inner in
     with_buffer _ (rw known at c.serve.ensures)

@@ -10,5 +10,6 @@ returns-in_default-clause-err g c = lacking (Keeps-refl _) refl
 pub returns-clause-err : goal.returns-clause-err
 returns-clause-err g c =
     let h = c.in-Ok.ensures in
-    not_written c.write_at_once.result _ _ _ _ _ _ _ _ _ _ _ h.2 c.new-sent.ensures.items (c.as_slice.ensures.value ∙ h.1) c.write_at_once.ensures.err c.write_at_once.ensures.part
+    not_written c.write_at_once.result _ _ _ _ _ _ _ _ _ _ _ h.2 c.new-sent.ensures.items (c.as_slice.ensures.value
+    ∙ h.1) c.write_at_once.ensures.err c.write_at_once.ensures.part
     c.write_at_once.ensures.failed c.write_at_once.ensures.some

@@ -28,9 +28,12 @@ abbrev pub watch_of : Memory → Event → Watched
 watch_of m e = record { event = e; before = bytes_for m e }
 
 -- a run up to events, of one step or more and with one event or more, that began with this memory
-pub data GoesTo (start : Memory) (s : State) (most : ℕ) (events : List Event) (ending : RunEnd) (t : State) : Type 0 where
-  came : (made index : ℕ) (before : State) → made < most → ending ≡ Came index → Passes start events s made before → IsRun before 1 AllSteps t
+pub data GoesTo (start : Memory) (s : State) (most : ℕ) (events : List Event) (ending : RunEnd)
+    (t : State) : Type 0 where
+  came : (made index : ℕ) (before : State) → made < most → ending ≡ Came index → Passes start events s made before →
+      IsRun before 1 AllSteps t
       → first_come start events t ≡ Some index → GoesTo start s most events ending t
   whole : ending ≡ Stopped AllSteps → Passes start events s most t → GoesTo start s most events ending t
-  cut : (made : ℕ) (before : State) (why : Stop) → made < most → ending ≡ Stopped why → why ≢ AllSteps → Passes start events s made before → IsRun before 1 why t
+  cut : (made : ℕ) (before : State) (why : Stop) → made < most → ending ≡ Stopped why → why ≢ AllSteps →
+      Passes start events s made before → IsRun before 1 why t
       → GoesTo start s most events ending t

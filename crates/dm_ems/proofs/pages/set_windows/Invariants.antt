@@ -6,4 +6,7 @@ use Rattle.dm_ems.proofs.pages.set_windows.Given as goal
 abbrev pub invariant-loop-window : goal.invariant-loop-window
 invariant-loop-window l =
     (length l.initial.space.memory.windows ≡ 4)
-    × (l.space ≡ record l.initial.space { memory = with_windows l.initial.space.memory (take l.window l.windows ++ drop l.window l.initial.space.memory.windows) })
+    × (l.space ≡ record l.initial.space {
+      memory = with_windows l.initial.space.memory (take l.window l.windows
+          ++ drop l.window l.initial.space.memory.windows);
+    })

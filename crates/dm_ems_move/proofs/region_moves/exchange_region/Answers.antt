@@ -9,10 +9,16 @@ pub exchange_between-requires-clause-from : goal.exchange_between-requires-claus
 exchange_between-requires-clause-from c =
     let a = c.args in
     let few = subst (λ (ps : List Page). length ps ≤ 512) c.pages-pages.ensures.pages c.pages-pages.ensures.few in
-    (regions-inside (expanded a.ems.now a.space.now.memory) a.segment a.offset c.length_at-len.result (c.in-Ok.from, c.in-Ok.to) c.requires few c.in-Ok.ensures).from
+    (regions-inside (expanded a.ems.now a.space.now.memory) a.segment a.offset c.length_at-len.result (
+      c.in-Ok.from,
+      c.in-Ok.to,
+    ) c.requires few c.in-Ok.ensures).from
 
 pub exchange_between-requires-clause-to : goal.exchange_between-requires-clause-to
 exchange_between-requires-clause-to c =
     let a = c.args in
     let few = subst (λ (ps : List Page). length ps ≤ 512) c.pages-pages.ensures.pages c.pages-pages.ensures.few in
-    (regions-inside (expanded a.ems.now a.space.now.memory) a.segment a.offset c.length_at-len.result (c.in-Ok.from, c.in-Ok.to) c.requires few c.in-Ok.ensures).to
+    (regions-inside (expanded a.ems.now a.space.now.memory) a.segment a.offset c.length_at-len.result (
+      c.in-Ok.from,
+      c.in-Ok.to,
+    ) c.requires few c.in-Ok.ensures).to

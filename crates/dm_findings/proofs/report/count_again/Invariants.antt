@@ -4,4 +4,5 @@ use Rattle.dm_findings.proofs.report.count_again.Given as goal
 
 -- the lines before the index are counted, the others as they were
 abbrev pub invariant-loop-line : goal.invariant-loop-line
-invariant-loop-line l = l.lines ≡ map (counted l.found) (take l.line-index l.initial.lines) ++ drop l.line-index l.initial.lines
+invariant-loop-line l = l.lines ≡ map (counted l.found) (take l.line-index l.initial.lines)
+    ++ drop l.line-index l.initial.lines

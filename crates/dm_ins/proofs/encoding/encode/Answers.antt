@@ -6,7 +6,8 @@ returns-in-Some c =
     rw (c.whole.ensures)
     (record {
       spells = encode_spells c.args.ins.now.prefixes c.args.ins.now.action c.in-Some.bytes.items c.in-Some.ensures;
-      least = λ b s. encode_least c.args.ins.now.prefixes c.args.ins.now.action c.in-Some.bytes.items b c.in-Some.ensures s;
+      least = λ b s. encode_least c.args.ins.now.prefixes c.args.ins.now.action c.in-Some.bytes.items b
+          c.in-Some.ensures s;
     })
 
 pub returns-in-None : goal.returns-in-None

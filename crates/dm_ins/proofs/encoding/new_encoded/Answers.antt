@@ -2,7 +2,12 @@ use Rattle.dm_ins.proofs.Shortest.{best_spells, encode_least, encode_spells, non
 use Rattle.dm_ins.proofs.encoding.new_encoded.Goals as goal
 
 pub invariant_of-result : goal.invariant_of-result
-invariant_of-result c = record { has_spelling = ∣ (c.in-Some.bytes.items, best_spells c.args.action c.in-Some.bytes.items c.in-Some.ensures) ∣₁ }
+invariant_of-result c = record {
+  has_spelling = ∣ (
+    c.in-Some.bytes.items,
+    best_spells c.args.action c.in-Some.bytes.items c.in-Some.ensures,
+  ) ∣₁;
+}
 
 pub returns-in-Some-clause-bytes : goal.returns-in-Some-clause-bytes
 returns-in-Some-clause-bytes c =

@@ -12,9 +12,12 @@ pub candidate-requires : goal.candidate-requires
 candidate-requires c = all_fit c.keys_of-keys.result.now c.loop-key.key-index c.keys_of-keys.ensures.fits
 
 pub loop-key-preserved : goal.loop-key-preserved
-loop-key-preserved c = rw c.better-best.ensures (best_more c.keys_of-keys.result.now c.args.action.now c.loop-key.key-index _ _ c.loop-key.invariant c.candidate.ensures.found c.candidate.ensures.none)
+loop-key-preserved c = rw c.better-best.ensures (best_more c.keys_of-keys.result.now c.args.action.now
+    c.loop-key.key-index _ _ c.loop-key.invariant c.candidate.ensures.found c.candidate.ensures.none)
 
 pub returns : goal.returns
 returns c =
-    let best = best_at c.loop-key.key-index (length c.keys_of-keys.result.now) c.keys_of-keys.result.now c.args.action.now (seen_bytes c.loop-key.best) (omega arith) c.loop-key.invariant in
-    subst (λ (ks : List Key). Best (length ks) ks c.args.action.now (seen_bytes c.loop-key.best)) c.keys_of-keys.ensures.keys best
+    let best = best_at c.loop-key.key-index (length c.keys_of-keys.result.now) c.keys_of-keys.result.now
+    c.args.action.now (seen_bytes c.loop-key.best) (omega arith) c.loop-key.invariant in
+    subst (λ (ks : List Key). Best (length ks) ks c.args.action.now (seen_bytes c.loop-key.best))
+    c.keys_of-keys.ensures.keys best

@@ -9,5 +9,6 @@ unfolding found_object
 returns c =
     let old = c.args.out.now.items in
     let f = c.args.found.now in
-    let members = behind old (opening (kind_text (is_error f.finding))) (found_members f) _ _ (rw c.severity_word.ensures at c.in_ok-put_opening.ensures) c.in_ok-put_members.ensures in
+    let members = behind old (opening (kind_text (is_error f.finding))) (found_members f) _ _
+    (rw c.severity_word.ensures at c.in_ok-put_opening.ensures) c.in_ok-put_members.ensures in
     ends_with c.extend_from_slice.result old _ object_end _ _ _ members c.extend_from_slice.ensures.items

@@ -9,8 +9,12 @@ unfolding summary_objects
 returns c =
     let old = c.args.out.now.items in
     let r = c.args.report.now in
-    let out = behind old (flat_map again_object r.listed) (not_listed_object r.not_listed) _ _ (rw c.listed.ensures at c.in_ok-put_all_again_objects.ensures) (rw c.not_listed.ensures at c.in_ok-put_not_listed_object.ensures) in
+    let out = behind old (flat_map again_object r.listed) (not_listed_object r.not_listed) _ _
+    (rw c.listed.ensures at c.in_ok-put_all_again_objects.ensures)
+    (rw c.not_listed.ensures at c.in_ok-put_not_listed_object.ensures) in
     let word = behind old _ (opening (codes "summary")) _ _ out c.in_ok-put_opening.ensures in
-    let errors = behind old _ (number_member (codes "errors") r.errors) _ _ word (rw c.errors.ensures at c.in_ok-put_number_member.ensures) in
-    let notes = behind old _ (number_member (codes "notes") r.notes) _ _ errors (rw c.notes.ensures at c.in_ok-put_number_member-2.ensures) in
+    let errors = behind old _ (number_member (codes "errors") r.errors) _ _ word
+    (rw c.errors.ensures at c.in_ok-put_number_member.ensures) in
+    let notes = behind old _ (number_member (codes "notes") r.notes) _ _ errors
+    (rw c.notes.ensures at c.in_ok-put_number_member-2.ensures) in
     ends_with c.extend_from_slice.result old _ object_end _ _ _ notes c.extend_from_slice.ensures.items

@@ -5,4 +5,5 @@ use Rattle.dm_json.proofs.processes.put_each.Given as goal
 
 -- the lines of the processes so far
 abbrev pub invariant-loop-process : goal.invariant-loop-process
-invariant-loop-process l = l.out.items ≡ l.initial.out.items ++ flat_map process_object (take l.process-index l.processes)
+invariant-loop-process l = l.out.items ≡ l.initial.out.items
+    ++ flat_map process_object (take l.process-index l.processes)

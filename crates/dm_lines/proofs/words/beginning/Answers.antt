@@ -84,4 +84,24 @@ returns-in-88 c = ap (λ (b : ℕ). those (begins b) all_words) (sym c.in-88.is)
 
 pub returns-in_default : goal.returns-in_default
 returns-in_default c =
-    sym (none_begin c.args.first (rw (ne_eqb c.args.first 65 (omega arith), ne_eqb c.args.first 66 (omega arith), ne_eqb c.args.first 67 (omega arith), ne_eqb c.args.first 68 (omega arith), ne_eqb c.args.first 69 (omega arith), ne_eqb c.args.first 70 (omega arith), ne_eqb c.args.first 72 (omega arith), ne_eqb c.args.first 73 (omega arith), ne_eqb c.args.first 74 (omega arith), ne_eqb c.args.first 76 (omega arith), ne_eqb c.args.first 77 (omega arith), ne_eqb c.args.first 78 (omega arith), ne_eqb c.args.first 79 (omega arith), ne_eqb c.args.first 80 (omega arith), ne_eqb c.args.first 82 (omega arith), ne_eqb c.args.first 83 (omega arith), ne_eqb c.args.first 84 (omega arith), ne_eqb c.args.first 87 (omega arith), ne_eqb c.args.first 88 (omega arith)) refl))
+    sym (none_begin c.args.first (rw (
+      ne_eqb c.args.first 65 (omega arith),
+      ne_eqb c.args.first 66 (omega arith),
+      ne_eqb c.args.first 67 (omega arith),
+      ne_eqb c.args.first 68 (omega arith),
+      ne_eqb c.args.first 69 (omega arith),
+      ne_eqb c.args.first 70 (omega arith),
+      ne_eqb c.args.first 72 (omega arith),
+      ne_eqb c.args.first 73 (omega arith),
+      ne_eqb c.args.first 74 (omega arith),
+      ne_eqb c.args.first 76 (omega arith),
+      ne_eqb c.args.first 77 (omega arith),
+      ne_eqb c.args.first 78 (omega arith),
+      ne_eqb c.args.first 79 (omega arith),
+      ne_eqb c.args.first 80 (omega arith),
+      ne_eqb c.args.first 82 (omega arith),
+      ne_eqb c.args.first 83 (omega arith),
+      ne_eqb c.args.first 84 (omega arith),
+      ne_eqb c.args.first 87 (omega arith),
+      ne_eqb c.args.first 88 (omega arith),
+    ) refl))

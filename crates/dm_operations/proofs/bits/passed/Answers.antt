@@ -22,9 +22,11 @@ pub returns-in-ArithmeticRight-clause-value : goal.returns-in-ArithmeticRight-cl
 returns-in-ArithmeticRight-clause-value c =
     let b = c.is_negative.result in
     ap (λ s. (0 + (4294967296 - from_bool b)) % 4294967296 % s) c.size.ensures ∙ sign_bits c.args.width b
-    ∙ ap (λ (x : Shifted). x.value) (sign_passed _ _ _ _ b c.in-ArithmeticRight.is c.is_negative.ensures c.requires.value c.requires.most)
+    ∙ ap (λ (x : Shifted). x.value) (sign_passed _ _ _ _ b c.in-ArithmeticRight.is c.is_negative.ensures
+    c.requires.value c.requires.most)
 
 pub returns-in-ArithmeticRight-clause-carry : goal.returns-in-ArithmeticRight-clause-carry
 returns-in-ArithmeticRight-clause-carry c =
     let b = c.is_negative.result in
-    sign_top c.args.width b ∙ ap (λ (x : Shifted). x.carry) (sign_passed _ _ _ _ b c.in-ArithmeticRight.is c.is_negative.ensures c.requires.value c.requires.most)
+    sign_top c.args.width b ∙ ap (λ (x : Shifted). x.carry) (sign_passed _ _ _ _ b c.in-ArithmeticRight.is
+    c.is_negative.ensures c.requires.value c.requires.most)

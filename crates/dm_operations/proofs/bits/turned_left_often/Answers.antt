@@ -11,7 +11,8 @@ returns-clause-value c =
     let w = c.args.width in
     let k = c.args.count % (bits_of w + 1) in
     let turned = c.turned_by.ensures ∙ ap (λ n. rotated (2 * size w) n k) c.with_carry.ensures in
-    c.out_of.ensures.value ∙ ap (λ t. t % size w) turned ∙ ap (λ (x : Shifted). x.value) (through_left w c.args.start c.args.count c.requires)
+    c.out_of.ensures.value ∙ ap (λ t. t % size w) turned
+    ∙ ap (λ (x : Shifted). x.value) (through_left w c.args.start c.args.count c.requires)
 
 pub returns-clause-carry : goal.returns-clause-carry
 returns-clause-carry c =
@@ -21,5 +22,6 @@ returns-clause-carry c =
     let few = mod_turn w c.args.count in
     let turned = c.turned_by.ensures ∙ ap (λ n. rotated (2 * size w) n k) c.with_carry.ensures in
     let below = through_below w x k (above_below w c.args.start c.requires) (omega arith) in
-    c.out_of.ensures.carry ∙ ap (λ t. nat_eq (t / size w % 2) 1) turned ∙ above w (rotated (2 * size w) x k) ∙ ap (nat_le (size w)) below
+    c.out_of.ensures.carry ∙ ap (λ t. nat_eq (t / size w % 2) 1) turned ∙ above w (rotated (2 * size w) x k)
+    ∙ ap (nat_le (size w)) below
     ∙ ap (λ (x : Shifted). x.carry) (through_left w c.args.start c.args.count c.requires)

@@ -17,11 +17,16 @@ returns-clause-does g c =
     let r = c.moved_once-carry.result.0 in
     let b = nat_le 2147483648 c.overflow_once-overflow.result in
     let op = g.M.ShiftOrRotate.operation in
-    let held = word_held c.args.cpu.now m o a _ _ n c.segment_at-segment.ensures c.offset_at-offset.ensures c.low_word-before.ensures c.low_word-before.type_inv in
+    let held = word_held c.args.cpu.now m o a _ _ n c.segment_at-segment.ensures c.offset_at-offset.ensures
+    c.low_word-before.ensures c.low_word-before.type_inv in
     let made =
     c.moved_once-carry.ensures.moved
-    ∙ ap (λ (x : ShiftOperation). moves x alu.Word 1 (record { value = n; carry = c.flags.result.carry })) c.operation-operation.ensures
+    ∙ ap (λ (x : ShiftOperation). moves x alu.Word 1 (record { value = n; carry = c.flags.result.carry }))
+    c.operation-operation.ensures
     ∙ ap (λ (f : Flags). moves op alu.Word 1 (record { value = n; carry = f.carry })) c.flags.ensures in
-    let over = c.overflow_once-overflow.ensures ∙ ap (λ (x : ShiftOperation). overflow_after_shift x alu.Word n r) c.operation-operation.ensures in
-    let set = c.follow_move.ensures ∙ ap (λ (x : ShiftOperation). moved_once c.args.cpu.now x alu.Word r b) c.operation-operation.ensures in
-    rw c.set_low_word.ensures (word_moved_once c.args.cpu.now c.follow_move.new.cpu m o a _ _ n op r b c.segment_at-segment.ensures c.offset_at-offset.ensures made over set held)
+    let over = c.overflow_once-overflow.ensures ∙ ap (λ (x : ShiftOperation). overflow_after_shift x alu.Word n r)
+    c.operation-operation.ensures in
+    let set = c.follow_move.ensures ∙ ap (λ (x : ShiftOperation). moved_once c.args.cpu.now x alu.Word r b)
+    c.operation-operation.ensures in
+    rw c.set_low_word.ensures (word_moved_once c.args.cpu.now c.follow_move.new.cpu m o a _ _ n op r b
+    c.segment_at-segment.ensures c.offset_at-offset.ensures made over set held)

@@ -7,8 +7,10 @@ use Rattle.dm_options.proofs.arguments.check_command.Goals as goal
 
 pub returns-clause-app : goal.returns-clause-app
 returns-clause-app c =
-    let machine = c.in_ok-with_machine_args.ensures.app ∙ ap (with_machine_rules _) {y = new_app (codes "check")} (search rules) ∙ ap (λ r. with_machine_rules r (new_app (codes "check"))) c.steps_arg.ensures.rule in
-    let free = c.in_ok-arg.ensures.shape c.no_free_arg.ensures.local ∙ ap₂ with_rule machine c.no_free_arg.ensures.rule in
+    let machine = c.in_ok-with_machine_args.ensures.app ∙ ap (with_machine_rules _) {y = new_app (codes "check")}
+    (search rules) ∙ ap (λ r. with_machine_rules r (new_app (codes "check"))) c.steps_arg.ensures.rule in
+    let free = c.in_ok-arg.ensures.shape c.no_free_arg.ensures.local
+    ∙ ap₂ with_rule machine c.no_free_arg.ensures.rule in
     IfOk-weaker c.arg-2.result _ _
     (λ r h. h.shape c.json_arg.ensures.local ∙ ap₂ with_rule free c.json_arg.ensures.rule) c.arg-2.ensures
 

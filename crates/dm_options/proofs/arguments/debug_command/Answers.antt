@@ -7,7 +7,8 @@ use Rattle.dm_options.proofs.arguments.debug_command.Goals as goal
 
 pub returns-clause-app : goal.returns-clause-app
 returns-clause-app c =
-    let machine = c.in_ok-with_machine_args.ensures.app ∙ ap (with_machine_rules _) {y = new_app (codes "debug")} (search rules) ∙ ap (λ r. with_machine_rules r (new_app (codes "debug"))) c.steps_arg.ensures.rule in
+    let machine = c.in_ok-with_machine_args.ensures.app ∙ ap (with_machine_rules _) {y = new_app (codes "debug")}
+    (search rules) ∙ ap (λ r. with_machine_rules r (new_app (codes "debug"))) c.steps_arg.ensures.rule in
     IfOk-weaker c.arg.result _ _
     (λ r h. h.shape c.input_arg.ensures.local ∙ ap₂ with_rule machine c.input_arg.ensures.rule) c.arg.ensures
 

@@ -22,21 +22,25 @@ returns-in_default-kind g c =
     record {
       ok = tt;
       no_fault = tt;
-      err = elim (subst (λ a. HasKind (fault_of a words) c.in-Err.error) made (c.in-Err.ensures.kinds (ap is_simple_and_free made ∙ free))) [
-        | inl memory ↦ absurd (c.in_default-kind.not-OutOfMemory (c.kind.ensures ∙ memory))
-        | inr among ↦ among
-      ];
+      err = elim (subst (λ a. HasKind (fault_of a words) c.in-Err.error) made (c.in-Err.ensures.kinds
+          (ap is_simple_and_free made ∙ free))) [
+            | inl memory ↦ absurd (c.in_default-kind.not-OutOfMemory (c.kind.ensures ∙ memory))
+            | inr among ↦ among
+          ];
     }
 
 pub returns-in-Ok-found_options-clause-ok : goal.returns-in-Ok-found_options-clause-ok
 returns-in-Ok-found_options-clause-ok g c =
     let words = map g.S.AsStr.text c.args.words.now in
     let made = c.in-Ok.ensures in
-    let arguments = (c.in-Ok-try_get_matches_from.ensures.matches (ap is_simple made ∙ simple)).1 ∙ ap (λ (a : App). subcommand_of a words) made in
-    subst (λ (o : Option (Text × List Row)). IsSomeAnd o (λ given. HasOptions given c.in-Ok-found_options.options)) arguments c.in-Ok-found_options.ensures
+    let arguments = (c.in-Ok-try_get_matches_from.ensures.matches (ap is_simple made ∙ simple)).1
+    ∙ ap (λ (a : App). subcommand_of a words) made in
+    subst (λ (o : Option (Text × List Row)). IsSomeAnd o (λ given. HasOptions given c.in-Ok-found_options.options))
+    arguments c.in-Ok-found_options.ensures
 
 pub returns-in-Ok-found_options-clause-no_fault : goal.returns-in-Ok-found_options-clause-no_fault
 returns-in-Ok-found_options-clause-no_fault g c =
     let words = map g.S.AsStr.text c.args.words.now in
     let made = c.in-Ok.ensures in
-    subst (λ a. fault_of a words ≡ []) made (c.in-Ok-try_get_matches_from.ensures.kinds (ap is_simple_and_free made ∙ free))
+    subst (λ a. fault_of a words ≡ []) made (c.in-Ok-try_get_matches_from.ensures.kinds (ap is_simple_and_free made
+    ∙ free))

@@ -15,7 +15,9 @@ pub loop-at-preserved : goal.loop-at-preserved
 loop-at-preserved c = record {
   from = omega arith;
   to = c.free_run-at.ensures.most;
-  frees = runs_more (λ p. not (is_free_in c.args.old.now p)) c.args.block.now.segment c.loop-at.at c.free_run-at.result c.args.origin c.args.freed.now c.loop-at.freed c.free_run-at.new.freed c.loop-at.invariant.from (omega arith) c.loop-at.invariant.frees c.free_run-at.ensures.frees;
+  frees = runs_more (λ p. not (is_free_in c.args.old.now p)) c.args.block.now.segment c.loop-at.at c.free_run-at.result
+      c.args.origin c.args.freed.now c.loop-at.freed c.free_run-at.new.freed c.loop-at.invariant.from
+      (omega arith) c.loop-at.invariant.frees c.free_run-at.ensures.frees;
 }
 
 pub returns : goal.returns
@@ -26,4 +28,5 @@ returns c =
       | inl less ↦ inl less
       | inr over ↦ inr (omega arith)
     ] in
-    block_runs c.args.old.now b end c.args.origin c.args.freed.now c.loop-at.freed c.requires c.if-block-ne0.false (omega arith) (omega arith) whole c.loop-at.invariant.frees
+    block_runs c.args.old.now b end c.args.origin c.args.freed.now c.loop-at.freed c.requires c.if-block-ne0.false
+    (omega arith) (omega arith) whole c.loop-at.invariant.frees

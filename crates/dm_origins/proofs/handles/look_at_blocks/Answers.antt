@@ -13,12 +13,15 @@ loop-before-preserved c =
     let ys = c.loop-before.known in
     let fits : i < length ys = omega arith in
     let is : c.seen.result ≡ seen_handle (has_block c.args.xms.now i) c.args.origin (get_or ys i Unused)
-    = c.seen.ensures ∙ ap (λ (b : Bool). seen_handle b c.args.origin (get_or ys i Unused)) (c.is_some.ensures ∙ ap is_some c.handle.ensures.slot) in
+    = c.seen.ensures ∙ ap (λ (b : Bool). seen_handle b c.args.origin (get_or ys i Unused)) (c.is_some.ensures
+    ∙ ap is_some c.handle.ensures.slot) in
     record {
       count = length-set ys i c.seen.result ∙ c.loop-before.invariant.count;
-      done = done_next (λ (h : ℕ) (x : Since). seen_handle (has_block c.args.xms.now h) c.args.origin x) c.args.known.now ys i c.seen.result Unused fits is c.loop-before.invariant.done c.loop-before.invariant.left;
+      done = done_next (λ (h : ℕ) (x : Since). seen_handle (has_block c.args.xms.now h) c.args.origin x)
+          c.args.known.now ys i c.seen.result Unused fits is c.loop-before.invariant.done c.loop-before.invariant.left;
       left = left_next c.args.known.now ys i c.seen.result Unused c.loop-before.invariant.left;
     }
 
 pub returns : goal.returns
-returns c = is_each _ c.args.known.now c.loop-before.known Unused c.loop-before.invariant.count (λ k less. c.loop-before.invariant.done k (omega arith))
+returns c = is_each _ c.args.known.now c.loop-before.known Unused c.loop-before.invariant.count
+    (λ k less. c.loop-before.invariant.done k (omega arith))

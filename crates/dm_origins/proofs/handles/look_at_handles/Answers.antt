@@ -13,12 +13,15 @@ loop-handle-preserved c =
     let ys = c.loop-handle.known in
     let fits : i < length ys = omega arith in
     let is : c.seen.result ≡ seen_handle (has_handle c.args.ems.now i) c.args.origin (get_or ys i Unused)
-    = c.seen.ensures ∙ ap (λ (b : Bool). seen_handle b c.args.origin (get_or ys i Unused)) (c.is_some.ensures ∙ ap is_some c.slot.ensures.slot) in
+    = c.seen.ensures ∙ ap (λ (b : Bool). seen_handle b c.args.origin (get_or ys i Unused)) (c.is_some.ensures
+    ∙ ap is_some c.slot.ensures.slot) in
     record {
       count = length-set ys i c.seen.result ∙ c.loop-handle.invariant.count;
-      done = done_next (λ (h : ℕ) (x : Since). seen_handle (has_handle c.args.ems.now h) c.args.origin x) c.args.known.now ys i c.seen.result Unused fits is c.loop-handle.invariant.done c.loop-handle.invariant.left;
+      done = done_next (λ (h : ℕ) (x : Since). seen_handle (has_handle c.args.ems.now h) c.args.origin x)
+          c.args.known.now ys i c.seen.result Unused fits is c.loop-handle.invariant.done c.loop-handle.invariant.left;
       left = left_next c.args.known.now ys i c.seen.result Unused c.loop-handle.invariant.left;
     }
 
 pub returns : goal.returns
-returns c = is_each _ c.args.known.now c.loop-handle.known Unused c.loop-handle.invariant.count (λ k less. c.loop-handle.invariant.done k (omega arith))
+returns c = is_each _ c.args.known.now c.loop-handle.known Unused c.loop-handle.invariant.count
+    (λ k less. c.loop-handle.invariant.done k (omega arith))

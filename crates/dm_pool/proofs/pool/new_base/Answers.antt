@@ -12,4 +12,5 @@ returns-then-units-eq0-clause-free c =
 pub returns-clause-free : goal.returns-clause-free
 returns-clause-free c =
     let t = c.args.table.now in
-    if_some c.first_fit.result _ _ (gap_free t.places t.units c.args.units c.first_fit.result (sym c.first_fit.ensures)) (λ p f. (f.0, clear_without t.places c.args.slot p c.args.units f.1, f.2))
+    if_some c.first_fit.result _ _ (gap_free t.places t.units c.args.units c.first_fit.result (sym c.first_fit.ensures))
+    (λ p f. (f.0, clear_without t.places c.args.slot p c.args.units f.1, f.2))

@@ -7,32 +7,51 @@ use Rattle.dm_pool.proofs.runs.first_fit.Goals as goal
 
 pub loop-at-init : goal.loop-at-init
 loop-at-init c =
-    let t = c.args.table.now in let told = subst (λ f. Tells t.places t.units 0 f c.args.bytes.now) (sym c.first-at.ensures) c.requires.told.tells in
-    (sets_out t.places t.units c.args.bytes.now c.first-at.result told, fit_is_lowest t.places t.units c.args.wanted told.runs c.requires.some told.gaps)
+    let t = c.args.table.now in let told = subst (λ f. Tells t.places t.units 0 f c.args.bytes.now)
+    (sym c.first-at.ensures) c.requires.told.tells in (
+      sets_out t.places t.units c.args.bytes.now c.first-at.result told,
+      fit_is_lowest t.places t.units c.args.wanted told.runs c.requires.some told.gaps,
+    )
 
 pub run_at-run-requires : goal.run_at-run-requires
 run_at-run-requires c =
-    let t = c.args.table.now in let h = run_within t.places t.units c.args.bytes.now c.loop-at.at c.loop-at.invariant.0 c.loop-at-test.true in
+    let t = c.args.table.now in let h = run_within t.places t.units c.args.bytes.now c.loop-at.at c.loop-at.invariant.0
+    c.loop-at-test.true in
     (omega (arith, h, c.requires.told.whole), omega (arith, h, c.recall.ensures.laid.small))
 
 pub returns-then-wanted-run : goal.returns-then-wanted-run
 returns-then-wanted-run c =
-    let t = c.args.table.now in let p = c.loop-at.invariant.0 in let m = meets t.places t.units c.args.bytes.now c.loop-at.at p c.loop-at-test.true in
-    ap (λ n. Some n) (sym m.low) ∙ sym (fit_here p.rest m.run m.behind c.args.wanted m.splits (omega (arith, c.if-wanted-run.true, c.run_at-run.ensures.0, m.size))) ∙ c.loop-at.invariant.1
+    let t = c.args.table.now in let p = c.loop-at.invariant.0 in let m =
+    meets t.places t.units c.args.bytes.now c.loop-at.at p c.loop-at-test.true in
+    ap (λ n. Some n) (sym m.low) ∙ sym (fit_here p.rest m.run m.behind c.args.wanted m.splits (omega (
+      arith,
+      c.if-wanted-run.true,
+      c.run_at-run.ensures.0,
+      m.size,
+    ))) ∙ c.loop-at.invariant.1
 
 pub loop-at-smaller : goal.loop-at-smaller
 loop-at-smaller c =
     let t = c.args.table.now in
-    subst (λ n. t.units - n < t.units - c.loop-at.at) (sym c.run_at-run.ensures.1) (run_falls t.places t.units c.args.bytes.now c.loop-at.at c.loop-at.invariant.0 c.loop-at-test.true c.recall.ensures.laid.small)
+    subst (λ n. t.units - n < t.units - c.loop-at.at) (sym c.run_at-run.ensures.1)
+    (run_falls t.places t.units c.args.bytes.now c.loop-at.at c.loop-at.invariant.0 c.loop-at-test.true
+    c.recall.ensures.laid.small)
 
 pub loop-at-preserved : goal.loop-at-preserved
 loop-at-preserved c =
-    let t = c.args.table.now in let p = c.loop-at.invariant.0 in let m = meets t.places t.units c.args.bytes.now c.loop-at.at p c.loop-at-test.true in (
+    let t = c.args.table.now in let p = c.loop-at.invariant.0 in let m =
+    meets t.places t.units c.args.bytes.now c.loop-at.at p c.loop-at-test.true in (
       goes_on t.places t.units c.args.bytes.now c.loop-at.at c.run_at-run.result.next p.rest c.run_at-run.ensures.1 m,
-      sym (fit_behind p.rest m.run m.behind c.args.wanted m.splits (omega (arith, c.if-wanted-run.false, c.run_at-run.ensures.0, m.size))) ∙ c.loop-at.invariant.1,
+      sym (fit_behind p.rest m.run m.behind c.args.wanted m.splits (omega (
+        arith,
+        c.if-wanted-run.false,
+        c.run_at-run.ensures.0,
+        m.size,
+      ))) ∙ c.loop-at.invariant.1,
     )
 
 pub returns : goal.returns
 returns c =
     let t = c.args.table.now in let p = c.loop-at.invariant.0 in
-    sym (sym c.loop-at.invariant.1 ∙ ap (λ l. first_fit l c.args.wanted) (none_left t.places t.units c.args.bytes.now c.loop-at.at p c.loop-at-test.false c.recall.ensures.laid.small))
+    sym (sym c.loop-at.invariant.1 ∙ ap (λ l. first_fit l c.args.wanted)
+    (none_left t.places t.units c.args.bytes.now c.loop-at.at p c.loop-at-test.false c.recall.ensures.laid.small))

@@ -4,7 +4,8 @@ use Rattle.dm_pool.proofs.Fits.{Passing}
 use Rattle.dm_pool.proofs.runs.first_fit.Given as goal
 
 abbrev pub invariant-loop-at : goal.invariant-loop-at
-invariant-loop-at l = (p : Passing l.table.places l.table.units l.bytes l.at) × (first_fit p.rest l.wanted ≡ lowest l.table.places l.table.units l.wanted)
+invariant-loop-at l = (p : Passing l.table.places l.table.units l.bytes l.at) ×
+    (first_fit p.rest l.wanted ≡ lowest l.table.places l.table.units l.wanted)
 
 abbrev pub decreases-loop-at : goal.decreases-loop-at
 decreases-loop-at l = l.table.units - l.at

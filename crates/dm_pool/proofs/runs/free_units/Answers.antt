@@ -6,28 +6,39 @@ use Rattle.dm_pool.proofs.runs.free_units.Goals as goal
 
 pub loop-at-init : goal.loop-at-init
 loop-at-init c =
-    let t = c.args.table.now in let told = subst (λ f. Tells t.places t.units 0 f c.args.bytes.now) (sym c.first-at.ensures) c.requires.tells in
-    let all = ap (free_units) (tells_gaps t.places t.units c.args.bytes.now c.first-at.result c.recall.ensures.based told) in
-    let most = free_within t.places t.units 0 told.runs (omega arith) told.gaps in (sets_out t.places t.units c.args.bytes.now c.first-at.result told, omega (arith, all), omega (arith, most))
+    let t = c.args.table.now in let told = subst (λ f. Tells t.places t.units 0 f c.args.bytes.now)
+    (sym c.first-at.ensures) c.requires.tells in
+    let all = ap (free_units) (tells_gaps t.places t.units c.args.bytes.now c.first-at.result c.recall.ensures.based
+    told) in
+    let most = free_within t.places t.units 0 told.runs (omega arith) told.gaps in
+    (sets_out t.places t.units c.args.bytes.now c.first-at.result told, omega (arith, all), omega (arith, most))
 
 pub run_at-run-requires : goal.run_at-run-requires
 run_at-run-requires c =
-    let t = c.args.table.now in let h = run_within t.places t.units c.args.bytes.now c.loop-at.at c.loop-at.invariant.0 c.loop-at-test.true in
+    let t = c.args.table.now in let h = run_within t.places t.units c.args.bytes.now c.loop-at.at c.loop-at.invariant.0
+    c.loop-at-test.true in
     (omega (arith, h, c.requires.whole), omega (arith, h, c.recall.ensures.laid.small))
 
 pub loop-at-smaller : goal.loop-at-smaller
 loop-at-smaller c =
     let t = c.args.table.now in
-    subst (λ n. t.units - n < t.units - c.loop-at.at) (sym c.run_at-run.ensures.1) (run_falls t.places t.units c.args.bytes.now c.loop-at.at c.loop-at.invariant.0 c.loop-at-test.true c.recall.ensures.laid.small)
+    subst (λ n. t.units - n < t.units - c.loop-at.at) (sym c.run_at-run.ensures.1)
+    (run_falls t.places t.units c.args.bytes.now c.loop-at.at c.loop-at.invariant.0 c.loop-at-test.true
+    c.recall.ensures.laid.small)
 
 pub loop-at-preserved : goal.loop-at-preserved
 loop-at-preserved c =
-    let t = c.args.table.now in let p = c.loop-at.invariant.0 in let m = meets t.places t.units c.args.bytes.now c.loop-at.at p c.loop-at-test.true in
-    let split = free_split p.rest m.run m.behind m.splits in
-    (goes_on t.places t.units c.args.bytes.now c.loop-at.at c.run_at-run.result.next p.rest c.run_at-run.ensures.1 m, omega (arith, split, m.size, c.run_at-run.ensures.0, c.loop-at.invariant.1), omega (arith, split, m.size, c.run_at-run.ensures.0, c.loop-at.invariant.2))
+    let t = c.args.table.now in let p = c.loop-at.invariant.0 in let m =
+    meets t.places t.units c.args.bytes.now c.loop-at.at p c.loop-at-test.true in
+    let split = free_split p.rest m.run m.behind m.splits in (
+      goes_on t.places t.units c.args.bytes.now c.loop-at.at c.run_at-run.result.next p.rest c.run_at-run.ensures.1 m,
+      omega (arith, split, m.size, c.run_at-run.ensures.0, c.loop-at.invariant.1),
+      omega (arith, split, m.size, c.run_at-run.ensures.0, c.loop-at.invariant.2),
+    )
 
 pub returns : goal.returns
 returns c =
     let t = c.args.table.now in let p = c.loop-at.invariant.0 in
-    let none = ap (free_units) (none_left t.places t.units c.args.bytes.now c.loop-at.at p c.loop-at-test.false c.recall.ensures.laid.small) in
+    let none = ap (free_units) (none_left t.places t.units c.args.bytes.now c.loop-at.at p c.loop-at-test.false
+    c.recall.ensures.laid.small) in
     omega (arith, none, c.loop-at.invariant.1)

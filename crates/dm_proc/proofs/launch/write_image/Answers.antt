@@ -14,10 +14,13 @@ returns c =
     let scratch = c.relocate-count.new.space.scratch in
     let part : take c.relocate-count.result scratch ≡ take 0x110000 whole = c.relocate-count.ensures.scratch in
     let count : length (take 0x110000 whole) ≡ c.relocate-count.result =
-    length-take 0x110000 whole ∙ ap (λ n. min 0x110000 n) (length-relocated (relocations file) file c.args.start) ∙ omega arith in
-    two_parts m c.relocate-count.new.space.memory c.write_scratch.new.space.memory c.write_from.new.space.memory c.args.segment c.relocate-count.result _ _ whole
+    length-take 0x110000 whole ∙ ap (λ n. min 0x110000 n) (length-relocated (relocations file) file c.args.start)
+    ∙ omega arith in
+    two_parts m c.relocate-count.new.space.memory c.write_scratch.new.space.memory c.write_from.new.space.memory
+    c.args.segment c.relocate-count.result _ _ whole
     c.relocate-count.ensures.memory
     (ap (λ (h : Held). h.memory) c.write_scratch.ensures)
     (ap (λ (h : Held). h.memory) c.write_from.ensures)
     (ap length part ∙ count)
-    (ap (λ xs. take c.relocate-count.result scratch ++ xs) (c.rest.ensures.bytes c.args.start) ∙ ap (λ xs. xs ++ drop 0x110000 whole) part ∙ take-append-drop 0x110000 whole)
+    (ap (λ xs. take c.relocate-count.result scratch ++ xs) (c.rest.ensures.bytes c.args.start)
+    ∙ ap (λ xs. xs ++ drop 0x110000 whole) part ∙ take-append-drop 0x110000 whole)

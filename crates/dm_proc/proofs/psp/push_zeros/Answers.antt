@@ -4,7 +4,11 @@ use Rattle.dm_proc.proofs.Bytes.{zeros-none, zeros-more, one-more}
 use Rattle.dm_proc.proofs.psp.push_zeros.Goals as goal
 
 pub loop-init : goal.loop-init
-loop-init c = record { items = sym (ap (λ ys. c.args.prefix.now.items ++ ys) zeros-none ∙ append-nil c.args.prefix.now.items); count = omega arith }
+loop-init c = record {
+  items = sym (ap (λ ys. c.args.prefix.now.items ++ ys) zeros-none
+      ∙ append-nil c.args.prefix.now.items);
+  count = omega arith;
+}
 
 pub loop-preserved : goal.loop-preserved
 loop-preserved c = record {

@@ -12,7 +12,10 @@ loop-at-preserved c =
     let at = c.loop-at.at in
     record {
       length = length-set xs at c.peek.result ∙ i.length;
-      items = one-more [] _ _ _ _ _ i.items (from-more _ _ _ at) (take_more_set xs at c.peek.result (omega (arith, i.length)) ∙ ap (λ (b : ℕ). take at xs ++ b ∷ []) c.peek.ensures);
+      items = one-more [] _ _ _ _ _ i.items (from-more _ _ _ at) (take_more_set xs at c.peek.result (omega (
+        arith,
+        i.length,
+      )) ∙ ap (λ (b : ℕ). take at xs ++ b ∷ []) c.peek.ensures);
     }
 
 pub returns : goal.returns

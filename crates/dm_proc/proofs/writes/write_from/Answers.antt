@@ -6,7 +6,8 @@ pub loop-at-init : goal.loop-at-init
 loop-at-init c = written-none _ _ _ _
 
 pub loop-at-preserved : goal.loop-at-preserved
-loop-at-preserved c = written-more _ _ _ _ _ _ _ _ _ c.loop-at.invariant c.loop-at-test.true refl refl c.write_byte.ensures
+loop-at-preserved c = written-more _ _ _ _ _ _ _ _ _ c.loop-at.invariant c.loop-at-test.true refl refl
+    c.write_byte.ensures
 
 pub returns : goal.returns
 returns c = written-all _ _ _ _ _ _ c.loop-at.invariant (omega arith)

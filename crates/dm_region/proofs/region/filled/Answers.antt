@@ -6,10 +6,14 @@ use Rattle.dm_region.proofs.region.filled.Goals as goal
 
 pub invariant_of-result : goal.invariant_of-result
 invariant_of-result c =
-    let xs = c.args.front.now in let ys = c.args.back.now in let n = c.args.len in let m = n - length xs - length ys in let to = n - length ys in
-    let whole : n ≡ length xs + m + length ys = omega (arith, c.requires.fits) in let at : to ≡ length xs + m = omega (arith, c.requires.fits) in
+    let xs = c.args.front.now in let ys = c.args.back.now in let n = c.args.len in let m = n - length xs - length ys in
+    let to = n - length ys in
+    let whole : n ≡ length xs + m + length ys = omega (arith, c.requires.fits) in let at : to ≡ length xs + m =
+    omega (arith, c.requires.fits) in
     let b = c.in_ok-base.ensures in
-    let slots = c.put_bytes-2.ensures.slots ∙ ap (λ (l : List (Option ℕ)). spliced l to (length ys) ys) c.put_bytes.ensures.slots ∙ ap (λ (l : List (Option ℕ)). spliced (spliced l 0 (length xs) xs) to (length ys) ys) b.1 in
+    let slots = c.put_bytes-2.ensures.slots ∙ ap (λ (l : List (Option ℕ)). spliced l to (length ys) ys)
+    c.put_bytes.ensures.slots ∙ ap (λ (l : List (Option ℕ)). spliced (spliced l 0 (length xs) xs) to (length ys) ys)
+    b.1 in
     record {
       holed = subst (λ (l : List (Option ℕ)). IsHoled l (length xs) to) (sym slots) (ends_holed xs ys n m to whole at);
       ordered = omega (arith, c.requires.fits);
@@ -24,8 +28,13 @@ invariant_of-result c =
 
 pub returns : goal.returns
 returns c =
-    let xs = c.args.front.now in let ys = c.args.back.now in let n = c.args.len in let m = n - length xs - length ys in let to = n - length ys in
-    let whole : n ≡ length xs + m + length ys = omega (arith, c.requires.fits) in let at : to ≡ length xs + m = omega (arith, c.requires.fits) in
+    let xs = c.args.front.now in let ys = c.args.back.now in let n = c.args.len in let m = n - length xs - length ys in
+    let to = n - length ys in
+    let whole : n ≡ length xs + m + length ys = omega (arith, c.requires.fits) in let at : to ≡ length xs + m =
+    omega (arith, c.requires.fits) in
     let b = c.in_ok-base.ensures in
-    let slots = c.put_bytes-2.ensures.slots ∙ ap (λ (l : List (Option ℕ)). spliced l to (length ys) ys) c.put_bytes.ensures.slots ∙ ap (λ (l : List (Option ℕ)). spliced (spliced l 0 (length xs) xs) to (length ys) ys) b.1 in
-    ap (λ (l : List ℕ). record { bytes = l; from = length xs; to = to }) (ap (map or_zero) slots ∙ ends_bytes xs ys n m to whole at)
+    let slots = c.put_bytes-2.ensures.slots ∙ ap (λ (l : List (Option ℕ)). spliced l to (length ys) ys)
+    c.put_bytes.ensures.slots ∙ ap (λ (l : List (Option ℕ)). spliced (spliced l 0 (length xs) xs) to (length ys) ys)
+    b.1 in
+    ap (λ (l : List ℕ). record { bytes = l; from = length xs; to = to }) (ap (map or_zero) slots
+    ∙ ends_bytes xs ys n m to whole at)

@@ -10,7 +10,9 @@ unfolding summary_text
 returns c =
     let old = c.args.out.now.items in
     let r = c.args.report.now in
-    let out = behind old (flat_map again_line r.listed) (not_listed_line r.not_listed) _ _ (rw c.listed.ensures at c.in_ok-put_all_again.ensures) (rw c.not_listed.ensures at c.in_ok-put_not_listed.ensures) in
+    let out = behind old (flat_map again_line r.listed) (not_listed_line r.not_listed) _ _
+    (rw c.listed.ensures at c.in_ok-put_all_again.ensures) (rw c.not_listed.ensures at
+    c.in_ok-put_not_listed.ensures) in
     let errors = behind old _ (codes "errors: ") _ _ out c.in_ok-extend_from_slice.ensures.items in
     let number = behind old _ (decimal r.errors) _ _ errors (rw c.errors.ensures at c.in_ok-put_number.ensures) in
     let notes = behind old _ (codes ", notes: ") _ _ number c.in_ok-extend_from_slice-2.ensures.items in

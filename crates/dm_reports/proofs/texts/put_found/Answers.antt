@@ -10,6 +10,8 @@ unfolding found_line
 returns c =
     let old = c.args.out.now.items in
     let f = c.args.found.now in
-    let colon = behind old (kind_text (is_error f.finding)) (codes ": ") _ _ (rw c.severity_word.ensures at c.in_ok-extend_from_slice.ensures.items) c.in_ok-extend_from_slice-2.ensures.items in
+    let colon = behind old (kind_text (is_error f.finding)) (codes ": ") _ _
+    (rw c.severity_word.ensures at c.in_ok-extend_from_slice.ensures.items)
+    c.in_ok-extend_from_slice-2.ensures.items in
     let text = behind old _ (found_text f) _ _ colon c.in_ok-put_text.ensures in
     ends_with c.extend_from_slice-3.result old _ (10 ∷ []) _ _ _ text c.extend_from_slice-3.ensures.items

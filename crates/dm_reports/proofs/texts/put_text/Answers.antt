@@ -9,7 +9,8 @@ unfolding found_text
 returns c =
     let old = c.args.out.now.items in
     let f = c.args.found.now in
-    let step = behind old (codes "step ") (decimal f.step) _ _ c.in_ok-extend_from_slice.ensures.items c.in_ok-put_number.ensures in
+    let step = behind old (codes "step ") (decimal f.step) _ _ c.in_ok-extend_from_slice.ensures.items
+    c.in_ok-put_number.ensures in
     let comma = behind old _ (codes ", ") _ _ step c.in_ok-extend_from_slice-2.ensures.items in
     let site = behind old _ (site_text f.site) _ _ comma c.in_ok-put_site.ensures in
     let space = behind old _ (codes " ") _ _ site c.in_ok-extend_from_slice-3.ensures.items in

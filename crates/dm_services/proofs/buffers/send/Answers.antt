@@ -16,4 +16,5 @@ loop-index-preserved c =
 pub returns : goal.returns
 returns c =
     let last : c.loop-index.index ≡ c.args.count = omega arith in
-    sent-all _ _ _ _ _ _ (subst (λ k. IsSent c.args.console.now c.args.space.now.memory c.args.segment c.args.offset k c.loop-index.console) last c.loop-index.invariant)
+    sent-all _ _ _ _ _ _ (subst (λ k. IsSent c.args.console.now c.args.space.now.memory c.args.segment c.args.offset k
+    c.loop-index.console) last c.loop-index.invariant)

@@ -6,7 +6,8 @@ pub returns-then-peek-eq36 : goal.returns-then-peek-eq36
 returns-then-peek-eq36 c = read-end _ _ _ _ _ _ c.peek.ensures c.if-peek-eq36.true c.loop-index.invariant
 
 pub loop-index-preserved : goal.loop-index-preserved
-loop-index-preserved c = read-more _ _ _ _ _ _ c.loop-index-test.true c.peek.ensures c.if-peek-eq36.false c.loop-index.invariant
+loop-index-preserved c = read-more _ _ _ _ _ _ c.loop-index-test.true c.peek.ensures c.if-peek-eq36.false
+    c.loop-index.invariant
 
 pub returns : goal.returns
 returns c =

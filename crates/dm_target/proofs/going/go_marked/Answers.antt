@@ -11,23 +11,32 @@ use Rattle.dm_target.proofs.going.go_marked.Goals.{then-made-eq0+in_default, els
 pub loop-init : goal.loop-init
 loop-init c = record {
   counted = omega arith;
-  passes = (let F : ℕ → Type 0 = λ j. going.Passes c.args.points.now c.args.watches.now c.args.span c.args.history.now.machine j c.args.history.now.machine in let none : 0 ≡ c.args.most - c.args.most = omega arith in subst F none going.here);
+  passes = (let F : ℕ → Type 0 = λ j. going.Passes c.args.points.now c.args.watches.now c.args.span
+      c.args.history.now.machine j c.args.history.now.machine in let none : 0 ≡ c.args.most - c.args.most =
+      omega arith in subst F none going.here);
   beginning = refl;
   edits = refl;
 }
 
 pub returns-in-Some-clause-goes : goal.returns-in-Some-clause-goes
 returns-in-Some-clause-goes c =
-    let near : c.pass-made.new.history.machine ≡ c.loop.history.machine = near_none c.args.points.now c.args.watches.now c.args.span c.loop.history.machine c.pass-made.new.history.machine c.pass-made.result c.pass-made.ensures.near c.if-made-eq0.true in
-    ends_with c.args.points.now c.args.watches.now c.args.span c.args.history.now.machine c.loop.history.machine c.look_on.new.history.machine c.args.most c.loop.left c.look_on.result c.in-Some.pause c.in-Some.is
+    let near : c.pass-made.new.history.machine ≡ c.loop.history.machine =
+    near_none c.args.points.now c.args.watches.now c.args.span c.loop.history.machine
+    c.pass-made.new.history.machine c.pass-made.result c.pass-made.ensures.near c.if-made-eq0.true in
+    ends_with c.args.points.now c.args.watches.now c.args.span c.args.history.now.machine c.loop.history.machine
+    c.look_on.new.history.machine c.args.most c.loop.left c.look_on.result c.in-Some.pause c.in-Some.is
     (omega (arith, c.loop.invariant.counted)) (omega arith) c.loop.invariant.passes
-    (subst (λ (x : State). Ends c.args.points.now c.args.watches.now c.args.span x c.look_on.result c.look_on.new.history.machine) near c.look_on.ensures.ends)
+    (subst (λ (x : State). Ends c.args.points.now c.args.watches.now c.args.span x c.look_on.result
+    c.look_on.new.history.machine) near c.look_on.ensures.ends)
 
 pub returns-then-has_arrived-clause-goes : goal.returns-then-has_arrived-clause-goes
 returns-then-has_arrived-clause-goes c =
-    near_arrives c.args.points.now c.args.watches.now c.args.span c.args.history.now.machine c.loop.history.machine c.pass-made.new.history.machine c.args.most c.loop.left c.pass-made.result
-    (omega (arith, c.loop.invariant.counted)) c.pass-made.ensures.most (omega arith) c.loop.invariant.passes c.pass-made.ensures.near
-    (ap (λ s. has_arrived c.args.points.now c.args.span s) (sym c.machine.ensures) ∙ sym c.has_arrived.ensures ∙ c.if-has_arrived.true)
+    near_arrives c.args.points.now c.args.watches.now c.args.span c.args.history.now.machine c.loop.history.machine
+    c.pass-made.new.history.machine c.args.most c.loop.left c.pass-made.result
+    (omega (arith, c.loop.invariant.counted)) c.pass-made.ensures.most (omega arith) c.loop.invariant.passes
+    c.pass-made.ensures.near
+    (ap (λ s. has_arrived c.args.points.now c.args.span s) (sym c.machine.ensures) ∙ sym c.has_arrived.ensures
+    ∙ c.if-has_arrived.true)
 
 pub loop-preserved : goal.loop-preserved
 loop-preserved c = elim c.if-made-eq0.branch [
@@ -36,15 +45,25 @@ loop-preserved c = elim c.if-made-eq0.branch [
       let ws = c.args.watches.now in
       let span = c.args.span in
       let s = c.args.history.now.machine in
-      let near : c.pass-made.new.history.machine ≡ c.loop.history.machine = near_none ps ws span c.loop.history.machine c.pass-made.new.history.machine c.pass-made.result c.pass-made.ensures.near w.if-made-eq0.true in
+      let near : c.pass-made.new.history.machine ≡ c.loop.history.machine =
+      near_none ps ws span c.loop.history.machine c.pass-made.new.history.machine c.pass-made.result
+      c.pass-made.ensures.near w.if-made-eq0.true in
       let left : c.if-made-eq0.left ≡ c.loop.left - 1 = w.left-is in
       record {
         counted = omega (arith, left, c.loop.invariant.counted, c.if-left-eq0.false);
-        passes = passes_at ps ws span s w.look_on.new.history c.if-made-eq0.history c.args.most (c.loop.left - 1) c.if-made-eq0.left w.history-is left
-            (goes_with ps ws span s c.loop.history.machine w.look_on.new.history.machine c.args.most c.loop.left w.look_on.result w.in_default.is (omega (arith, c.loop.invariant.counted)) (omega (arith, c.if-left-eq0.false)) c.loop.invariant.passes
-            (subst (λ (x : State). Ends ps ws span x w.look_on.result w.look_on.new.history.machine) near w.look_on.ensures.ends));
-        beginning = ap (λ (x : Past). x.beginning) w.history-is ∙ w.look_on.ensures.beginning ∙ c.pass-made.ensures.beginning ∙ c.loop.invariant.beginning;
-        edits = ap (λ (x : Past). x.edits) w.history-is ∙ w.look_on.ensures.edits ∙ c.pass-made.ensures.edits ∙ c.loop.invariant.edits;
+        passes = passes_at ps ws span s w.look_on.new.history c.if-made-eq0.history c.args.most
+            (c.loop.left - 1) c.if-made-eq0.left w.history-is left
+            (goes_with ps ws span s c.loop.history.machine w.look_on.new.history.machine c.args.most c.loop.left
+            w.look_on.result w.in_default.is (omega (arith, c.loop.invariant.counted)) (omega (
+              arith,
+              c.if-left-eq0.false,
+            )) c.loop.invariant.passes
+            (subst (λ (x : State). Ends ps ws span x w.look_on.result w.look_on.new.history.machine) near
+            w.look_on.ensures.ends));
+        beginning = ap (λ (x : Past). x.beginning) w.history-is ∙ w.look_on.ensures.beginning
+            ∙ c.pass-made.ensures.beginning ∙ c.loop.invariant.beginning;
+        edits = ap (λ (x : Past). x.edits) w.history-is ∙ w.look_on.ensures.edits ∙ c.pass-made.ensures.edits
+            ∙ c.loop.invariant.edits;
       }
   | else-made-eq0+else-has_arrived w ↦
       let ps = c.args.points.now in
@@ -54,10 +73,15 @@ loop-preserved c = elim c.if-made-eq0.branch [
       let left : c.if-made-eq0.left ≡ c.loop.left - c.pass-made.result = w.left-is in
       record {
         counted = omega (arith, left, c.loop.invariant.counted, w.if-made-eq0.false, c.pass-made.ensures.most);
-        passes = passes_at ps ws span s c.pass-made.new.history c.if-made-eq0.history c.args.most (c.loop.left - c.pass-made.result) c.if-made-eq0.left w.history-is left
-            (more_passes ps ws span s c.loop.history.machine c.pass-made.new.history.machine c.args.most c.loop.left c.pass-made.result (omega (arith, c.loop.invariant.counted)) c.pass-made.ensures.most c.loop.invariant.passes c.pass-made.ensures.near
-            (ap (λ x. has_arrived ps span x) (sym w.machine.ensures) ∙ sym w.has_arrived.ensures ∙ w.if-has_arrived.false));
-        beginning = ap (λ (x : Past). x.beginning) w.history-is ∙ c.pass-made.ensures.beginning ∙ c.loop.invariant.beginning;
+        passes = passes_at ps ws span s c.pass-made.new.history c.if-made-eq0.history c.args.most
+            (c.loop.left - c.pass-made.result) c.if-made-eq0.left w.history-is left
+            (more_passes ps ws span s c.loop.history.machine c.pass-made.new.history.machine c.args.most c.loop.left
+            c.pass-made.result (omega (arith, c.loop.invariant.counted)) c.pass-made.ensures.most
+            c.loop.invariant.passes c.pass-made.ensures.near
+            (ap (λ x. has_arrived ps span x) (sym w.machine.ensures) ∙ sym w.has_arrived.ensures
+            ∙ w.if-has_arrived.false));
+        beginning = ap (λ (x : Past). x.beginning) w.history-is ∙ c.pass-made.ensures.beginning
+            ∙ c.loop.invariant.beginning;
         edits = ap (λ (x : Past). x.edits) w.history-is ∙ c.pass-made.ensures.edits ∙ c.loop.invariant.edits;
       }
 ]

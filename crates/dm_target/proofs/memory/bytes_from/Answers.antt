@@ -7,4 +7,5 @@ pub loop-k-init : goal.loop-k-init
 loop-k-init c = c.new-bytes.ensures.items ∙ numbered_none [] (one_byte c.args.space.now.memory c.args.address)
 
 pub loop-k-preserved : goal.loop-k-preserved
-loop-k-preserved c = numbered_more [] c.loop-k.bytes.items _ (one_byte c.args.space.now.memory c.args.address) c.loop-k.k c.loop-k.invariant (search rules)
+loop-k-preserved c = numbered_more [] c.loop-k.bytes.items _ (one_byte c.args.space.now.memory c.args.address)
+    c.loop-k.k c.loop-k.invariant (search rules)

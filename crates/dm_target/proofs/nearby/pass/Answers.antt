@@ -7,8 +7,12 @@ returns-then-not-may_pass-clause-near c = looking.none
 
 pub returns-in-Ok-clause-near : goal.returns-in-Ok-clause-near
 returns-in-Ok-clause-near c =
-    passes_near c.args.points.now c.args.watches.now c.args.span c.args.history.now.machine c.machine.result.now c.run_marked.new.history.machine c.cpu-segment.result c.put_pairs.new.pairs.items c.as_slice.result.now c.args.marks.now
-    c.run_marked.result (c.may_pass.ensures.span c.if-not-may_pass.false) c.machine.ensures c.cpu-segment.ensures c.put_pairs.ensures.small c.in-Ok.ensures.pairs c.as_slice.ensures.value c.requires c.run_marked.ensures.unmarked
+    passes_near c.args.points.now c.args.watches.now c.args.span c.args.history.now.machine c.machine.result.now
+    c.run_marked.new.history.machine c.cpu-segment.result c.put_pairs.new.pairs.items c.as_slice.result.now
+    c.args.marks.now
+    c.run_marked.result (c.may_pass.ensures.span c.if-not-may_pass.false) c.machine.ensures c.cpu-segment.ensures
+    c.put_pairs.ensures.small c.in-Ok.ensures.pairs c.as_slice.ensures.value c.requires
+    c.run_marked.ensures.unmarked
     (c.may_pass.ensures.marks c.if-not-may_pass.false) c.run_marked.ensures.near
 
 pub returns-in-Err-clause-near : goal.returns-in-Err-clause-near

@@ -9,13 +9,15 @@ loop-low-preserved-in-None c =
     record {
       since = c.loop-low.invariant.since;
       within = omega (arith, before, within);
-      clear = clear_more _ _ _ _ _ c.in_ok-from.found c.in-None.is c.in_ok-from.ensures.shows c.loop-low.invariant.clear;
+      clear = clear_more _ _ _ _ _ c.in_ok-from.found c.in-None.is c.in_ok-from.ensures.shows
+          c.loop-low.invariant.clear;
       known = c.loop-low.invariant.known;
     }
 
 pub loop-low-preserved-then-found : goal.loop-low-preserved-then-found
 loop-low-preserved-then-found c =
-    let h = hit_in c.args.points.now c.args.watches.now c.args.history.now c.in_ok-from.from c.loop-low.end c.in_ok-from.found c.in-Some.found c.in-Some.is c.in_ok-from.ensures.shows c.loop-low.invariant.clear in
+    let h = hit_in c.args.points.now c.args.watches.now c.args.history.now c.in_ok-from.from c.loop-low.end
+    c.in_ok-from.found c.in-Some.found c.in-Some.is c.in_ok-from.ensures.shows c.loop-low.invariant.clear in
     let low = h.since in
     let high = h.before in
     let from = c.in_ok-from.ensures.since in

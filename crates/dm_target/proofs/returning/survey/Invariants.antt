@@ -8,5 +8,6 @@ use Rattle.dm_target.proofs.returning.survey.Given as goal
 abbrev pub invariant-loop : goal.invariant-loop
 invariant-loop l = record {
   before : l.branch.machine.steps < l.end;
-  parts : Reaches l.initial.branch.machine l.end → BecomesBy l.initial.branch.machine [] l.branch.machine × Stands l.points l.watches l.initial.branch.machine l.branch.machine l.last × IsSomeAfter l.counter l.last;
+  parts : Reaches l.initial.branch.machine l.end → BecomesBy l.initial.branch.machine [] l.branch.machine ×
+      Stands l.points l.watches l.initial.branch.machine l.branch.machine l.last × IsSomeAfter l.counter l.last;
 }

@@ -8,4 +8,5 @@ pub returns-in-Arrived : goal.returns-in-Arrived
 returns-in-Arrived c = λ points met. told_arrived points _ _ _ _ _ c.in-Arrived.is c.go_on.ensures.goes met
 
 pub returns-in_default : goal.returns-in_default
-returns-in_default c = λ points met. told_stopped points _ _ _ _ _ _ c.in-Stopped.is c.in_default.not-Memory c.go_on.ensures.goes met
+returns-in_default c = λ points met. told_stopped points _ _ _ _ _ _ c.in-Stopped.is c.in_default.not-Memory
+    c.go_on.ensures.goes met

@@ -10,5 +10,11 @@ pub returns : goal.returns
 returns c =
     let now = ap (λ (s : State). s.steps) c.machine.ensures in
     IfOk-weaker c.told.result _ _ (λ what h. λ points s was met.
-    let same = branch_at c.args.history.now c.in_ok-branch.branch c.args.step s (omega (arith, c.requires.before, now, c.steps-now.ensures)) c.in_ok-branch.ensures was in
-    subst (λ (u : State). Meets points c.args.watches.now u what) (sym same) (h points (subst (λ (u : State). IsMet points c.args.watches.now u) same met))) c.told.ensures
+    let same = branch_at c.args.history.now c.in_ok-branch.branch c.args.step s (omega (
+      arith,
+      c.requires.before,
+      now,
+      c.steps-now.ensures,
+    )) c.in_ok-branch.ensures was in
+    subst (λ (u : State). Meets points c.args.watches.now u what) (sym same)
+    (h points (subst (λ (u : State). IsMet points c.args.watches.now u) same met))) c.told.ensures

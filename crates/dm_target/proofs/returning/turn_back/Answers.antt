@@ -15,9 +15,18 @@ pub returns-in_ok-go_back-in-None-clause-ok : goal.returns-in_ok-go_back-in-None
 returns-in_ok-go_back-in-None-clause-ok c =
     let p = c.args.history.now in
     let now = ap (λ (s : State). s.steps) c.machine.ensures in
-    let last : IsLast c.args.points.now c.args.watches.now p None = subst (λ (x : Option ℕ). IsLast c.args.points.now c.args.watches.now p x) c.in-None.is c.in_ok-find_last.ensures in
-    to_start c.go_back.new.history (omega (arith, now, c.steps.ensures, c.steps_of_beginning-beginning.ensures, c.if-steps-beginning.false))
-    (subst (λ k. GoesBack p k c.go_back.new.history) c.steps_of_beginning-beginning.ensures c.in_ok-go_back-in-None.ensures.ok) last
+    let last : IsLast c.args.points.now c.args.watches.now p None =
+    subst (λ (x : Option ℕ). IsLast c.args.points.now c.args.watches.now p x) c.in-None.is
+    c.in_ok-find_last.ensures in
+    to_start c.go_back.new.history (omega (
+      arith,
+      now,
+      c.steps.ensures,
+      c.steps_of_beginning-beginning.ensures,
+      c.if-steps-beginning.false,
+    ))
+    (subst (λ k. GoesBack p k c.go_back.new.history) c.steps_of_beginning-beginning.ensures
+    c.in_ok-go_back-in-None.ensures.ok) last
 
 pub returns-in_ok-go_back-in-Some-clause-ok : goal.returns-in_ok-go_back-in-Some-clause-ok
 returns-in_ok-go_back-in-Some-clause-ok c =
@@ -28,8 +37,11 @@ returns-in_ok-go_back-in-Some-clause-ok c =
     let step = c.in-Some.step in
     let what = c.in_ok-what-in-Some.what in
     let now = ap (λ (s : State). s.steps) c.machine.ensures in
-    let last : IsLast ps ws p (Some step) = subst (λ (x : Option ℕ). IsLast ps ws p x) c.in-Some.is c.in_ok-find_last.ensures in
-    let back : GoesBack p step q = subst (λ (r : Past). GoesBack r step q) c.approach.ensures c.in_ok-go_back-in-Some.ensures.ok in
+    let last : IsLast ps ws p (Some step) = subst (λ (x : Option ℕ). IsLast ps ws p x) c.in-Some.is
+    c.in_ok-find_last.ensures in
+    let back : GoesBack p step q = subst (λ (r : Past). GoesBack r step q) c.approach.ensures
+    c.in_ok-go_back-in-Some.ensures.ok in
     let told : (s : State) → Was p step s → IsMet ps ws s → Meets ps ws s what =
-    subst (λ (r : Past). (s : State) → Was r step s → IsMet ps ws s → Meets ps ws s what) c.approach.ensures (c.in_ok-what-in-Some.ensures ps) in
+    subst (λ (r : Past). (s : State) → Was r step s → IsMet ps ws s → Meets ps ws s what) c.approach.ensures
+    (c.in_ok-what-in-Some.ensures ps) in
     back_met ps ws p q step what (omega (arith, now, c.steps.ensures)) last back told

@@ -11,8 +11,10 @@ returns-in-Some c t e =
     let here : c.entry_point_at.result ≡ entry_point_at c.args.machine.now.cpu.cs c.args.machine.now.cpu.ip
     = c.entry_point_at.ensures ∙ ap (λ (x : Cpu). entry_point_at x.cs x.ip) c.cpu-cpu.ensures in
     record {
-      acted = λ what at. c.first_changed.ensures t.memory e ∙ ap (λ (m : Memory). find (is_changed t.memory m) c.args.watches.now) c.space.ensures;
-      performed = λ i length none begins. absurd (let no : Some c.in-Some.field-0 ≡ None = sym c.in-Some.is ∙ here ∙ none in cc);
+      acted = λ what at. c.first_changed.ensures t.memory e
+          ∙ ap (λ (m : Memory). find (is_changed t.memory m) c.args.watches.now) c.space.ensures;
+      performed = λ i length none begins. absurd (let no : Some c.in-Some.field-0 ≡ None = sym c.in-Some.is ∙ here
+          ∙ none in cc);
     }
 
 pub returns-in-None : goal.returns-in-None

@@ -7,4 +7,5 @@ pub loop-k-init : goal.loop-k-init
 loop-k-init c = numbered_none c.args.kept.now.items (one_byte c.args.space.now.memory c.args.point.now.address)
 
 pub loop-k-preserved : goal.loop-k-preserved
-loop-k-preserved c = numbered_more c.args.kept.now.items c.loop-k.kept.items _ (one_byte c.args.space.now.memory c.args.point.now.address) c.loop-k.k c.loop-k.invariant (search rules)
+loop-k-preserved c = numbered_more c.args.kept.now.items c.loop-k.kept.items _
+    (one_byte c.args.space.now.memory c.args.point.now.address) c.loop-k.k c.loop-k.invariant (search rules)

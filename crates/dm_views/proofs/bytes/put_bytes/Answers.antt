@@ -13,5 +13,6 @@ loop-line-preserved c =
     numbered_more _ _ _ _ _ c.loop-line.invariant (
     c.in_ok-put_bytes_line.ensures
     ∙ ap (λ (o : ℕ). c.loop-line.out.items ++ line_text c.args.space.now.memory c.args.segment o c.min-left.result) at
-    ∙ ap (λ (n : ℕ). c.loop-line.out.items ++ line_text c.args.space.now.memory c.args.segment ((c.args.offset + 16 * c.loop-line.line) % 65536) n) left
+    ∙ ap (λ (n : ℕ). c.loop-line.out.items ++ line_text c.args.space.now.memory c.args.segment
+    ((c.args.offset + 16 * c.loop-line.line) % 65536) n) left
     )

@@ -7,7 +7,8 @@ pub loop-k-init : goal.loop-k-init
 loop-k-init c = numbered_none _ _
 
 pub loop-k-preserved : goal.loop-k-preserved
-loop-k-preserved c = numbered_more _ _ _ _ _ c.loop-k.invariant (c.in_ok-put_byte.ensures ∙ ap (λ (b : ℕ). c.loop-k.out.items ++ (32 ∷ two_digits b)) c.peek.ensures)
+loop-k-preserved c = numbered_more _ _ _ _ _ c.loop-k.invariant (c.in_ok-put_byte.ensures
+    ∙ ap (λ (b : ℕ). c.loop-k.out.items ++ (32 ∷ two_digits b)) c.peek.ensures)
 
 pub returns : goal.returns
 returns c = numbered_all _ _ _ _ _ (omega arith) c.loop-k.invariant

@@ -3,7 +3,11 @@ use Rattle.dm_views.proofs.CodeTexts.{line_listed, line_unlisted, short}
 use Rattle.dm_views.proofs.code.put_line.Goals as goal
 
 pub returns-in_default : goal.returns-in_default
-returns-in_default c = (_, c.in_ok-put_unlisted.ensures, line_unlisted _ _ _ c.sixteen_bytes-bytes.result _ 0 c.sixteen_bytes-bytes.ensures refl c.in_default.ensures)
+returns-in_default c = (
+  _,
+  c.in_ok-put_unlisted.ensures,
+  line_unlisted _ _ _ c.sixteen_bytes-bytes.result _ 0 c.sixteen_bytes-bytes.ensures refl c.in_default.ensures,
+)
 
 pub slice_bounds-bytes-end : goal.slice_bounds-bytes-end
 slice_bounds-bytes-end c =

@@ -14,4 +14,5 @@ pub loop-number-init : goal.loop-number-init
 loop-number-init c = numbered_none _ _
 
 pub loop-number-preserved : goal.loop-number-preserved
-loop-number-preserved c = numbered_more _ _ _ _ _ c.loop-number.invariant (c.in_ok-put_upper.ensures ∙ ap (λ (u : Option Upper). c.loop-number.out.items ++ upper_line u) c.upper_block.ensures)
+loop-number-preserved c = numbered_more _ _ _ _ _ c.loop-number.invariant (c.in_ok-put_upper.ensures
+    ∙ ap (λ (u : Option Upper). c.loop-number.out.items ++ upper_line u) c.upper_block.ensures)

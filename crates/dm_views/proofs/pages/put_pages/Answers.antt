@@ -15,5 +15,6 @@ loop-window-init c = numbered_none _ _
 pub loop-window-preserved : goal.loop-window-preserved
 loop-window-preserved c =
     numbered_more _ _ _ _ _ c.loop-window.invariant (
-    c.in_ok-put_window.ensures ∙ ap (λ (p : Option (ℕ × ℕ)). c.loop-window.out.items ++ window_line c.loop-window.window p) c.window.ensures
+    c.in_ok-put_window.ensures ∙ ap (λ (p : Option (ℕ × ℕ)). c.loop-window.out.items
+    ++ window_line c.loop-window.window p) c.window.ensures
     )

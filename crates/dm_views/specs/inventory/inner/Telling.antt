@@ -16,8 +16,10 @@ end_of (Broken at) = Some at
 -- any. The list is broken, or whole, and then the walk is at its end
 abbrev pub AreWalked : Walking → List Header → ℕ → Walked → List ArenaBlock → Type 0
 AreWalked w F list (Broken at) records = IsCutShort w.memory F (start_of w.second) list at records
-AreWalked w F list (Over v) records = (v.memory ≡ w.memory) × (v.second ≡ w.second) × (v.at ≡ None) × ((L : List Header) × IsWhole w.memory F (start_of w.second) list L records)
+AreWalked w F list (Over v) records = (v.memory ≡ w.memory) × (v.second ≡ w.second) × (v.at ≡ None) ×
+    ((L : List Header) × IsWhole w.memory F (start_of w.second) list L records)
 
 -- `new` is `old` with the records of the walk's list appended
 abbrev pub TellsList : Walking → ℕ → Walked → List ArenaBlock → List ArenaBlock → Type 0
-TellsList w list walked old new = (records : List ArenaBlock) × (new ≡ old ++ records) × ((F : List Header) → IsBehind w.memory w.second F → AreWalked w F list walked records)
+TellsList w list walked old new = (records : List ArenaBlock) × (new ≡ old ++ records) ×
+    ((F : List Header) → IsBehind w.memory w.second F → AreWalked w F list walked records)

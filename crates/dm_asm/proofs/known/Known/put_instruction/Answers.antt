@@ -16,5 +16,6 @@ returns-in_ok-put_bytes-in-Some c =
 
 pub returns-in_ok-put_open-in-None : goal.returns-in_ok-put_open-in-None
 returns-in_ok-put_open-in-None c =
-    keeps_of c.args.self.now c.put_open.new.self (instruction c.args.instruction.now) c.instruction_length.result c.instruction_length.ensures.found c.instruction_length.ensures.only c.instruction_length.ensures.short
+    keeps_of c.args.self.now c.put_open.new.self (instruction c.args.instruction.now) c.instruction_length.result
+    c.instruction_length.ensures.found c.instruction_length.ensures.only c.instruction_length.ensures.short
     (c.in_ok-put_open-in-None.ensures (instruction c.args.instruction.now))

@@ -14,7 +14,11 @@ returns-in-Rom c = λ P a n. (lost-stands _ P c.args.segment _ c.back.ensures c.
 pub occupy-requires : goal.occupy-requires
 occupy-requires c =
     let e = place-of c.args.space.now.memory c.args.segment _ _ c.back.ensures c.in-Page.is in
-    omega (arith, paragraph-within c.args.space.now.memory c.args.segment c.in-Page.block c.in-Page.offset e, c.paragraph_of.ensures)
+    omega (
+      arith,
+      paragraph-within c.args.space.now.memory c.args.segment c.in-Page.block c.in-Page.offset e,
+      c.paragraph_of.ensures,
+    )
 
 pub returns-in-Page : goal.returns-in-Page
 returns-in-Page c =

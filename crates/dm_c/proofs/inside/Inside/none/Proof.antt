@@ -31,4 +31,8 @@ none_spec 𝓤 𝓛 𝓜 𝓡 wired =
     enter ! 𝓣.C 𝓣.Λ fn [] Post $ alloc_all ! (λ l. pass_all ! refl tt $
     nothing ! $ sets ! (agg ! (and_then ! (lit ! tt) (no_more !))) refl (tt, (record { fits = lit< tt }, tt)) $
     use1 𝓛 (‵ (held null_ptr None)) (id⊢ 𝓤 _) $ inside_in ! null_ptr None $ use0 𝓛 (raw (fact 𝓤 ((None ≡ None) × (null_ptr ≡ null_ptr)))) (fact_i 𝓤 ((None ≡ None) × (null_ptr ≡ null_ptr)) (emp 𝓤) (refl, refl)) $
-    returns ! (look_at ! 0 refl) $ free_all ! refl $ keep ! (2 ∷ 3 ∷ 1 ∷ 0 ∷ []) $ by ! (leaves 𝓛 ended hs c z (single (ptr_val null_ptr)) (record { at = null_ptr; value = None }) tt tt)))
+    returns ! (look_at ! 0 refl) $ free_all ! refl $ keep ! (2 ∷ 3 ∷ 1 ∷ 0
+    ∷ []) $ by ! (leaves 𝓛 ended hs c z (single (ptr_val null_ptr)) (record {
+      at = null_ptr;
+      value = None;
+    }) tt tt)))

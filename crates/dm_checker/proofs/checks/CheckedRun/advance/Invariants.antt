@@ -7,7 +7,8 @@ use Rattle.dm_checker.proofs.checks.CheckedRun.advance.Given as goal
 
 abbrev pub invariant-loop : goal.invariant-loop
 invariant-loop l = record {
-  checked : (s : State) (n : ℕ) → IsUnderWay s n l.fn.machine l.fn.self → HasChecked l.free s (n - l.left) l.machine l.self-inside.origins l.self-inside.report;
+  checked : (s : State) (n : ℕ) → IsUnderWay s n l.fn.machine l.fn.self →
+      HasChecked l.free s (n - l.left) l.machine l.self-inside.origins l.self-inside.report;
   few : l.left + l.counter ≤ l.most;
   no_more : l.pausing ≡ true → length l.self-inside.report.listed ≤ length l.fn.self.report.listed;
   longer : IsLonger l.fn.self.report l.self-inside.report;

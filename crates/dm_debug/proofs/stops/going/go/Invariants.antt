@@ -9,7 +9,10 @@ use Rattle.dm_debug.proofs.stops.going.go.Given as goal
 abbrev pub invariant-loop : goal.invariant-loop
 invariant-loop l = record {
   counted : l.left + l.counter ≤ l.most;
-  passes : (start : Memory) → l.watches ≡ map (watch_of start) l.events → AreStill start l.initial.machine.memory l.events → Passes start l.events l.initial.machine (l.most - l.left) l.machine;
-  still : (start : Memory) → l.watches ≡ map (watch_of start) l.events → AreStill start l.initial.machine.memory l.events → AreStill start l.machine.memory l.events;
+  passes : (start : Memory) → l.watches ≡ map (watch_of start) l.events →
+      AreStill start l.initial.machine.memory l.events → Passes start l.events l.initial.machine
+      (l.most - l.left) l.machine;
+  still : (start : Memory) → l.watches ≡ map (watch_of start) l.events →
+      AreStill start l.initial.machine.memory l.events → AreStill start l.machine.memory l.events;
   loaded : HasProgram l.machine;
 }

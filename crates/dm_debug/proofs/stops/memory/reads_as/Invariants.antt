@@ -3,4 +3,5 @@ use Rattle.dm_debug.specs.stops.Events.{reads_as}
 use Rattle.dm_debug.proofs.stops.memory.reads_as.Given as goal
 
 abbrev pub invariant-loop-k : goal.invariant-loop-k
-invariant-loop-k l = reads_as l.space.memory (l.address + l.k) (drop l.k l.bytes) ≡ reads_as l.space.memory l.address l.bytes
+invariant-loop-k l = reads_as l.space.memory (l.address + l.k) (drop l.k l.bytes)
+    ≡ reads_as l.space.memory l.address l.bytes

@@ -14,5 +14,8 @@ loop-at-smaller c =
 pub loop-at-preserved : goal.loop-at-preserved
 loop-at-preserved c =
     let shown = c.in_ok-len.ensures in
-    let part = shows_part _ _ _ _ shown.2 in
-    (part.within, lists_more _ _ _ _ _ _ c.loop-at.invariant.1 shown.2 (c.in_ok-push.ensures.items ∙ ap (λ (xs : List ℕ). xs ++ 10 ∷ []) shown.1))
+    let part = shows_part _ _ _ _ shown.2 in (
+      part.within,
+      lists_more _ _ _ _ _ _ c.loop-at.invariant.1 shown.2 (c.in_ok-push.ensures.items
+          ∙ ap (λ (xs : List ℕ). xs ++ 10 ∷ []) shown.1),
+    )

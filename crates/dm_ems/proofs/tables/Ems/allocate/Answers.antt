@@ -9,8 +9,10 @@ loop-preserved c =
     let x : Expanded = expanded c.loop.self c.loop.space.memory in
     let handle = c.in-Some.handle in
     let e : expanded c.append.new.self c.append.new.space.memory ≡ appended_page x handle = c.append.ensures.left in
-    let f : length c.append.new.self.pages ≡ length (appended_page x handle).ems.pages = ap (λ (y : Expanded). length y.ems.pages) e in (
-      e ∙ ap (λ y. appended_page y handle) c.loop.invariant.0 ∙ sym (appended_more (expanded c.set_slot.new.self c.args.space.now.memory) handle c.loop.counter),
+    let f : length c.append.new.self.pages ≡ length (appended_page x handle).ems.pages =
+    ap (λ (y : Expanded). length y.ems.pages) e in (
+      e ∙ ap (λ y. appended_page y handle) c.loop.invariant.0
+          ∙ sym (appended_more (expanded c.set_slot.new.self c.args.space.now.memory) handle c.loop.counter),
       c.append.ensures.kept ∙ ap (λ (s : Held). record s { memory = c.append.new.space.memory }) c.loop.invariant.1,
       omega (arith, f, one_page x handle, c.loop.invariant.2),
       ap (λ (y : Expanded). y.ems.total) e ∙ same_total x handle ∙ c.loop.invariant.3,

@@ -11,8 +11,10 @@ loop-block-preserved c =
     let block = c.block-item.result in
     let start : Expanded = expanded c.args.self.now c.args.space.now.memory in
     let e : expanded c.forget.new.self c.forget.new.space.memory ≡ forgotten x block = c.forget.ensures.left in (
-      e ∙ ap (λ y. forgotten y block) c.loop-block.invariant.0 ∙ ap (forgotten (forgotten_all start (take c.loop-block.block-index blocks))) c.block-item.is
+      e ∙ ap (λ y. forgotten y block) c.loop-block.invariant.0
+          ∙ ap (forgotten (forgotten_all start (take c.loop-block.block-index blocks))) c.block-item.is
           ∙ sym (forgotten_all_more start blocks c.loop-block.block-index block (omega arith)),
-      c.forget.ensures.kept ∙ ap (λ (s : Held). record s { memory = c.forget.new.space.memory }) c.loop-block.invariant.1,
+      c.forget.ensures.kept ∙ ap (λ (s : Held). record s { memory = c.forget.new.space.memory })
+          c.loop-block.invariant.1,
       rw e (consistent_forget x block c.loop-block.invariant.2),
     )

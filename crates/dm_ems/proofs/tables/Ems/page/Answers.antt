@@ -12,12 +12,16 @@ pub returns-in-Some : goal.returns-in-Some
 returns-in-Some c =
     let of_handle = filter (is_of c.args.handle) c.args.self.now.pages in
     let found = nth_from_yields_List (Some c.in-Some.it) c.nth-found.new.self c.args.page c.in-Some.ensures.ran
-    (YieldsList-from_filter _ (is_of c.args.handle) (YieldsList-from_slice c.args.self.now.pages cc) c.filter.ensures.closure (λ x r q k. search (rules, tests))) in
-    ap (option_map (λ (page : Page). page.block)) found ∙ sym (slice_get-map (λ (page : Page). page.block) of_handle c.args.page)
+    (YieldsList-from_filter _ (is_of c.args.handle) (YieldsList-from_slice c.args.self.now.pages cc)
+    c.filter.ensures.closure (λ x r q k. search (rules, tests))) in
+    ap (option_map (λ (page : Page). page.block)) found
+    ∙ sym (slice_get-map (λ (page : Page). page.block) of_handle c.args.page)
 
 pub returns-in-None : goal.returns-in-None
 returns-in-None c =
     let of_handle = filter (is_of c.args.handle) c.args.self.now.pages in
     let found = nth_from_yields_List None c.nth-found.new.self c.args.page c.in-None.ensures.ran
-    (YieldsList-from_filter _ (is_of c.args.handle) (YieldsList-from_slice c.args.self.now.pages cc) c.filter.ensures.closure (λ x r q k. search (rules, tests))) in
-    ap (option_map (λ (page : Page). page.block)) found ∙ sym (slice_get-map (λ (page : Page). page.block) of_handle c.args.page)
+    (YieldsList-from_filter _ (is_of c.args.handle) (YieldsList-from_slice c.args.self.now.pages cc)
+    c.filter.ensures.closure (λ x r q k. search (rules, tests))) in
+    ap (option_map (λ (page : Page). page.block)) found
+    ∙ sym (slice_get-map (λ (page : Page). page.block) of_handle c.args.page)

@@ -12,11 +12,14 @@ returns-then-is_none c =
     let i = c.loop-left.left - 1 in
     let some = c.loop-left-test.true in
     let less : i < length ps = omega (arith, c.loop-left.invariant.within, some) in
-    let behind : list_any runs (drop (i + 1) ps) ≡ false = (let here : i + 1 ≡ c.loop-left.left = omega (arith, some) in rw here c.loop-left.invariant.ended) in
-    ends_at c.args.step c.args.processes.now ps i _ c.loop-left.invariant.same less (ap not c.is_none.ensures ∙ ap (λ (b : Bool). not (not b)) c.if-is_none.true) behind
+    let behind : list_any runs (drop (i + 1) ps) ≡ false = (let here : i + 1 ≡ c.loop-left.left = omega (arith, some) in
+    rw here c.loop-left.invariant.ended) in
+    ends_at c.args.step c.args.processes.now ps i _ c.loop-left.invariant.same less (ap not c.is_none.ensures
+    ∙ ap (λ (b : Bool). not (not b)) c.if-is_none.true) behind
 
 pub returns : goal.returns
 returns c =
     let none : c.loop-left.left ≡ 0 = omega arith in
     let all : list_any runs c.loop-left.processes ≡ false = (rw none at c.loop-left.invariant.ended) in
-    sym (none_runs c.args.step c.loop-left.processes all) ∙ ap (λ (l : List Process). with_end c.args.step l) c.loop-left.invariant.same
+    sym (none_runs c.args.step c.loop-left.processes all)
+    ∙ ap (λ (l : List Process). with_end c.args.step l) c.loop-left.invariant.same

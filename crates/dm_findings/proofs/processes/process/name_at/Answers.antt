@@ -5,7 +5,10 @@ use Rattle.dm_findings.proofs.processes.Naming.{bytes_none, bytes_more}
 use Rattle.dm_findings.proofs.processes.process.name_at.Goals as goal
 
 pub loop-at-init : goal.loop-at-init
-loop-at-init c = record { length = search rules; items = sym (bytes_none c.args.space.now.memory c.args.segment c.args.offset) }
+loop-at-init c = record {
+  length = search rules;
+  items = sym (bytes_none c.args.space.now.memory c.args.segment c.args.offset);
+}
 
 pub loop-at-preserved : goal.loop-at-preserved
 loop-at-preserved c =
@@ -14,7 +17,8 @@ loop-at-preserved c =
     let at = c.loop-at.at in
     record {
       length = length-set xs at c.peek.result ∙ i.length;
-      items = take_more_set xs at c.peek.result (omega (arith, i.length)) ∙ ap₂ (λ (l : List ℕ) (b : ℕ). l ++ b ∷ []) i.items c.peek.ensures
+      items = take_more_set xs at c.peek.result (omega (arith, i.length)) ∙ ap₂ (λ (l : List ℕ) (b : ℕ). l ++ b
+          ∷ []) i.items c.peek.ensures
           ∙ sym (bytes_more c.args.space.now.memory c.args.segment c.args.offset at);
     }
 

@@ -10,11 +10,13 @@ returns-in-Memory-clause-ok c =
     let steps = c.in_ok-ahead.ahead.steps in
     let text = c.in_ok-ahead.ahead.text.items in
     let ahead = subst (λ (m : State). LeadsAhead m steps text) c.in_ok-machine.ensures.copy c.in_ok-ahead.ensures in
-    λ most. short_as _ c.args.self.now c.run.new.self most c.args.line.now steps text c.run.result c.self.view_is c.requires c.run.ensures.same ahead c.run.ensures.run c.in-Memory.is
+    λ most. short_as _ c.args.self.now c.run.new.self most c.args.line.now steps text c.run.result c.self.view_is
+    c.requires c.run.ensures.same ahead c.run.ensures.run c.in-Memory.is
 
 pub returns-clause-ok : goal.returns-clause-ok
 returns-clause-ok c =
     let steps = c.in_ok-ahead.ahead.steps in
     let text = c.in_ok-ahead.ahead.text.items in
     let ahead = subst (λ (m : State). LeadsAhead m steps text) c.in_ok-machine.ensures.copy c.in_ok-ahead.ensures in
-    λ most. checked_as _ c.args.self.now c.run.new.self most c.args.line.now steps text c.run.result _ c.self.view_is c.requires c.run.ensures.same ahead c.run.ensures.run c.in_default.not-Memory (ap reply.Bytes c.new.ensures)
+    λ most. checked_as _ c.args.self.now c.run.new.self most c.args.line.now steps text c.run.result _ c.self.view_is
+    c.requires c.run.ensures.same ahead c.run.ensures.run c.in_default.not-Memory (ap reply.Bytes c.new.ensures)

@@ -15,5 +15,7 @@ returns-clause-ok c =
     (subst (λ (ws : List Point). Undoes ws c.self.inside.history what q) c.watches.ensures c.in_ok-undone.ensures.ok) in
     let told : c.undone_reply.result ≡ undone_reply c.args.self.now.points.breaks what q.machine =
     c.undone_reply.ensures ∙ ap (λ (ps : List ℕ). undone_reply ps what c.machine.result.now) c.breaks-breaks.ensures
-    ∙ ap (λ (m : State). undone_reply c.self.inside.points.breaks what m) c.machine.ensures ∙ ap (λ (s : Served). undone_reply s.points.breaks what q.machine) c.self.view_is in
-    λ most. replies_as c.args.self.now _ (with_past c.args.self.now q) most _ _ c.undone_reply.result _ (steps_back what q undoes) refl told (ap (λ (s : Served). with_past s q) c.self.view_is)
+    ∙ ap (λ (m : State). undone_reply c.self.inside.points.breaks what m) c.machine.ensures
+    ∙ ap (λ (s : Served). undone_reply s.points.breaks what q.machine) c.self.view_is in
+    λ most. replies_as c.args.self.now _ (with_past c.args.self.now q) most _ _ c.undone_reply.result _
+    (steps_back what q undoes) refl told (ap (λ (s : Served). with_past s q) c.self.view_is)

@@ -4,5 +4,10 @@ use Rattle.dm_history.proofs.history.History.go_near.Goals as goal
 
 pub invariant_of-self : goal.invariant_of-self
 invariant_of-self c =
-    history-near (record { beginning = c.self.inside.beginning; edits = c.self.inside.edits.items; machine = c.self.inside.machine }) _ _ _ _ (omega (arith, c.steps-before.ensures)) c.self.invariant c.run_near.ensures.near
+    history-near (record {
+      beginning = c.self.inside.beginning;
+      edits = c.self.inside.edits.items;
+      machine = c.self.inside.machine;
+    }) _ _ _ _ (omega (arith, c.steps-before.ensures)) c.self.invariant
+    c.run_near.ensures.near
     c.run_near.ensures.loaded

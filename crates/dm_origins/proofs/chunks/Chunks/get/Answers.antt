@@ -13,7 +13,8 @@ returns-then-paragraph-len c =
     let ms = c.self.inside.wholes.items in
     let ps = c.self.inside.each.items in
     let over : length (freed_by ms ps) ≤ p = omega (arith, length-freed_by ms ps) in
-    sym (ap (λ (f : List (Option Origin)). get_or f p None) (sym c.self.view_is) ∙ get_or-eq_default (freed_by ms ps) None over)
+    sym (ap (λ (f : List (Option Origin)). get_or f p None) (sym c.self.view_is)
+    ∙ get_or-eq_default (freed_by ms ps) None over)
 
 pub returns : goal.returns
 returns c =
@@ -22,6 +23,9 @@ returns c =
     let ps = c.self.inside.each.items in
     let inside : p < length ps = omega arith in
     let in_wholes : p / 256 < length ms = omega arith in
-    let whole : c.index.result.now ≡ get_or ms (p / 256) None = c.index.ensures ∙ get_or_default ms (p / 256) c.index.result.now None in_wholes in
-    let alone : c.index-2.result.now ≡ get_or ps p None = c.index-2.ensures ∙ get_or_default ps p c.index-2.result.now None inside in
-    c.or.ensures ∙ ap₂ (λ (x y : Option Origin). option_or x y) whole alone ∙ sym (at-freed_by ms ps p inside) ∙ ap (λ (f : List (Option Origin)). get_or f p None) c.self.view_is
+    let whole : c.index.result.now ≡ get_or ms (p / 256) None = c.index.ensures
+    ∙ get_or_default ms (p / 256) c.index.result.now None in_wholes in
+    let alone : c.index-2.result.now ≡ get_or ps p None = c.index-2.ensures
+    ∙ get_or_default ps p c.index-2.result.now None inside in
+    c.or.ensures ∙ ap₂ (λ (x y : Option Origin). option_or x y) whole alone ∙ sym (at-freed_by ms ps p inside)
+    ∙ ap (λ (f : List (Option Origin)). get_or f p None) c.self.view_is

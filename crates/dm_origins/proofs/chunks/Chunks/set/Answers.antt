@@ -10,7 +10,8 @@ pub loop-at-init : goal.loop-at-init
 loop-at-init c =
     let ms = c.self.inside.wholes.items in
     let ps = c.self.inside.each.items in
-    let F : List (Option Origin) → Type 0 = λ f. Frees (within c.args.first c.args.first) c.args.origin f (freed_by ms ps) in
+    let F : List (Option Origin) → Type 0 = λ f. Frees (within c.args.first c.args.first) c.args.origin f
+    (freed_by ms ps) in
     record {
       from = omega arith;
       to = c.requires.order;

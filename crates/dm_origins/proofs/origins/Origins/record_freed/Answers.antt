@@ -6,4 +6,5 @@ use Rattle.dm_origins.proofs.origins.Origins.record_freed.Goals as goal
 
 pub invariant_of-self : goal.invariant_of-self
 invariant_of-self c =
-    ap (λ (f : List (Option Origin)). length f) c.free_all.ensures ∙ length_each (freed_in c.args.old.now c.args.new.now c.args.origin) 0 c.self.inside.freed ∙ c.self.invariant
+    ap (λ (f : List (Option Origin)). length f) c.free_all.ensures
+    ∙ length_each (freed_in c.args.old.now c.args.new.now c.args.origin) 0 c.self.inside.freed ∙ c.self.invariant

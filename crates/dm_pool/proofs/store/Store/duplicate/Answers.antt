@@ -13,4 +13,5 @@ invariant_of-result c =
 pub returns : goal.returns
 returns c =
     let s = c.self.inside in
-    ap (λ (t : Layout). stored c.in_ok-duplicate.field-0.bytes t) c.duplicate-2.ensures ∙ ap (λ (h : Holed). stored h.bytes s.table) c.in_ok-duplicate.ensures ∙ c.self.view_is
+    ap (λ (t : Layout). stored c.in_ok-duplicate.field-0.bytes t) c.duplicate-2.ensures
+    ∙ ap (λ (h : Holed). stored h.bytes s.table) c.in_ok-duplicate.ensures ∙ c.self.view_is

@@ -6,15 +6,24 @@ use Rattle.dm_pool.proofs.Stored.{not_used, pool_fits, pool_told, used_store}
 use Rattle.dm_pool.proofs.store.Store.free_units.Goals as goal
 
 pub part-requires : goal.part-requires
-part-requires c = (pool_fits c.self.inside.region.bytes c.pool_len-len.result c.self.inside.table c.pool_len-len.ensures (used_store c.self.inside.region c.self.inside.table c.self.inside.in_use c.self.invariant c.if-self.true), inr (inl (c.self.invariant.used c.if-self.true)))
+part-requires c = (
+  pool_fits c.self.inside.region.bytes c.pool_len-len.result c.self.inside.table c.pool_len-len.ensures
+      (used_store c.self.inside.region c.self.inside.table c.self.inside.in_use c.self.invariant c.if-self.true),
+  inr (inl (c.self.invariant.used c.if-self.true)),
+)
 
 pub free_units-requires : goal.free_units-requires
-free_units-requires c = pool_told c.self.inside.region.bytes c.part.result.now c.pool_len-len.result c.self.inside.table c.pool_len-len.ensures c.part.ensures (used_store c.self.inside.region c.self.inside.table c.self.inside.in_use c.self.invariant c.if-self.true)
+free_units-requires c = pool_told c.self.inside.region.bytes c.part.result.now c.pool_len-len.result c.self.inside.table
+    c.pool_len-len.ensures c.part.ensures (used_store c.self.inside.region c.self.inside.table c.self.inside.in_use
+    c.self.invariant c.if-self.true)
 
 pub returns-then-self : goal.returns-then-self
-returns-then-self c = c.free_units.ensures ∙ ap (λ (s : Stored). free_units (gaps s.blocks.places s.blocks.units)) c.self.view_is
+returns-then-self c = c.free_units.ensures ∙ ap (λ (s : Stored). free_units (gaps s.blocks.places s.blocks.units))
+    c.self.view_is
 
 pub returns-else-self : goal.returns-else-self
 returns-else-self c =
     let t = c.self.inside.table in
-    c.units.ensures ∙ sym (fresh_free_units t.units t.places (not_used c.self.inside.region t c.self.inside.in_use c.self.invariant c.if-self.false)) ∙ ap (λ (s : Stored). free_units (gaps s.blocks.places s.blocks.units)) c.self.view_is
+    c.units.ensures ∙ sym (fresh_free_units t.units t.places (not_used c.self.inside.region t c.self.inside.in_use
+    c.self.invariant c.if-self.false)) ∙ ap (λ (s : Stored). free_units (gaps s.blocks.places s.blocks.units))
+    c.self.view_is

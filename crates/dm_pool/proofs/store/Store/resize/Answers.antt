@@ -10,29 +10,63 @@ use Rattle.dm_pool.proofs.Stored.{live_store, live_used, pool_kept, pool_fits, p
 use Rattle.dm_pool.proofs.store.Store.resize.Goals as goal
 
 pub part_mut-requires : goal.part_mut-requires
-part_mut-requires c = (pool_fits c.self.inside.region.bytes c.pool_len-len.result c.self.inside.table c.pool_len-len.ensures (live_store c.args.self.now c.self.inside.region c.self.inside.table c.self.inside.in_use c.args.block c.self.invariant c.self.view_is c.requires), inr (inl (c.self.invariant.used (live_used c.args.self.now c.self.inside.region c.self.inside.table c.self.inside.in_use c.args.block c.self.invariant c.self.view_is c.requires))))
+part_mut-requires c = (
+  pool_fits c.self.inside.region.bytes c.pool_len-len.result c.self.inside.table c.pool_len-len.ensures (live_store
+      c.args.self.now c.self.inside.region c.self.inside.table c.self.inside.in_use c.args.block c.self.invariant
+      c.self.view_is c.requires),
+  inr (inl (c.self.invariant.used (live_used c.args.self.now c.self.inside.region c.self.inside.table
+      c.self.inside.in_use c.args.block c.self.invariant c.self.view_is c.requires))),
+)
 
 pub resize-requires-clause-told : goal.resize-requires-clause-told
-resize-requires-clause-told c = pool_told c.self.inside.region.bytes c.part_mut.result.now c.pool_len-len.result c.self.inside.table c.pool_len-len.ensures c.part_mut.ensures.value (live_store c.args.self.now c.self.inside.region c.self.inside.table c.self.inside.in_use c.args.block c.self.invariant c.self.view_is c.requires)
+resize-requires-clause-told c = pool_told c.self.inside.region.bytes c.part_mut.result.now c.pool_len-len.result
+    c.self.inside.table c.pool_len-len.ensures c.part_mut.ensures.value (live_store c.args.self.now c.self.inside.region
+    c.self.inside.table c.self.inside.in_use c.args.block c.self.invariant c.self.view_is c.requires)
 
 pub resize-requires-clause-live : goal.resize-requires-clause-live
 resize-requires-clause-live c =
     let s = c.self.inside in
-    let same = sym c.slot.ensures.value in
-    (c.slot.ensures.small, (c.requires.1.0, ap (λ (v : Stored). get_or v.blocks.places c.slot.result None) c.self.view_is ∙ ap (λ i. get_or c.args.self.now.blocks.places i None) c.slot.ensures.value ∙ c.requires.1.1))
+    let same = sym c.slot.ensures.value in (
+      c.slot.ensures.small,
+      (
+        c.requires.1.0,
+        ap (λ (v : Stored). get_or v.blocks.places c.slot.result None) c.self.view_is
+            ∙ ap (λ i. get_or c.args.self.now.blocks.places i None) c.slot.ensures.value ∙ c.requires.1.1,
+      ),
+    )
 
 pub invariant_of-self : goal.invariant_of-self
 invariant_of-self c =
-    let s = c.self.inside in let len = pool_fits s.region.bytes c.pool_len-len.result s.table c.pool_len-len.ensures (live_store c.args.self.now c.self.inside.region c.self.inside.table c.self.inside.in_use c.args.block c.self.invariant c.self.view_is c.requires) in
-    let long = c.resize.auto.bytes ∙ ap length c.part_mut.ensures.value ∙ part_length s.region.bytes 0x310000 c.pool_len-len.result len in
-    subst (IsKept _ c.resize.new.table) (sym (live_used c.args.self.now c.self.inside.region c.self.inside.table c.self.inside.in_use c.args.block c.self.invariant c.self.view_is c.requires))
-    (pool_kept s.region s.table c.resize.new.table _ (subst (IsKept s.region s.table) (live_used c.args.self.now c.self.inside.region c.self.inside.table c.self.inside.in_use c.args.block c.self.invariant c.self.view_is c.requires) c.self.invariant) (pool_store s.region.bytes c.resize.new.bytes s.table.units c.pool_len-len.result c.resize.new.table c.self.invariant.store.whole c.pool_len-len.ensures long c.resize.ensures.units c.resize.ensures.told))
+    let s = c.self.inside in let len = pool_fits s.region.bytes c.pool_len-len.result s.table c.pool_len-len.ensures
+    (live_store c.args.self.now c.self.inside.region c.self.inside.table c.self.inside.in_use c.args.block
+    c.self.invariant c.self.view_is c.requires) in
+    let long = c.resize.auto.bytes ∙ ap length c.part_mut.ensures.value
+    ∙ part_length s.region.bytes 0x310000 c.pool_len-len.result len in
+    subst (IsKept _ c.resize.new.table) (sym (live_used c.args.self.now c.self.inside.region c.self.inside.table
+    c.self.inside.in_use c.args.block c.self.invariant c.self.view_is c.requires))
+    (pool_kept s.region s.table c.resize.new.table _ (subst (IsKept s.region s.table)
+    (live_used c.args.self.now c.self.inside.region c.self.inside.table c.self.inside.in_use c.args.block
+    c.self.invariant c.self.view_is c.requires) c.self.invariant) (pool_store s.region.bytes c.resize.new.bytes
+    s.table.units c.pool_len-len.result c.resize.new.table c.self.invariant.store.whole c.pool_len-len.ensures long
+    c.resize.ensures.units c.resize.ensures.told))
 
 pub returns : goal.returns
 returns c =
-    let s = c.self.inside in let len = pool_fits s.region.bytes c.pool_len-len.result s.table c.pool_len-len.ensures (live_store c.args.self.now c.self.inside.region c.self.inside.table c.self.inside.in_use c.args.block c.self.invariant c.self.view_is c.requires) in
-    let long = c.resize.auto.bytes ∙ ap length c.part_mut.ensures.value ∙ part_length s.region.bytes 0x310000 c.pool_len-len.result len in
-    let new = pool_stored s.region.bytes c.resize.new.bytes s.table.units c.pool_len-len.result c.resize.new.table c.self.invariant.store.whole c.pool_len-len.ensures long c.resize.ensures.units c.resize.ensures.told in
-    let was : blocks_in s.table c.part_mut.result.now ≡ c.args.self.now.blocks = ap (blocks_in s.table) (c.part_mut.ensures.value ∙ ap (part s.region.bytes 0x310000) c.pool_len-len.ensures) ∙ ap (λ (v : Stored). v.blocks) c.self.view_is in
-    let told = new ∙ same_stored _ _ _ _ _ _ (ap (λ (v : Stored). v.low) c.self.view_is) (ap (λ (v : Stored). v.scratch) c.self.view_is) refl in
-    told_resized c.args.self.now _ s.table c.resize.new.table c.part_mut.result.now c.resize.new.bytes was told c.resize.result c.args.block c.args.units (subst (λ i. MatchBool c.resize.result (resized (blocks_in s.table c.part_mut.result.now) i c.args.units ≡ Some (blocks_in c.resize.new.table c.resize.new.bytes)) ((resized (blocks_in s.table c.part_mut.result.now) i c.args.units ≡ None) × (c.resize.new.table ≡ s.table) × (c.resize.new.bytes ≡ c.part_mut.result.now))) c.slot.ensures.value c.resize.ensures.resized)
+    let s = c.self.inside in let len = pool_fits s.region.bytes c.pool_len-len.result s.table c.pool_len-len.ensures
+    (live_store c.args.self.now c.self.inside.region c.self.inside.table c.self.inside.in_use c.args.block
+    c.self.invariant c.self.view_is c.requires) in
+    let long = c.resize.auto.bytes ∙ ap length c.part_mut.ensures.value
+    ∙ part_length s.region.bytes 0x310000 c.pool_len-len.result len in
+    let new = pool_stored s.region.bytes c.resize.new.bytes s.table.units c.pool_len-len.result c.resize.new.table
+    c.self.invariant.store.whole c.pool_len-len.ensures long c.resize.ensures.units c.resize.ensures.told in
+    let was : blocks_in s.table c.part_mut.result.now ≡ c.args.self.now.blocks =
+    ap (blocks_in s.table) (c.part_mut.ensures.value ∙ ap (part s.region.bytes 0x310000) c.pool_len-len.ensures)
+    ∙ ap (λ (v : Stored). v.blocks) c.self.view_is in
+    let told = new ∙ same_stored _ _ _ _ _ _ (ap (λ (v : Stored). v.low) c.self.view_is)
+    (ap (λ (v : Stored). v.scratch) c.self.view_is) refl in
+    told_resized c.args.self.now _ s.table c.resize.new.table c.part_mut.result.now c.resize.new.bytes was told
+    c.resize.result c.args.block c.args.units (subst (λ i. MatchBool c.resize.result
+    (resized (blocks_in s.table c.part_mut.result.now) i c.args.units
+    ≡ Some (blocks_in c.resize.new.table c.resize.new.bytes))
+    ((resized (blocks_in s.table c.part_mut.result.now) i c.args.units ≡ None) × (c.resize.new.table ≡ s.table) ×
+    (c.resize.new.bytes ≡ c.part_mut.result.now))) c.slot.ensures.value c.resize.ensures.resized)

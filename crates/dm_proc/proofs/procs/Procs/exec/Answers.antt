@@ -14,8 +14,11 @@ returns-in_err-pair c =
       refl,
       refl,
       c.make_environment.ensures.memory,
-      plan_refused _ _ _ _ _ _ (asks c.args.self.now c.args.cpu.now _ _ _ _ _ _ _ _ _ does c.in_ok-program.ensures c.environment_segment-segment.ensures c.psp.ensures c.as_slice.ensures.value made) _
-          (refused_at _ _ _ _ _ _ _ _ c.make_environment.ensures.memory (whole c.args.self.now c.args.cpu.now _ _ _ _ _ _ _ _ _ does c.in_ok-program.ensures c.environment_segment-segment.ensures c.psp.ensures c.as_slice.ensures.value made) c.in_err-pair.ensures),
+      plan_refused _ _ _ _ _ _ (asks c.args.self.now c.args.cpu.now _ _ _ _ _ _ _ _ _ does c.in_ok-program.ensures
+          c.environment_segment-segment.ensures c.psp.ensures c.as_slice.ensures.value made) _
+          (refused_at _ _ _ _ _ _ _ _ c.make_environment.ensures.memory (whole c.args.self.now c.args.cpu.now _ _ _ _ _
+          _ _ _ _ does c.in_ok-program.ensures c.environment_segment-segment.ensures c.psp.ensures
+          c.as_slice.ensures.value made) c.in_err-pair.ensures),
     )
 
 pub returns-then-is_full : goal.returns-then-is_full
@@ -26,8 +29,14 @@ returns-then-is_full c =
       refl,
       c.make_environment.ensures.memory,
       (
-        asks _ _ _ _ _ _ _ _ _ _ _ does c.in_ok-program.ensures c.environment_segment-segment.ensures c.psp.ensures c.as_slice.ensures.value made,
-        inr (planned_at _ _ _ _ _ _ _ _ c.make_environment.ensures.memory (whole c.args.self.now c.args.cpu.now _ _ _ _ _ _ _ _ _ does c.in_ok-program.ensures c.environment_segment-segment.ensures c.psp.ensures c.as_slice.ensures.value made) c.in_ok-pair.ensures, c.if-is_full.ensures),
+        asks _ _ _ _ _ _ _ _ _ _ _ does c.in_ok-program.ensures c.environment_segment-segment.ensures c.psp.ensures
+            c.as_slice.ensures.value made,
+        inr (
+          planned_at _ _ _ _ _ _ _ _ c.make_environment.ensures.memory (whole c.args.self.now c.args.cpu.now _ _ _ _
+              _ _ _ _ _ does c.in_ok-program.ensures c.environment_segment-segment.ensures c.psp.ensures
+              c.as_slice.ensures.value made) c.in_ok-pair.ensures,
+          c.if-is_full.ensures,
+        ),
       ),
     )
 
@@ -37,14 +46,19 @@ returns c =
     let same = c.make_environment.ensures.memory in
     let does : c.args.cpu.now.ax % 256 ≡ 0 = omega arith in
     record {
-      asks = asks _ _ _ _ _ _ _ _ _ _ _ does c.in_ok-program.ensures c.environment_segment-segment.ensures c.psp.ensures c.as_slice.ensures.value made;
+      asks = asks _ _ _ _ _ _ _ _ _ _ _ does c.in_ok-program.ensures c.environment_segment-segment.ensures c.psp.ensures
+          c.as_slice.ensures.value made;
       few = c.if-is_full.ensures;
       placed = _;
       starts = started_at _ _ _ _ _ _ _ _ _ _ _ _ _ same
-          (bytes c.args.self.now c.args.cpu.now _ _ _ _ _ _ _ _ _ does c.in_ok-program.ensures c.environment_segment-segment.ensures c.psp.ensures c.as_slice.ensures.value made)
+          (bytes c.args.self.now c.args.cpu.now _ _ _ _ _ _ _ _ _ does c.in_ok-program.ensures
+          c.environment_segment-segment.ensures c.psp.ensures c.as_slice.ensures.value made)
           c.psp-parent.ensures (c.arguments_at-arguments.ensures ∙ ap (passed c.args.cpu.now) same)
-          (starts _ _ c.args.strategy _ _ _ _ c.in_ok-pair.pair _ c.in-Some.environment_bytes (ap length made.bytes ∙ sym made.whole) c.in_ok-pair.ensures
-          (c.start-started.ensures.written (planned_on _ _ c.args.strategy c.in-Some.environment_bytes _ _ c.in_ok-pair.ensures)));
+          (starts _ _ c.args.strategy _ _ _ _ c.in_ok-pair.pair _ c.in-Some.environment_bytes (ap length made.bytes
+          ∙ sym made.whole) c.in_ok-pair.ensures
+          (c.start-started.ensures.written (planned_on _ _ c.args.strategy c.in-Some.environment_bytes _ _
+          c.in_ok-pair.ensures)));
       registers = c.start-started.ensures.registers;
-      processes = begun _ _ _ _ _ _ c.start-started.ensures.segment (c.return_registers-after.ensures ∙ ap (return_registers c.args.cpu.now) same) c.begin.ensures;
+      processes = begun _ _ _ _ _ _ c.start-started.ensures.segment (c.return_registers-after.ensures
+          ∙ ap (return_registers c.args.cpu.now) same) c.begin.ensures;
     }

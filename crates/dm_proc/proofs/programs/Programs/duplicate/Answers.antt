@@ -5,7 +5,8 @@ use Rattle.dm_proc.proofs.programs.Programs.duplicate.Invariants.{seen}
 use Rattle.dm_proc.proofs.programs.Programs.duplicate.Goals as goal
 
 -- one program more of a list is copied
-copied : (xs ys : List Program) (i : ℕ) (d e : Program) → i < length xs → d ≡ get_or xs i d → map seen ys ≡ map seen (take i xs)
+copied : (xs ys : List Program) (i : ℕ) (d e : Program) → i < length xs → d ≡ get_or xs i d →
+    map seen ys ≡ map seen (take i xs)
     → e.name.items ≡ d.name.items → e.bytes.items ≡ d.bytes.items → map seen (ys ++ e ∷ []) ≡ map seen (take (i + 1) xs)
 copied xs ys i d e within is before name bytes =
     let more = take_more xs i d within ∙ ap (λ p. take i xs ++ p ∷ []) (sym is) in
@@ -20,7 +21,9 @@ pub loop-program-preserved : goal.loop-program-preserved
 loop-program-preserved c =
     let same = c.in_ok-duplicate.ensures in
     ap (map seen) c.in_ok-push.ensures.items
-    ∙ copied c.deref-program-items.result.now c.loop-program.programs.items c.loop-program.program-index c.program-item.result c.in_ok-duplicate.field-0 c.loop-program-test.true c.program-item.is c.loop-program.invariant same.0 same.1
+    ∙ copied c.deref-program-items.result.now c.loop-program.programs.items c.loop-program.program-index
+    c.program-item.result c.in_ok-duplicate.field-0 c.loop-program-test.true c.program-item.is
+    c.loop-program.invariant same.0 same.1
 
 pub returns : goal.returns
 returns c =

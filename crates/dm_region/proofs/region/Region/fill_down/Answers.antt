@@ -13,10 +13,12 @@ invariant_of-self c =
     let e : c.args.start + n ≡ r.to = omega (arith, below) in
     let new = c.put_zeros.ensures in
     record {
-      holed = subst (λ (l : List (Option ℕ)). IsHoled l r.from c.args.start) (sym new.slots) (down_holed r.cells.slots r.from r.to inv.holed within n c.args.start e from);
+      holed = subst (λ (l : List (Option ℕ)). IsHoled l r.from c.args.start) (sym new.slots)
+          (down_holed r.cells.slots r.from r.to inv.holed within n c.args.start e from);
       ordered = from;
       within = omega (arith, below, inv.within);
-      length_is = ap length new.slots ∙ down_length r.cells.slots r.from r.to inv.holed within n c.args.start e from ∙ inv.length_is;
+      length_is = ap length new.slots ∙ down_length r.cells.slots r.from r.to inv.holed within n c.args.start e from
+          ∙ inv.length_is;
       fits = inv.fits;
       cells_at = new.at ∙ inv.cells_at;
       deed_at = inv.deed_at;
@@ -32,6 +34,8 @@ returns-then-start-self c =
     let within : r.to ≤ length r.cells.slots = omega (arith, inv.within, inv.length_is) in
     let e : c.args.start + n ≡ r.to = omega (arith, below) in
     let least : c.args.start ≡ min r.to c.args.start = omega (arith, below) in
-    ap (λ (l : List ℕ). record { bytes = l; from = r.from; to = c.args.start }) (ap (map or_zero) c.put_zeros.ensures.slots ∙ down_bytes r.cells.slots r.from r.to inv.holed within n c.args.start e from)
+    ap (λ (l : List ℕ). record { bytes = l; from = r.from; to = c.args.start })
+    (ap (map or_zero) c.put_zeros.ensures.slots ∙ down_bytes r.cells.slots r.from r.to inv.holed within n
+    c.args.start e from)
     ∙ ap (λ (k : ℕ). record { bytes = map or_zero r.cells.slots; from = r.from; to = k }) least
     ∙ ap (λ (h : Holed). record h { to = min h.to c.args.start }) c.self.view_is

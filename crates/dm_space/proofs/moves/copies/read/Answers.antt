@@ -9,6 +9,13 @@ loop-done-preserved c =
     let a = c.args in let done = c.loop-done.done in let run = c.run_len-run.result in
     record {
       within = omega (arith, c.loop-done.invariant.within, c.run_len-run.ensures.left);
-      copied = c.read_run.ensures ∙ ap (λ (h : Held). read_in h a.span.now done (a.at + done) run) c.loop-done.invariant.copied
-          ∙ read-more a.space.now a.span.now a.at done run (omega (arith, c.requires.scratch, c.loop-done.invariant.within, c.run_len-run.ensures.left, c.a20-sizes.ensures.held.scratch_length));
+      copied = c.read_run.ensures ∙ ap (λ (h : Held). read_in h a.span.now done (a.at + done) run)
+          c.loop-done.invariant.copied
+          ∙ read-more a.space.now a.span.now a.at done run (omega (
+            arith,
+            c.requires.scratch,
+            c.loop-done.invariant.within,
+            c.run_len-run.ensures.left,
+            c.a20-sizes.ensures.held.scratch_length,
+          ));
     }

@@ -12,7 +12,12 @@ pub write_run-requires-clause-inside : goal.write_run-requires-clause-inside
 write_run-requires-clause-inside c =
     let a = c.args in let h = a.space.now in let r = a.span.now in
     let done = c.loop-done.done in let run = c.run_len-run.result in
-    let then = inside-less _ r (done + run) a.len (omega (arith, c.loop-done.invariant.within, c.run_len-run.ensures.left)) (inside-shaped h.memory _ r a.len (stored-shaped h.memory r 0 (part h.scratch a.at done)) c.requires.inside) in
+    let then = inside-less _ r (done + run) a.len (omega (
+      arith,
+      c.loop-done.invariant.within,
+      c.run_len-run.ensures.left,
+    )) (inside-shaped h.memory _ r a.len (stored-shaped h.memory r 0
+    (part h.scratch a.at done)) c.requires.inside) in
     subst (λ (g : Held). IsInside g.memory r (done + run)) (sym c.loop-done.invariant.copied) then
 
 pub loop-done-preserved : goal.loop-done-preserved
@@ -20,6 +25,12 @@ loop-done-preserved c =
     let a = c.args in let done = c.loop-done.done in let run = c.run_len-run.result in
     record {
       within = omega (arith, c.loop-done.invariant.within, c.run_len-run.ensures.left);
-      copied = c.write_run.ensures ∙ ap (λ (h : Held). written_out h a.span.now done (a.at + done) run) c.loop-done.invariant.copied
-          ∙ write-more a.space.now a.span.now a.at done run (omega (arith, c.requires.scratch, c.loop-done.invariant.within, c.a20-sizes.ensures.held.scratch_length));
+      copied = c.write_run.ensures ∙ ap (λ (h : Held). written_out h a.span.now done (a.at + done) run)
+          c.loop-done.invariant.copied
+          ∙ write-more a.space.now a.span.now a.at done run (omega (
+            arith,
+            c.requires.scratch,
+            c.loop-done.invariant.within,
+            c.a20-sizes.ensures.held.scratch_length,
+          ));
     }

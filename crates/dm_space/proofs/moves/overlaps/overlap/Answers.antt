@@ -8,19 +8,29 @@ use Rattle.dm_space.proofs.moves.overlaps.overlap.Goals as goal
 
 pub returns-then-run_meets : goal.returns-then-run_meets
 returns-then-run_meets c =
-    let a = c.args in let m = a.space.now.memory in let r = a.from.now in let done = c.loop-done.done in let run = c.run_len-run.result in
+    let a = c.args in let m = a.space.now.memory in let r = a.from.now in let done = c.loop-done.done in let run =
+    c.run_len-run.result in
     let le : done + run ≤ a.len = omega (arith, c.loop-done.invariant.within, c.run_len-run.ensures.left) in
     let cell : (r.start + done) % 0x4000 + run ≤ 0x4000 = omega (arith, c.at.ensures, c.run_len-run.ensures.run) in
-    let met = c.if-run_meets.ensures ∙ ap (λ q. any_two run a.len (λ i j. is_shared (shift q i) (place_in m a.to.now j))) c.place.ensures in
-    sym (spans-shared m r a.to.now done run a.len (inside-less m r (done + run) a.len le c.requires.from) cell le (sym met))
+    let met = c.if-run_meets.ensures ∙ ap (λ q. any_two run a.len (λ i j. is_shared (shift q i)
+    (place_in m a.to.now j))) c.place.ensures in
+    sym (spans-shared m r a.to.now done run a.len (inside-less m r (done + run) a.len le c.requires.from) cell le
+    (sym met))
 
 pub loop-done-preserved : goal.loop-done-preserved
 loop-done-preserved c =
-    let a = c.args in let m = a.space.now.memory in let r = a.from.now in let done = c.loop-done.done in let run = c.run_len-run.result in
+    let a = c.args in let m = a.space.now.memory in let r = a.from.now in let done = c.loop-done.done in let run =
+    c.run_len-run.result in
     let le : done + run ≤ a.len = omega (arith, c.loop-done.invariant.within, c.run_len-run.ensures.left) in
     let cell : (r.start + done) % 0x4000 + run ≤ 0x4000 = omega (arith, c.at.ensures, c.run_len-run.ensures.run) in
-    let apart = c.if-run_meets.ensures ∙ ap (λ q. any_two run a.len (λ i j. is_shared (shift q i) (place_in m a.to.now j))) c.place.ensures in
-    record { within = le; apart = spans-apart m r a.to.now done run a.len (inside-less m r (done + run) a.len le c.requires.from) cell (sym apart) c.loop-done.invariant.apart }
+    let apart = c.if-run_meets.ensures ∙ ap (λ q. any_two run a.len (λ i j. is_shared (shift q i)
+    (place_in m a.to.now j))) c.place.ensures in
+    record {
+      within = le;
+      apart = spans-apart m r a.to.now done run a.len (inside-less m r
+          (done + run) a.len le c.requires.from) cell (sym apart) c.loop-done.invariant.apart;
+    }
 
 pub returns : goal.returns
-returns c = let a = c.args in sym (spans-all a.space.now.memory a.from.now a.to.now c.loop-done.done a.len c.loop-done-test.false c.loop-done.invariant.apart)
+returns c = let a = c.args in sym (spans-all a.space.now.memory a.from.now a.to.now c.loop-done.done a.len
+    c.loop-done-test.false c.loop-done.invariant.apart)

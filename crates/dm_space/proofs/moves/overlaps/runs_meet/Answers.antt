@@ -33,4 +33,5 @@ pub returns-in-Nothing : goal.returns-in-Nothing
 returns-in-Nothing c = never _ _ _ _ c.args.n c.args.l c.in-Nothing.is refl (λ i j. refl)
 
 pub returns-else-eq : goal.returns-else-eq
-returns-else-eq c = never _ _ _ _ c.args.n c.args.l c.in-Page.is c.in-Page-q-2.is (other_page c.in-Page.page c.in-Page.a c.in-Page-q-2.other c.in-Page-q-2.b (sym c.if-eq.ensures))
+returns-else-eq c = never _ _ _ _ c.args.n c.args.l c.in-Page.is c.in-Page-q-2.is
+    (other_page c.in-Page.page c.in-Page.a c.in-Page-q-2.other c.in-Page-q-2.b (sym c.if-eq.ensures))

@@ -12,9 +12,16 @@ pub invariant_of-self : goal.invariant_of-self
 invariant_of-self c =
     let s = c.self.inside in let a = c.args in
     let bytes = get_or s.store.blocks.contents a.block [] in
-    let room : a.to + a.len ≤ length bytes = subst (λ (h : Held). a.to + a.len ≤ length (get_or h.memory.blocks.contents a.block [])) (sym c.self.view_is) c.requires.block.1 in (
+    let room : a.to + a.len ≤ length bytes = subst (λ (h : Held). a.to + a.len
+    ≤ length (get_or h.memory.blocks.contents a.block [])) (sym c.self.view_is) c.requires.block.1 in (
       held_content s.store s.windows s.a20 c.copy.new.self a.block _ c.copy.ensures
-          (length-with_part bytes (part s.store.scratch a.at a.len) a.to a.len room (part_length s.store.scratch a.at a.len (omega (arith, c.requires.scratch, c.self.invariant.0.scratch_length))))
+          (length-with_part bytes (part s.store.scratch a.at a.len) a.to a.len room
+          (part_length s.store.scratch a.at a.len (omega (
+            arith,
+            c.requires.scratch,
+            c.self.invariant.0.scratch_length,
+          ))))
           c.self.invariant.0,
-      shifts_as s.store s.windows s.shifts c.copy.new.self (ap (λ (x : Stored). x.blocks.places) c.copy.ensures) c.self.invariant.1,
+      shifts_as s.store s.windows s.shifts c.copy.new.self (ap (λ (x : Stored). x.blocks.places) c.copy.ensures)
+          c.self.invariant.1,
     )

@@ -9,6 +9,13 @@ loop-done-preserved c =
     let done = c.loop-done.done in let run = c.run_len-run.result in
     record {
       within = omega (arith, c.loop-done.invariant.within, c.run_len-run.ensures.left);
-      copied = c.copy_run_out.ensures ∙ ap (λ (h : Held). copied_out h (c.args.at + done) (c.args.linear + done) run) c.loop-done.invariant.copied
-          ∙ out-more c.args.self.now c.args.linear c.args.at done run (omega (arith, c.requires.scratch, c.loop-done.invariant.within, c.run_len-run.ensures.left, c.a20-sizes.ensures.held.scratch_length));
+      copied = c.copy_run_out.ensures ∙ ap (λ (h : Held). copied_out h (c.args.at + done) (c.args.linear + done) run)
+          c.loop-done.invariant.copied
+          ∙ out-more c.args.self.now c.args.linear c.args.at done run (omega (
+            arith,
+            c.requires.scratch,
+            c.loop-done.invariant.within,
+            c.run_len-run.ensures.left,
+            c.a20-sizes.ensures.held.scratch_length,
+          ));
     }

@@ -8,6 +8,9 @@ use Rattle.dm_space.proofs.space.Space.duplicate.Goals as goal
 pub invariant_of-result : goal.invariant_of-result
 invariant_of-result c =
     let s = c.self.inside in
-    let windows : c.windows-windows.result ≡ s.windows = c.windows-windows.ensures.value ∙ sym (ap (λ (h : Held). h.memory.windows) c.self.view_is) in
-    subst (λ (v : Stored). IsHeld (held v c.windows-windows.result s.a20) × AreShifts v.blocks.places c.windows-windows.result s.shifts) (sym c.in_ok-store.ensures)
-    (subst (λ (w : List (Option ℕ)). IsHeld (held s.store w s.a20) × AreShifts s.store.blocks.places w s.shifts) (sym windows) c.self.invariant)
+    let windows : c.windows-windows.result ≡ s.windows = c.windows-windows.ensures.value
+    ∙ sym (ap (λ (h : Held). h.memory.windows) c.self.view_is) in
+    subst (λ (v : Stored). IsHeld (held v c.windows-windows.result s.a20) ×
+    AreShifts v.blocks.places c.windows-windows.result s.shifts) (sym c.in_ok-store.ensures)
+    (subst (λ (w : List (Option ℕ)). IsHeld (held s.store w s.a20) × AreShifts s.store.blocks.places w s.shifts)
+    (sym windows) c.self.invariant)

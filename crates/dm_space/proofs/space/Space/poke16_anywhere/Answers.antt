@@ -18,11 +18,17 @@ returns-in-Some c =
     let k = at % 16384 in
     let block = c.in-Some.block in
     let old = get_or s.store.blocks.contents block [] in
-    let here = subst (λ (h : Held). place h.memory at ≡ Page block (at % 0x4000)) (sym c.self.view_is) c.in-Some.ensures.place in
+    let here = subst (λ (h : Held). place h.memory at ≡ Page block (at % 0x4000)) (sym c.self.view_is)
+    c.in-Some.ensures.place in
     let page = subst (λ (h : Held). IsPage h.memory block) (sym c.self.view_is) c.in-Some.ensures.page in
-    ap (λ (xs : List ℕ). held (record s.store { blocks = with_content s.store.blocks block (refit old xs) }) s.windows s.a20) c.put_word.ensures
-    ∙ ap (λ (xs : List ℕ). held (record s.store { blocks = with_content s.store.blocks block xs }) s.windows s.a20) (word_lent old c.bytes_mut.result.now k (c.args.value % 256) (c.args.value / 256) c.bytes_mut.ensures.value)
+    ap (λ (xs : List ℕ). held (record s.store { blocks = with_content s.store.blocks block (refit old xs) }) s.windows
+    s.a20) c.put_word.ensures
+    ∙ ap (λ (xs : List ℕ). held (record s.store { blocks = with_content s.store.blocks block xs }) s.windows s.a20)
+    (word_lent old c.bytes_mut.result.now k (c.args.value % 256) (c.args.value / 256) c.bytes_mut.ensures.value)
     ∙ ap (λ (n : Memory). record { memory = n; scratch = s.store.scratch })
-    (word_put m c.args.segment c.args.offset at block c.args.value (grind (arith, nat_tests)) refl (omega (arith, c.if-at-lt917504.false)) (omega (arith, c.if-at-ge983040.false))
+    (word_put m c.args.segment c.args.offset at block c.args.value (grind (arith, nat_tests)) refl (omega (
+      arith,
+      c.if-at-lt917504.false,
+    )) (omega (arith, c.if-at-ge983040.false))
     (grind (arith, nat_tests)) here (page-there m.blocks.contents block 0 (omega (arith, page.1))))
     ∙ ap (λ (h : Held). record h { memory = poke16 h.memory c.args.segment c.args.offset c.args.value }) c.self.view_is

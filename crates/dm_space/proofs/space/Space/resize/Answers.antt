@@ -9,6 +9,8 @@ pub invariant_of-self : goal.invariant_of-self
 invariant_of-self c =
     let s = c.self.inside in
     let hidden = ap (λ (h : Held). shows h.memory.windows c.args.block) c.self.view_is ∙ c.requires.hidden in (
-      held_resized s.store s.windows s.a20 c.resize.new.self c.resize.result c.args.block c.args.units c.resize.ensures hidden c.self.invariant.0,
-      shifts_resized s.store s.windows s.shifts c.resize.new.self c.resize.result c.args.block c.args.units c.resize.ensures hidden c.self.invariant.1,
+      held_resized s.store s.windows s.a20 c.resize.new.self c.resize.result c.args.block c.args.units c.resize.ensures
+          hidden c.self.invariant.0,
+      shifts_resized s.store s.windows s.shifts c.resize.new.self c.resize.result c.args.block c.args.units
+          c.resize.ensures hidden c.self.invariant.1,
     )

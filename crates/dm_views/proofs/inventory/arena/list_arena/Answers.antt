@@ -5,14 +5,20 @@ use Rattle.dm_views.proofs.inventory.arena.list_arena.Goals as goal
 use Rattle.dm_views.proofs.inventory.arena.list_arena.Goals.{else-upper-via-then-upper+else-not-is_linked, else-upper-via-else-upper}
 
 pub returns-in-Broken : goal.returns-in-Broken
-returns-in-Broken c = destroyed_told c.args.upper c.args.space.now.memory c.walk.result c.in-Broken.segment c.in_ok-first.field-0 _ _ c.walk.ensures.memory c.walk.ensures.second c.in-Broken.is c.in_ok-first.ensures
+returns-in-Broken c = destroyed_told c.args.upper c.args.space.now.memory c.walk.result c.in-Broken.segment
+    c.in_ok-first.field-0 _ _ c.walk.ensures.memory c.walk.ensures.second c.in-Broken.is c.in_ok-first.ensures
 
 pub returns-then-not-is_linked : goal.returns-then-not-is_linked
-returns-then-not-is_linked c = IfOk-weaker c.put_second.result _ _ (λ broken s. parted_told c.args.upper c.args.space.now.memory c.walk.result c.in-Over.first c.in_ok-first.field-0 _ _ _ broken
-    c.walk.ensures.memory c.walk.ensures.second c.in-Over.is c.in_ok-first.ensures (parted_by _ c.is_linked.result false _ c.if-upper.true c.is_linked.ensures c.if-not-is_linked.true) s) c.put_second.ensures
+returns-then-not-is_linked c = IfOk-weaker c.put_second.result _ _ (λ broken s. parted_told c.args.upper
+    c.args.space.now.memory c.walk.result c.in-Over.first c.in_ok-first.field-0 _ _ _ broken
+    c.walk.ensures.memory c.walk.ensures.second c.in-Over.is c.in_ok-first.ensures
+    (parted_by _ c.is_linked.result false _ c.if-upper.true c.is_linked.ensures c.if-not-is_linked.true) s)
+    c.put_second.ensures
 
 pub returns : goal.returns
-returns c = alone_told c.args.upper c.args.space.now.memory c.walk.result c.in-Over.first c.in_ok-first.field-0 _ _ c.walk.ensures.memory c.walk.ensures.second c.in-Over.is c.in_ok-first.ensures (elim c.else-upper.branch [
-  | else-upper-via-then-upper+else-not-is_linked w ↦ parted_by _ w.is_linked.result true _ w.if-upper.true w.is_linked.ensures w.if-not-is_linked.false
-  | else-upper-via-else-upper w ↦ parted_never _ _ w.if-upper.false
-])
+returns c = alone_told c.args.upper c.args.space.now.memory c.walk.result c.in-Over.first c.in_ok-first.field-0 _ _
+    c.walk.ensures.memory c.walk.ensures.second c.in-Over.is c.in_ok-first.ensures (elim c.else-upper.branch [
+      | else-upper-via-then-upper+else-not-is_linked w ↦ parted_by _ w.is_linked.result true _ w.if-upper.true
+          w.is_linked.ensures w.if-not-is_linked.false
+      | else-upper-via-else-upper w ↦ parted_never _ _ w.if-upper.false
+    ])

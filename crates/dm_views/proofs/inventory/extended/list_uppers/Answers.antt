@@ -9,4 +9,5 @@ pub loop-number-init : goal.loop-number-init
 loop-number-init c = records_none _ _
 
 pub loop-number-preserved : goal.loop-number-preserved
-loop-number-preserved c = records_more _ _ _ _ _ c.loop-number.invariant (c.in_ok-put_upper.ensures ∙ ap (λ (u : Option Upper). c.loop-number.out.items ++ record_list (upper_of u)) c.upper_block.ensures)
+loop-number-preserved c = records_more _ _ _ _ _ c.loop-number.invariant (c.in_ok-put_upper.ensures
+    ∙ ap (λ (u : Option Upper). c.loop-number.out.items ++ record_list (upper_of u)) c.upper_block.ensures)

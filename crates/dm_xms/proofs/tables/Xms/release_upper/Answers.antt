@@ -7,5 +7,6 @@ pub invariant_of-self : goal.invariant_of-self
 invariant_of-self c = record {
   handles = c.self.invariant.handles;
   local = c.self.invariant.local;
-  uppers = subst (Rise 0xD000) (sym c.remove.ensures.items) (rise_gone c.self.inside.uppers.items c.in-Some.at c.self.invariant.uppers);
+  uppers = subst (Rise 0xD000) (sym c.remove.ensures.items) (rise_gone c.self.inside.uppers.items c.in-Some.at
+      c.self.invariant.uppers);
 }
