@@ -20,8 +20,10 @@ pub use control::change_flag;
 pub use dm_cpu::{Cpu, Flags, far_return, interrupt_return};
 pub use each::is_at_hand;
 pub use effect::{Next, exec, execute};
-pub use far::{call_to_pointer, jump_to_pointer, load_far_low, load_far_shown, transfer_low};
-pub use far_above::{call_by_pointer, jump_by_pointer, transfer_shown};
+pub use far::{
+    call_to_pointer, jump_to_pointer, load_far_low, load_far_shown, push_far_low, return_far_low,
+};
+pub use far_above::{call_by_pointer, jump_by_pointer, push_return, return_far_anywhere};
 pub use jumps::{
     call_by, call_memory, call_register, is_taken, jump_memory, jump_register, return_near,
     target_after, target_by_count, transfer,

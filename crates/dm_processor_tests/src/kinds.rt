@@ -10,11 +10,11 @@ use dm_forms::Form;
 use std::test::Fail;
 
 /// The number of forms.
-pub(crate) const FORMS: usize = 155;
+pub(crate) const FORMS: usize = 158;
 
 /// The number of a form, in the order of their declaration.
 pub(crate) fn number_of(form: &Form) -> usize
-    ensures { result < 155 }
+    ensures { result < 158 }
 {
     match *form {
         Form::MoveWord(..) => 0,
@@ -165,13 +165,16 @@ pub(crate) fn number_of(form: &Form) -> usize
         Form::MoveToSegment(..) => 145,
         Form::LoadSegment(..) => 146,
         Form::PopSegment(_) => 147,
-        Form::FarTransfer(_) => 148,
-        Form::JumpFarMemory(_) => 149,
-        Form::CallFarMemory(_) => 150,
-        Form::TakeInterrupt(_) => 151,
-        Form::InterruptOnOverflow => 152,
-        Form::Interrupt(_) => 153,
-        Form::Other => 154,
+        Form::JumpFar(..) => 148,
+        Form::CallFar(..) => 149,
+        Form::ReturnFar => 150,
+        Form::ReturnFarMore(_) => 151,
+        Form::JumpFarMemory(_) => 152,
+        Form::CallFarMemory(_) => 153,
+        Form::TakeInterrupt(_) => 154,
+        Form::InterruptOnOverflow => 155,
+        Form::ReturnFromInterrupt => 156,
+        Form::Other => 157,
     }
 }
 
