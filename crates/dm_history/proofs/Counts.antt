@@ -28,7 +28,6 @@ use Rattle.dm_services.specs.state.State.{State, Answer, go, stop_at}
 use Rattle.dm_services.specs.Text.{print}
 use Rattle.dm_services.specs.Characters.{character_of, read_character, echo_of, echo_character, write_character, poll_of, poll_character, direct_character, check_input}
 use Rattle.dm_services.specs.Lines.{line_length, line_read, line_into, read_line}
-use Rattle.dm_services.specs.Flush.{flush_and_read}
 use Rattle.dm_services.specs.Handles.{bad_handle, waits, read_handle, write_handle}
 use Rattle.dm_services.specs.Vectors.{set_vector, get_vector}
 use Rattle.dm_services.specs.System.{tell_version, tell_process}
@@ -39,8 +38,9 @@ use Rattle.dm_services.specs.Strategies.{TellsLink, link_told, SetsLink, Strateg
 use Rattle.dm_services.specs.Processes.{executed, overlaid, LoadingAs, concluded, Terminating, StayingResident, tell_code}
 use Rattle.dm_services.specs.declared.functions.Function.{Function}
 use Rattle.dm_services.specs.declared.functions.Function.TheVariants as function
-use Rattle.dm_services.specs.Functions.{function_of, no_function, Calls}
+use Rattle.dm_services.specs.Functions.{function_of, flush_and_read, no_function, Calls}
 use Rattle.dm_services.specs.Services.{Serves}
+use Rattle.dm_services.proofs.Reading.{by_function}
 use Rattle.dm_machine.specs.Step.{MakesStep, ActsUnlessEnded, Acts, Instructs, listed, unlisted, after}
 
 -- the count one higher; at 2^64 - 1 it stays
@@ -121,12 +121,8 @@ read_line-counts s = line_into-counts s (peek s.memory (linear s.memory.a20 s.cp
 
 flush_and_read-counts : (s : State) → Counts s (flush_and_read s)
 unfolding flush_and_read
-flush_and_read-counts s =
-    choice-counts s (byte_of s.cpu Al == 0x01) _ _ (echo_character-counts s)
-    (choice-counts s (byte_of s.cpu Al == 0x06) _ _ (direct_character-counts s)
-    (choice-counts s (byte_of s.cpu Al == 0x07) _ _ (read_character-counts s)
-    (choice-counts s (byte_of s.cpu Al == 0x08) _ _ (read_character-counts s)
-    (choice-counts s (byte_of s.cpu Al == 0x0A) _ _ (read_line-counts s) (on s _ refl refl)))))
+flush_and_read-counts s = by_function (λ g. Counts s (g s)) (echo_character-counts s) (direct_character-counts s)
+    (read_character-counts s) (read_line-counts s) (on s _ refl refl) (function_of (byte_of s.cpu Al))
 
 bad_handle-counts : (s : State) → Counts s (bad_handle s)
 unfolding bad_handle

@@ -7,12 +7,13 @@ use Rattle.dm_ins.specs.declared.operand.ByteRegister.TheVariants.{Al}
 use Rattle.dm_services.specs.state.State.{State, go, interrupt_returned}
 use Rattle.dm_services.specs.Characters.{with_al, character_of, read_character, echo_of, echo_character, write_character, poll_of, poll_character, direct_character, check_input}
 use Rattle.dm_services.specs.Lines.{line_length, line_read, line_into, read_line}
-use Rattle.dm_services.specs.Flush.{flush_and_read}
+use Rattle.dm_services.specs.Functions.{function_of, flush_and_read}
 use Rattle.dm_services.specs.Handles.{bad_handle, read_from_console, waits, read_unless, read_handle, write_to_console, write_handle}
 use Rattle.dm_services.specs.Vectors.{set_vector, get_vector}
 use Rattle.dm_services.specs.System.{tell_version, tell_process}
 use Rattle.dm_services.specs.Laws.{with_change}
 use Rattle.dm_services.specs.inner.Laws.{answer_with}
+use Rattle.dm_services.proofs.Reading.{by_function}
 use Rattle.dm_services.proofs.UnseenParts.{byte-unseen, bytes_from-unseen, with_bytes-unseen, return-parts, choice-unseen}
 
 character_of-unseen : (f : Memory → Memory) (u : IsUnseen f) (s : State) (xs : List ℕ) →
@@ -87,12 +88,9 @@ al-unseen f u s b = simp (return-parts f u)
 pub flush_and_read-unseen : (f : Memory → Memory) (u : IsUnseen f) (s : State) →
     flush_and_read (with_change f s) ≡ answer_with f (flush_and_read s)
 unfolding flush_and_read
-flush_and_read-unseen f u s =
-    choice-unseen f (byte_of s.cpu Al == 0x01) _ _ _ _ (echo_character-unseen f u s)
-    (choice-unseen f (byte_of s.cpu Al == 0x06) _ _ _ _ (direct_character-unseen f u s)
-    (choice-unseen f (byte_of s.cpu Al == 0x07) _ _ _ _ (read_character-unseen f u s)
-    (choice-unseen f (byte_of s.cpu Al == 0x08) _ _ _ _ (read_character-unseen f u s)
-    (choice-unseen f (byte_of s.cpu Al == 0x0A) _ _ _ _ (read_line-unseen f u s) (al-unseen f u s 0)))))
+flush_and_read-unseen f u s = by_function (λ g. g (with_change f s) ≡ answer_with f (g s))
+    (echo_character-unseen f u s) (direct_character-unseen f u s) (read_character-unseen f u s) (read_line-unseen f u s)
+    (al-unseen f u s 0) (function_of (byte_of s.cpu Al))
 
 bad_handle-unseen : (f : Memory → Memory) (u : IsUnseen f) (s : State) → bad_handle (with_change f s)
     ≡ answer_with f (bad_handle s)

@@ -3,6 +3,7 @@ mod Stores
 mod Keeping
 mod Calls
 mod Endings
+pub mod Reading
 pub mod OneAnswer
 mod UnseenParts
 mod ConsoleUnseen

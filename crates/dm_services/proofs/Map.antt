@@ -17,7 +17,6 @@ use Rattle.dm_services.specs.state.State.{State, Answer, interrupt_returned}
 use Rattle.dm_services.specs.Text.{print}
 use Rattle.dm_services.specs.Characters.{character_of, read_character, echo_of, echo_character, write_character, poll_of, poll_character, direct_character, check_input}
 use Rattle.dm_services.specs.Lines.{line_length, line_read, line_into, read_line}
-use Rattle.dm_services.specs.Flush.{flush_and_read}
 use Rattle.dm_services.specs.Handles.{bad_handle, waits, read_handle, write_handle}
 use Rattle.dm_services.specs.Vectors.{set_vector, get_vector}
 use Rattle.dm_services.specs.System.{tell_version, tell_process}
@@ -32,9 +31,10 @@ use Rattle.dm_proc.specs.declared.parent.Ending.{Ending}
 use Rattle.dm_proc.specs.declared.parent.Ending.TheVariants as ending
 use Rattle.dm_proc.specs.Processes.{Processes}
 use Rattle.dm_services.specs.Processes.{executed, overlaid, LoadingAs, concluded, Terminating, StayingResident, tell_code}
-use Rattle.dm_services.specs.Functions.{function_of, no_function, Calls}
+use Rattle.dm_services.specs.Functions.{function_of, flush_and_read, no_function, Calls}
 use Rattle.dm_services.specs.Services.{Serves}
 use Rattle.dm_services.specs.inner.Laws.{ServicesKeepTheMap, ServicesKeepTheTables}
+use Rattle.dm_services.proofs.Reading.{by_function}
 use Rattle.dm_services.proofs.MapParts.{word-kept, bytes-kept, return-kept, allocates-kept, frees-kept, resizes-kept, links-kept, executes-kept, overlays-kept, terminates-kept, keeps-kept}
 
 -- the answer's memory has the map of the state's, and its tables are the state's
@@ -108,12 +108,8 @@ read_line-kept s = line_into-kept s (peek s.memory (linear s.memory.a20 s.cpu.ds
 
 flush_and_read-kept : (s : State) → Kept s (flush_and_read s)
 unfolding flush_and_read
-flush_and_read-kept s =
-    choice-kept s (byte_of s.cpu Al == 0x01) _ _ (echo_character-kept s)
-    (choice-kept s (byte_of s.cpu Al == 0x06) _ _ (direct_character-kept s)
-    (choice-kept s (byte_of s.cpu Al == 0x07) _ _ (read_character-kept s)
-    (choice-kept s (byte_of s.cpu Al == 0x08) _ _ (read_character-kept s)
-    (choice-kept s (byte_of s.cpu Al == 0x0A) _ _ (read_line-kept s) (still s _)))))
+flush_and_read-kept s = by_function (λ g. Kept s (g s)) (echo_character-kept s) (direct_character-kept s)
+    (read_character-kept s) (read_line-kept s) (still s _) (function_of (byte_of s.cpu Al))
 
 bad_handle-kept : (s : State) → Kept s (bad_handle s)
 unfolding bad_handle

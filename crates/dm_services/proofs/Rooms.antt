@@ -18,7 +18,6 @@ use Rattle.dm_services.specs.state.State.{State, Answer}
 use Rattle.dm_services.specs.Text.{written, text_at, print}
 use Rattle.dm_services.specs.Characters.{character_of, read_character, echo_of, echo_character, write_character, poll_of, poll_character, direct_character, check_input}
 use Rattle.dm_services.specs.Lines.{line_length, line_read, line_into, read_line}
-use Rattle.dm_services.specs.Flush.{flush_and_read}
 use Rattle.dm_services.specs.Handles.{bad_handle, waits, read_handle, write_handle}
 use Rattle.dm_services.specs.Vectors.{set_vector, get_vector}
 use Rattle.dm_services.specs.System.{tell_version, tell_process}
@@ -33,9 +32,10 @@ use Rattle.dm_proc.specs.declared.parent.Ending.{Ending}
 use Rattle.dm_proc.specs.declared.parent.Ending.TheVariants as ending
 use Rattle.dm_proc.specs.Processes.{Processes}
 use Rattle.dm_services.specs.Processes.{executed, overlaid, LoadingAs, concluded, Terminating, StayingResident, tell_code}
-use Rattle.dm_services.specs.Functions.{function_of, no_function, Calls}
+use Rattle.dm_services.specs.Functions.{function_of, flush_and_read, no_function, Calls}
 use Rattle.dm_services.specs.Services.{Serves}
 use Rattle.dm_services.specs.inner.Laws.{limit}
+use Rattle.dm_services.proofs.Reading.{by_function}
 
 abbrev pub Keeps : State → Answer → Type 0
 Keeps s x = limit s.console ≤ limit x.state.console
@@ -100,12 +100,8 @@ read_line-keeps s = line_into-keeps s (peek s.memory (linear s.memory.a20 s.cpu.
 
 flush_and_read-keeps : (s : State) → Keeps s (flush_and_read s)
 unfolding flush_and_read
-flush_and_read-keeps s =
-    choice-keeps s (byte_of s.cpu Al == 0x01) _ _ (echo_character-keeps s)
-    (choice-keeps s (byte_of s.cpu Al == 0x06) _ _ (direct_character-keeps s)
-    (choice-keeps s (byte_of s.cpu Al == 0x07) _ _ (read_character-keeps s)
-    (choice-keeps s (byte_of s.cpu Al == 0x08) _ _ (read_character-keeps s)
-    (choice-keeps s (byte_of s.cpu Al == 0x0A) _ _ (read_line-keeps s) (same _)))))
+flush_and_read-keeps s = by_function (λ g. Keeps s (g s)) (echo_character-keeps s) (direct_character-keeps s)
+    (read_character-keeps s) (read_line-keeps s) (same _) (function_of (byte_of s.cpu Al))
 
 bad_handle-keeps : (s : State) → Keeps s (bad_handle s)
 unfolding bad_handle

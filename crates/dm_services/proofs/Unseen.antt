@@ -31,7 +31,7 @@ use Rattle.dm_services.specs.Functions.{function_of, no_function, Calls}
 use Rattle.dm_services.specs.Services.{Serves}
 use Rattle.dm_services.specs.Laws.{with_change}
 use Rattle.dm_services.specs.inner.Laws.{answer_with}
-use Rattle.dm_services.proofs.UnseenParts.{bytes_from-unseen, return-parts, choice-unseen}
+use Rattle.dm_services.proofs.UnseenParts.{bytes_from-unseen, return-parts}
 use Rattle.dm_services.proofs.ConsoleUnseen.{read_character-unseen, echo_character-unseen, write_character-unseen, direct_character-unseen, check_input-unseen, read_line-unseen, flush_and_read-unseen, read_handle-unseen, write_handle-unseen, set_vector-unseen, get_vector-unseen, tell_version-unseen, tell_process-unseen}
 
 text-unseen : (f : Memory → Memory) (u : IsUnseen f) (m : Memory) (s o n : ℕ) →

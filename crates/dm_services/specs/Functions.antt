@@ -7,9 +7,8 @@ use Rattle.dm_services.specs.declared.functions.Function.{Function}
 use Rattle.dm_services.specs.declared.functions.Function.TheVariants.{EchoCharacter, WriteCharacter, DirectCharacter, DirectInput, ReadCharacter, WriteText, ReadLine, CheckInput, FlushAndRead, SetVector, Version, Keep, GetVector, ReadHandle, WriteHandle, Allocate, Free, Resize, LoadProgram, Exit, ExitCode, Process, AllocationStrategy, Terminate, Unknown}
 use Rattle.dm_services.specs.state.State.{State, Answer, go, interrupt_returned, with_carry}
 use Rattle.dm_services.specs.Text.{print}
-use Rattle.dm_services.specs.Characters.{echo_character, write_character, direct_character, read_character, check_input}
+use Rattle.dm_services.specs.Characters.{with_al, echo_character, write_character, direct_character, read_character, check_input}
 use Rattle.dm_services.specs.Lines.{read_line}
-use Rattle.dm_services.specs.Flush.{flush_and_read}
 use Rattle.dm_services.specs.Handles.{read_handle, write_handle}
 use Rattle.dm_services.specs.Vectors.{set_vector, get_vector}
 use Rattle.dm_services.specs.System.{tell_version, tell_process}
@@ -50,6 +49,21 @@ function_of number =
 -- INT 21h with a number that is not served: AX = 1, CF = 1, and the call returns; memory stays
 unfoldable pub no_function : State → Answer
 no_function s = go (with_carry (interrupt_returned (record s { cpu = record s.cpu { ax = 1 } })) true)
+
+-- 0Ch ("Flush Buffer, Read Keyboard"), by the function that AL names: performs it if it reads the console, and stops
+-- the machine where that function does; else sets AL to 0, and the call returns
+abbrev pub read_by : Function → State → Answer
+read_by EchoCharacter s = echo_character s
+read_by DirectCharacter s = direct_character s
+read_by DirectInput s = read_character s
+read_by ReadCharacter s = read_character s
+read_by ReadLine s = read_line s
+read_by _ s = go (interrupt_returned (with_al s 0))
+
+-- 0Ch: performs the function that AL names, if it reads the console; else AL is 0. No input is dropped first: input is
+-- a redirected byte stream, so there is nothing to flush
+unfoldable pub flush_and_read : State → Answer
+flush_and_read s = read_by (function_of (byte_of s.cpu Al)) s
 
 -- x is a result (stop and state) that the function of INT 21h, called from the state s, may have
 abbrev pub Calls : State → Function → Answer → Type 0

@@ -3,7 +3,6 @@ pub mod Wanting
 pub mod Text
 pub mod Characters
 pub mod Lines
-pub mod Flush
 pub mod Handles
 pub mod Vectors
 pub mod System

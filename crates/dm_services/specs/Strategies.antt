@@ -2,7 +2,6 @@
 -- function 58h). The order of refusals, and what there is without upper memory in the arena, are this machine's own.
 use Rattle.std.specs.Prelude.{◌≡◌, ℕ, ◌+◌, ◌==◌, if◌then◌else◌, Bool, true, false, Option, Some, None, Result, Ok, Err}
 use Rattle.dm_space.specs.Memory.{Memory}
-use Rattle.dm_cpu.specs.declared.cpu.Cpu.{Cpu}
 use Rattle.dm_cpu.specs.Cpu.{with_byte}
 use Rattle.dm_ins.specs.declared.operand.ByteRegister.TheVariants.{Al}
 use Rattle.dm_arena.specs.declared.refusal.ArenaRefusal.{ArenaRefusal}

@@ -3,14 +3,14 @@ ghost use Rattle.std.specs.Prelude.{◌≡◌};
 ghost use Rattle.dm_cpu.specs.Cpu.{byte_of};
 ghost use Rattle.dm_ins.specs.declared.operand.ByteRegister.TheVariants.{Ah};
 ghost use Rattle.dm_services.specs.state.State.{HasProgram};
-ghost use Rattle.dm_services.specs.Functions.{function_of, no_function, Calls};
+ghost use Rattle.dm_services.specs.Functions.{function_of, flush_and_read, no_function, Calls};
 ghost use Rattle.dm_services.specs.Wanting.{OrWants};
+ghost use Rattle.dm_services.specs.inner.Wanting.{OrMemory};
 
 use crate::allocation::{allocate, free, resize};
 use crate::characters::{
     check_input, direct_character, echo_character, read_character, write_character,
 };
-use crate::flush::flush_and_read;
 use crate::handles::{read_handle, write_handle};
 use crate::lines::read_line;
 use crate::processes::{load_program, stay_resident, tell_code, terminate};
@@ -107,6 +107,27 @@ pub fn function_of(number: u8) -> Function
         0x51 | 0x62 => Function::Process,
         0x58 => Function::AllocationStrategy,
         _ => Function::Unknown,
+    }
+}
+
+/// 0Ch: performs the function that AL names, if it reads the console, and stops where that function does; for any other
+/// AL, AL becomes 0 and the call returns. No input is dropped: a redirected stream has nothing that was typed ahead.
+#[tactic(auto, unfolding(crate::specs::Functions::flush_and_read))]
+fn flush_and_read(parts: &mut Parts) -> Option<Stop>
+    ensures answer { OrMemory parts.old (flush_and_read parts.old) result parts.new }
+    ensures program { parts.new.processes ≡ parts.old.processes }
+{
+    match function_of(parts.cpu.byte(ByteRegister::Al)) {
+        Function::EchoCharacter => echo_character(parts),
+        Function::DirectCharacter => direct_character(parts),
+        Function::DirectInput | Function::ReadCharacter => read_character(parts),
+        Function::ReadLine => read_line(parts),
+        _ => {
+            parts.cpu.set_byte(ByteRegister::Al, 0);
+            parts.return_from_interrupt();
+            parts.count();
+            None
+        }
     }
 }
 

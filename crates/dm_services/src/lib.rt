@@ -8,7 +8,6 @@ mod allocation;
 mod at_once;
 mod buffers;
 mod characters;
-mod flush;
 mod functions;
 mod handles;
 mod laws;

@@ -10,9 +10,11 @@ use Rattle.dm_services.specs.declared.state.stop.Stop.TheVariants.{InputEnded}
 use Rattle.dm_services.specs.state.State.{Answer, State, go, interrupt_returned, with_carry}
 use Rattle.dm_services.specs.Characters.{check_input, direct_character, echo_character, echo_of, poll_character, poll_of, character_of, read_character, write_character, input_status, with_al, with_input}
 use Rattle.dm_services.specs.Lines.{read_line, line_read, line_length, filled, kept_bytes}
-use Rattle.dm_services.specs.Flush.{flush_and_read}
+use Rattle.dm_services.specs.declared.functions.Function.{Function}
+use Rattle.dm_services.specs.declared.functions.Function.TheVariants as function
+use Rattle.dm_services.specs.Functions.{function_of, read_by, flush_and_read}
 use Rattle.dm_services.specs.Handles.{read_handle, read_unless, waits, read_from_console, bad_handle, with_read, with_ax}
-use Rattle.dm_laws.specs.supplies.Supplies.{supplied, supplied_answer, is_used_up, polls_in_vain}
+use Rattle.dm_laws.specs.supplies.Supplies.{supplied, supplied_answer, is_used_up, polls_in_vain, polls_by}
 use Rattle.dm_laws.proofs.supplies.Lines.{line_stays, line_ends, taken, left}
 
 both_hold : (b c : Bool) → (b && c) ≡ true → (b ≡ true) × (c ≡ true)
@@ -106,27 +108,20 @@ module _ (bytes : List ℕ) (more : Bool) where
   reads_line s goes = into s (peek s.memory (linear s.memory.a20 s.cpu.ds s.cpu.dx))
       (peek s.memory (linear s.memory.a20 s.cpu.ds s.cpu.dx) == 0) goes
 
-  -- ---- 0Ch
+  -- ---- 0Ch, by the function that AL names
 
-  five : (s : State) (a b c d e : Bool) → (b && polls_in_vain s) ≡ false
-      → Goes (if a then echo_character s else if b then direct_character s else if c then read_character s else if d
-      then read_character s else if e then read_line s else go (interrupt_returned (with_al s 0)))
-      → A (if a then echo_character s else if b then direct_character s else if c then read_character s else if d then
-      read_character s else if e then read_line s else go (interrupt_returned (with_al s 0)))
-      ≡ (if a then echo_character (G s) else if b then direct_character (G s) else if c then read_character (G s) else
-      if d then read_character (G s) else if e then read_line (G s) else go (interrupt_returned (with_al (G s) 0)))
-  five s true b c d e asks goes = echoes s goes
-  five s false true c d e asks goes = acts_directly s asks
-  five s false false true d e asks goes = reads s goes
-  five s false false false true e asks goes = reads s goes
-  five s false false false false true asks goes = reads_line s goes
-  five s false false false false false asks goes = refl
+  flush : (s : State) (f : Function) → polls_by f s ≡ false → Goes (read_by f s) → A (read_by f s) ≡ read_by f (G s)
+  flush s function.EchoCharacter asks goes = echoes s goes
+  flush s function.DirectCharacter asks goes = acts_directly s asks
+  flush s function.DirectInput asks goes = reads s goes
+  flush s function.ReadCharacter asks goes = reads s goes
+  flush s function.ReadLine asks goes = reads_line s goes
+  flush s _ asks goes = refl
 
-  pub flushes : (s : State) → (byte_of s.cpu Al == 0x06 && polls_in_vain s) ≡ false → Goes (flush_and_read s) →
+  pub flushes : (s : State) → polls_by (function_of (byte_of s.cpu Al)) s ≡ false → Goes (flush_and_read s) →
       A (flush_and_read s) ≡ flush_and_read (G s)
   unfolding flush_and_read
-  flushes s asks goes = let n = byte_of s.cpu Al in five s (n == 0x01) (n == 0x06) (n == 0x07) (n == 0x08)
-      (n == 0x0A) asks goes
+  flushes s asks goes = flush s (function_of (byte_of s.cpu Al)) asks goes
 
   -- ---- handles
 

@@ -33,6 +33,11 @@ is_used_up (byte ∷ rest) = false
 abbrev pub polls_in_vain : State → Bool
 polls_in_vain s = byte_of s.cpu Dl == 0xFF && is_used_up s.console.input
 
+-- whether 0Ch returns that no input is left, by the function that AL names: only where that function does
+abbrev pub polls_by : Function → State → Bool
+polls_by function.DirectCharacter s = polls_in_vain s
+polls_by _ s = false
+
 -- whether a function of INT 21h returns, in this state, how much input there is: 0Bh that there is none, 06h (and 0Ch
 -- with it) likewise, and 3Fh fewer bytes than CX
 abbrev pub asks_by : State → Function → Bool
@@ -44,7 +49,7 @@ asks_by s function.ReadCharacter = false
 asks_by s function.WriteText = false
 asks_by s function.ReadLine = false
 asks_by s function.CheckInput = is_used_up s.console.input
-asks_by s function.FlushAndRead = byte_of s.cpu Al == 0x06 && polls_in_vain s
+asks_by s function.FlushAndRead = polls_by (function_of (byte_of s.cpu Al)) s
 asks_by s function.SetVector = false
 asks_by s function.Version = false
 asks_by s function.Keep = false

@@ -1,6 +1,6 @@
 -- Steps with one result that may fail for lack of memory, as specs/Wanting.antt has it for several results. Private
 -- contracts and proofs alone name this.
-use Rattle.std.specs.Prelude.{◌≡◌, Option, Some, ◌+◌, ◌<◌}
+use Rattle.std.specs.Prelude.{◌≡◌, Option, Some}
 use Rattle.dm_services.specs.declared.state.stop.Stop.{Stop}
 use Rattle.dm_services.specs.declared.state.stop.Stop.TheVariants.{Memory as NoMemory}
 use Rattle.dm_services.specs.state.State.{State, Answer}

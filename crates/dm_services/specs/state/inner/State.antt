@@ -1,8 +1,5 @@
 -- A part of the invariant of `Parts`. Private contracts and proofs alone name this.
-use Rattle.std.specs.Prelude.{◌-◌, ◌<◌, All, List, ◌≡◌, ◌⊎◌, ◌+◌, ◌^◌}
-use Rattle.dm_xms.specs.Tables as xms
-use Rattle.dm_xms.specs.Consistent as extended_memory
-use Rattle.dm_cpu.specs.Stack as stack
+use Rattle.std.specs.Prelude.{◌<◌, All, List}
 use Rattle.dm_proc.specs.declared.parent.Parent.{Parent}
 
 -- each process that waits for a child has a segment other than 0, that of its program segment prefix
