@@ -58,7 +58,11 @@ class Page:
 
     def lines(self):
         public = self.specs.public()
-        yield HEAD.format(types=believed.type_lines(self.reached.values()), clauses=sum(len(it.clauses) for it in public), functions=len(public))
+        yield HEAD.format(
+            types=believed.type_lines(self.reached.values()),
+            clauses=sum(len(it.clauses) for it in public),
+            functions=len(public),
+        )
         yield from self.counts()
         for crate in self.specs.groups:
             files = {}
@@ -86,4 +90,3 @@ class Page:
         for key, rows in self.rows.items():
             if key not in self.specs.definitions:
                 yield f"{rows[0]}: no definition {key}"
-

@@ -12,8 +12,23 @@ from typing import Any, Iterable
 from . import FindingKind, How
 
 __all__ = [
-    "Act", "Block", "Blocks", "Contents", "Details", "Expanded", "Extended", "ExtendedBlock", "Finding", "Findings", "Instruction", "Origin", "PageHandle", "Place",
-    "UpperBlock", "Window", "finding_of",
+    "Act",
+    "Block",
+    "Blocks",
+    "Contents",
+    "Details",
+    "Expanded",
+    "Extended",
+    "ExtendedBlock",
+    "Finding",
+    "Findings",
+    "Instruction",
+    "Origin",
+    "PageHandle",
+    "Place",
+    "UpperBlock",
+    "Window",
+    "finding_of",
 ]
 
 
@@ -239,16 +254,34 @@ class Findings(list):
 
 # The details that a finding of each kind has.
 _DETAILS = {
-    FindingKind.OVERWRITTEN: "header old_contents new_contents", FindingKind.MAPPED_AWAY: "header", FindingKind.DESTROYED: "header",
-    FindingKind.FREED_TWICE: "block", FindingKind.REFUSED: "code", FindingKind.NOT_ALLOCATED: "code", FindingKind.SHORT: "code wanted available",
-    FindingKind.FREE_READ: "block segment offset", FindingKind.FREE_WRITTEN: "block segment offset", FindingKind.STACK_FREED: "block",
-    FindingKind.WINDOW_LOST: "window segment offset", FindingKind.ROM_WRITTEN: "segment offset", FindingKind.NOTHING_WRITTEN: "segment offset",
-    FindingKind.TAIL_WRITTEN: "header byte", FindingKind.OTHER_FREED: "block owner", FindingKind.NOT_RESIZED: "wanted",
-    FindingKind.HANDLE_KEPT: "handle pages saved", FindingKind.WINDOW_KEPT: "window", FindingKind.BLOCK_KEPT: "handle kib locked",
+    FindingKind.OVERWRITTEN: "header old_contents new_contents",
+    FindingKind.MAPPED_AWAY: "header",
+    FindingKind.DESTROYED: "header",
+    FindingKind.FREED_TWICE: "block",
+    FindingKind.REFUSED: "code",
+    FindingKind.NOT_ALLOCATED: "code",
+    FindingKind.SHORT: "code wanted available",
+    FindingKind.FREE_READ: "block segment offset",
+    FindingKind.FREE_WRITTEN: "block segment offset",
+    FindingKind.STACK_FREED: "block",
+    FindingKind.WINDOW_LOST: "window segment offset",
+    FindingKind.ROM_WRITTEN: "segment offset",
+    FindingKind.NOTHING_WRITTEN: "segment offset",
+    FindingKind.TAIL_WRITTEN: "header byte",
+    FindingKind.OTHER_FREED: "block owner",
+    FindingKind.NOT_RESIZED: "wanted",
+    FindingKind.HANDLE_KEPT: "handle pages saved",
+    FindingKind.WINDOW_KEPT: "window",
+    FindingKind.BLOCK_KEPT: "handle kib locked",
     FindingKind.UPPER_KEPT: "block",
 }
 # What an act has that was performed in each of these ways.
-_ACTS = {How.INSTRUCTION: "next", How.INTERRUPT: "interrupt", How.FUNCTION: "interrupt function", How.FAR_CALL: "function"}
+_ACTS = {
+    How.INSTRUCTION: "next",
+    How.INTERRUPT: "interrupt",
+    How.FUNCTION: "interrupt function",
+    How.FAR_CALL: "function",
+}
 
 
 def _detail(record: Any, name: str) -> Any:
@@ -265,8 +298,15 @@ def _place(record: Any) -> Place:
 def finding_of(record: Any, line: str) -> Finding:
     kind, how = FindingKind(record.kind), How(record.act.how)
     return Finding(
-        kind, bool(record.is_error), record.step, record.process, _place(record.at),
+        kind,
+        bool(record.is_error),
+        record.step,
+        record.process,
+        _place(record.at),
         Act(how, **{name: getattr(record.act, name) for name in _ACTS[how].split()}),
         Details(**{name: _detail(record.details, name) for name in _DETAILS.get(kind, "").split()}),
-        Origin(record.origin_step, _place(record.origin_at)) if record.origin_step else None, record.more, record.last, line,
+        Origin(record.origin_step, _place(record.origin_at)) if record.origin_step else None,
+        record.more,
+        record.last,
+        line,
     )
