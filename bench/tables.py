@@ -14,11 +14,22 @@ ENDS = {
     "WORDS.COM": (26665190, "words 560 eb14"),
 }
 WHAT = {
-    "CHECKSUM.COM": "Fletcher's checksum over 8,192 bytes, 200 times: byte reads by LODSB, ADD and ADC on byte registers, LOOP",
+    "CHECKSUM.COM": (
+        "Fletcher's checksum over 8,192 bytes, 200 times: byte reads by LODSB, ADD and ADC on byte registers, LOOP"
+    ),
     "CRC.COM": "CRC-16 over 4,096 bytes, bit by bit, 300 times: shifts and XOR of words, short jumps, LOOP",
-    "SIEVE.COM": "sieve of Eratosthenes over 8,191 odd numbers, 250 times: byte compares and writes by index, sums of words, short jumps",
-    "SORT.COM": "insertion sort of 512 words, 20 times: word reads and writes by base and index, compares, short jumps, near calls and the stack",
-    "WORDS.COM": "C compiled by `bcc`: counts and sorts the words of 15 texts, with strings, `malloc`, lists, recursion and `printf`",
+    "SIEVE.COM": (
+        "sieve of Eratosthenes over 8,191 odd numbers, 250 times: byte compares and writes by index, sums of words,"
+        " short jumps"
+    ),
+    "SORT.COM": (
+        "insertion sort of 512 words, 20 times: word reads and writes by base and index, compares, short jumps, near"
+        " calls and the stack"
+    ),
+    "WORDS.COM": (
+        "C compiled by `bcc`: counts and sorts the words of 15 texts, with strings, `malloc`, lists, recursion and"
+        " `printf`"
+    ),
 }
 PROGRAMS = (*ENDS,)
 HAND_WRITTEN = PROGRAMS[:4]
@@ -35,7 +46,10 @@ OTHERS = {
     ),
     "changing check": ("the same", "`dm check`", "{:,.0f}"),
     "reaching run": (
-        "a step of a loop of eleven instructions, six of which touch data and stack, in a block of 2 KiB: free memory lies within reach of DS and SS",
+        (
+            "a step of a loop of eleven instructions, six of which touch data and stack, in a block of 2 KiB: free"
+            " memory lies within reach of DS and SS"
+        ),
         "`dm run`",
         "{:,.0f}",
     ),
@@ -59,7 +73,10 @@ OTHERS = {
     ),
     "blocks": (
         "a move in extended memory",
-        "`blocks.asm`: function 0Bh with 256 KiB in each turn: between two blocks, within one block, and from conventional memory",
+        (
+            "`blocks.asm`: function 0Bh with 256 KiB in each turn: between two blocks, within one block, and from"
+            " conventional memory"
+        ),
         "{:.2f} a byte",
     ),
     "served": (
@@ -79,10 +96,15 @@ OTHERS = {
 }
 # What the page says, with the figures that `said` gives.
 SENTENCES = (
-    "four programs in assembly make {dm_low} to {dm_high} million steps a second of processor time in `dm`, {normal_low} to {normal_high} in DOSBox 0.74-3"
-    " with its normal core, and {dynamic_low} to {dynamic_high} with its dynamic one; C compiled by `bcc` makes {dm_c}, {normal_c} and {dynamic_c}.",
-    "A step of the four costs {run_low} to {run_high} host instructions, of the C {run_c}, of single instructions {least} ({least_what}) to {most}"
-    " ({most_what}), and of all five under `dm check` {check_low} to {check_high}.",
+    (
+        "four programs in assembly make {dm_low} to {dm_high} million steps a second of processor time in `dm`,"
+        " {normal_low} to {normal_high} in DOSBox 0.74-3 with its normal core, and {dynamic_low} to {dynamic_high} with"
+        " its dynamic one; C compiled by `bcc` makes {dm_c}, {normal_c} and {dynamic_c}."
+    ),
+    (
+        "A step of the four costs {run_low} to {run_high} host instructions, of the C {run_c}, of single instructions"
+        " {least} ({least_what}) to {most} ({most_what}), and of all five under `dm check` {check_low} to {check_high}."
+    ),
     "The seconds were taken on {day}, on a processor that calls itself {processor}.",
 )
 FIGURE = re.compile(r"\\\{(\w+)\\\}")
@@ -129,7 +151,10 @@ def asked(found, part):
 
 
 def programs_table(found):
-    yield "| Program | What it does | Steps to its end | Output | A step | with sixteen breakpoints | under `dm check`, with ten headers |"
+    yield (
+        "| Program | What it does | Steps to its end | Output | A step | with sixteen breakpoints | under `dm check`,"
+        " with ten headers |"
+    )
     yield "|---|---|---|---|---|---|---|"
     known = found["programs"]
     for name in PROGRAMS:
@@ -146,7 +171,10 @@ def instructions_table(found):
     for mnemonic, those in sorted(kinds.items()):
         (least, _), (most, kind) = min(those), max(those)
         spread = whole(most) if whole(least) == whole(most) else f"{whole(least)} to {whole(most)}"
-        yield f"| `{mnemonic}` | {spread} | {f'`{kind}`' if kind and len(those) > 1 and whole(least) != whole(most) else ''} |"
+        yield (
+            f"| `{mnemonic}` | {spread} |"
+            f" {f'`{kind}`' if kind and len(those) > 1 and whole(least) != whole(most) else ''} |"
+        )
 
 
 KINDS = (

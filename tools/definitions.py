@@ -37,8 +37,10 @@ class Page:
         yield "| Contracts of | Definitions | Lines |"
         yield "|---|---|---|"
         yield f"| all public functions | {self.size(self.reached)} |"
-        yield f"| the machine and its laws (`dm_machine`) | {self.size(self.specs.reached(self.specs.promised('dm_machine')))} |"
-        yield f"| `dm_main` | {self.size(self.specs.reached([key for it in self.specs.public('dm_cli') if it.name == 'dm_main' for key in it.refs]))} |"
+        of_machine = self.specs.reached(self.specs.promised("dm_machine"))
+        yield f"| the machine and its laws (`dm_machine`) | {self.size(of_machine)} |"
+        of_main = [key for it in self.specs.public("dm_cli") if it.name == "dm_main" for key in it.refs]
+        yield f"| `dm_main` | {self.size(self.specs.reached(of_main))} |"
         yield f"| the library | {self.size(self.specs.reached(self.specs.promised('dm_c')))} |"
         yield ""
         yield "Of the definitions that all public functions reach, by crate:"
@@ -54,7 +56,10 @@ class Page:
         through = [f"`{it.name}`" for it in self.users.get(it.key, []) if it.kind != "type"]
         contracts = specs.some_of(named, 6) if named else f"through {specs.some_of(through, 3)}" if through else ""
         rows = [f"`{name}`" if "::" in name else name for name in self.rows.get(it.key, [])]
-        return f"| `{it.name}` | {' '.join(it.meaning()).replace('|', chr(92) + '|')} | {contracts} | {specs.some_of(rows, 8)} |"
+        return (
+            f"| `{it.name}` | {' '.join(it.meaning()).replace('|', chr(92) + '|')} | {contracts} |"
+            f" {specs.some_of(rows, 8)} |"
+        )
 
     def lines(self):
         public = self.specs.public()

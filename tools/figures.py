@@ -34,15 +34,21 @@ SENTENCES = {
     ),
     "docs/proved.md": (
         [
-            "`dm_machine`) they are {machine_definitions} definitions on {machine_lines} lines, for `dm_main` {main_definitions} on {main_lines}, for the library"
-            " {library_definitions} on {library_lines}, for all public functions {all_definitions} on {all_lines};",
+            (
+                "`dm_machine`) they are {machine_definitions} definitions on {machine_lines} lines, for `dm_main`"
+                " {main_definitions} on {main_lines}, for the library {library_definitions} on {library_lines}, for all"
+                " public functions {all_definitions} on {all_lines};"
+            ),
             "README counts {machine_definitions} definitions on {machine_lines} lines",
             "speak of are {all_types} lines more,",
             "have {clauses} clauses",
             "reaches: {main_definitions} of this repository on {main_lines} lines",
             "that they speak of | {types} |",
             "beside the contract of `dm_main` itself, {axioms}",
-            "**The contracts of {axioms} C functions**, {axioms_libc} in the kit's crate `libc` and {axioms_os} in `os`",
+            (
+                "**The contracts of {axioms} C functions**, {axioms_libc} in the kit's crate `libc` and {axioms_os} in"
+                " `os`"
+            ),
             "counts them as `axioms={axioms}`",
             "that of the library as `axioms={of_library}`",
             "takes these {axioms} contracts",

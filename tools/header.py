@@ -111,7 +111,8 @@ MAKERS = {
     "mezguld_free": {},
 }
 EXPORT = re.compile(
-    r'#\[unsafe\(no_mangle\)\]\s*pub extern "C" fn (\w+)\s*\(([^)]*)\)\s*(?:->\s*([\w&\[\] ]+?))?\s*(?=\bensures\b|\brequires\b|\{)'
+    r'#\[unsafe\(no_mangle\)\]\s*pub extern "C" fn (\w+)\s*\(([^)]*)\)\s*(?:->\s*([\w&\[\] ]+?))?\s*'
+    r"(?=\bensures\b|\brequires\b|\{)"
 )
 STRUCT = re.compile(r"#\[repr\(C\)\]\s*(?:#\[[^\]]*\]\s*)*pub struct (\w+) \{([^}]*)\}")
 CONSTANT = re.compile(r"^pub(?:\(crate\))? const (\w+): u32 = (\d+);", re.M)
@@ -248,7 +249,10 @@ def compare_numbers(what, given, wanted):
     """The faults of a table of named numbers of the header against that of the exports."""
     for name in sorted({*given, *wanted}):
         if given.get(name) != wanted.get(name):
-            yield f"the {what} MEZGULD_{name} is {given.get(name, 'missing')} in the header and {wanted.get(name, 'missing')} in the exports"
+            yield (
+                f"the {what} MEZGULD_{name} is {given.get(name, 'missing')} in the header and"
+                f" {wanted.get(name, 'missing')} in the exports"
+            )
 
 
 def export_faults(declared, exports):
@@ -257,7 +261,9 @@ def export_faults(declared, exports):
         yield "an export or a prototype cannot be read"
     for name in sorted({*declared.functions, *exports.functions}):
         if name not in declared.functions or name not in exports.functions:
-            yield f"{name} is {'exported and not declared' if name in exports.functions else 'declared and not exported'}"
+            yield (
+                f"{name} is {'exported and not declared' if name in exports.functions else 'declared and not exported'}"
+            )
             continue
         (result, given), (of_export, wanted) = declared.functions[name], exports.functions[name]
         if result != of_export:
@@ -265,7 +271,10 @@ def export_faults(declared, exports):
         if not fits(given, wanted):
             yield f"{name}({shown(given)}) in the header is ({shown(wanted)}) in the exports"
     if declared.structs.get("mezguld") != exports.structs.get("MachineHandle"):
-        yield f"the struct mezguld has {shown(declared.structs.get('mezguld', []))} in the header and {shown(exports.structs.get('MachineHandle', []))} in the exports"
+        yield (
+            f"the struct mezguld has {shown(declared.structs.get('mezguld', []))} in the header and"
+            f" {shown(exports.structs.get('MachineHandle', []))} in the exports"
+        )
 
 
 def wanted_of(name, exported):
@@ -297,16 +306,25 @@ def header_faults(header, declared, exports):
             yield f"{name}({shown(given)}) is ({shown(wanted)}) for the export"
     for name, kind in TYPES.items():
         if name not in NUMBERS and name != "MachineHandle" and header.structs.get(kind) != exports.structs.get(name):
-            yield f"the struct {kind} has {shown(header.structs.get(kind, []))} in the header and {shown(exports.structs.get(name, []))} in the exports"
+            yield (
+                f"the struct {kind} has {shown(header.structs.get(kind, []))} in the header and"
+                f" {shown(exports.structs.get(name, []))} in the exports"
+            )
     for name in sorted({*header.statuses} ^ {*header.told}):
-        yield f"the status MEZGULD_{name} has {'a text and no number' if name in header.told else 'no text'} in the header"
+        yield (
+            f"the status MEZGULD_{name} has {'a text and no number' if name in header.told else 'no text'} in the"
+            " header"
+        )
     inner = {name: number for name, number in exports.statuses.items() if name not in INNER}
     yield from compare_numbers(
         "status", {name: number for name, number in header.statuses.items() if name not in OUTER}, inner
     )
     for name in OUTER:
         if name not in header.statuses or header.statuses[name] in exports.statuses.values():
-            yield f"the status MEZGULD_{name} is {header.statuses.get(name, 'missing')} in the header, and lib/mezguld.c returns it"
+            yield (
+                f"the status MEZGULD_{name} is {header.statuses.get(name, 'missing')} in the header, and lib/mezguld.c"
+                " returns it"
+            )
     yield from compare_numbers("stop", header.stops, exports.stops)
 
 
@@ -323,7 +341,10 @@ def status_faults(header, tables, numbers):
     wanted = {f"MEZGULD_{name}": number for name, number in header.statuses.items()}
     for name in sorted({*given, *wanted}):
         if given.get(name) != wanted.get(name) and not (name not in given and name[len("MEZGULD_") :] in UNRAISED):
-            yield f"the status {name} is {wanted.get(name, 'missing')} in the header and {given.get(name, 'missing')} in the Python module"
+            yield (
+                f"the status {name} is {wanted.get(name, 'missing')} in the header and {given.get(name, 'missing')} in"
+                " the Python module"
+            )
 
 
 def record_fields(text):

@@ -30,7 +30,8 @@ def require():
     if shutil.which("rt") is None:
         script = os.path.relpath(os.path.realpath(sys.argv[0]), ROOT)
         sys.exit(
-            f'{script}: the command `rt` of the Rattle kit is not in the path: CONTRIBUTING.md, under "Set up", says where it comes from'
+            f'{script}: the command `rt` of the Rattle kit is not in the path: CONTRIBUTING.md, under "Set up", says'
+            " where it comes from"
         )
 
 
@@ -192,7 +193,10 @@ def prove_all(made, crates):
 def in_turn(commands):
     """Runs commands of the kit, each given as a crate and words, one after the other. Returns the highest status."""
     print(
-        f"{os.path.basename(sys.argv[0])}: the kit's module is not the known one, so crates are proved one after the other, by `rt`",
+        (
+            f"{os.path.basename(sys.argv[0])}: the kit's module is not the known one, so crates are proved one after"
+            " the other, by `rt`"
+        ),
         flush=True,
     )
     runs = (

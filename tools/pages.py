@@ -154,8 +154,9 @@ def add_options(page, program):
         escaped(f"{version.text}. (Without a command.)"),
     )
     page.text(
-        "Options may stand before or after the files. A value follows its option, or stands after an equals sign; \\fB\\-\\-\\fR ends the options. "
-        "Numbers are decimal. Help and the version go to standard error, with status 2."
+        "Options may stand before or after the files. A value follows its option, or stands after an equals sign;"
+        " \\fB\\-\\-\\fR ends the options. Numbers are decimal. Help and the version go to standard error, with"
+        " status 2."
     )
 
 
@@ -194,7 +195,8 @@ def dm_page(program):
         page.as_is([command.example])
     page.head("see also")
     page.text(
-        "\\fBmezguld\\fR(3). The manual, with examples and sessions, is docs/manual.md in the folder share/doc/mezguld of the installation."
+        "\\fBmezguld\\fR(3). The manual, with examples and sessions, is docs/manual.md in the folder share/doc/mezguld"
+        " of the installation."
     )
     return str(page)
 
@@ -257,7 +259,8 @@ def library_page():
         3,
         "\n".join(
             lines(
-                f"mezguld, {', '.join(name for name, _, _ in functions)} \\- the library of the MS\\-DOS machine of Mezguld"
+                f"mezguld, {', '.join(name for name, _, _ in functions)} \\- the library of the MS\\-DOS machine of"
+                " Mezguld"
             )
         ),
     )
@@ -354,13 +357,15 @@ def bash_completion(program):
     values, options, files, valued = [], [], [], set()
     for name, command in program.commands.items():
         options.append(
-            f'            {name}) COMPREPLY=($(compgen -W "{" ".join(it.name for it in command.options)}" -- "$current")) ;;'
+            f"            {name}) COMPREPLY=($(compgen -W"
+            f' "{" ".join(it.name for it in command.options)}" -- "$current")) ;;'
         )
         for option in (it for it in command.options if it.value):
             valued.add(option.name)
             ends = endings(name, option.value)
             values.append(
-                f'        "{name} {option.name}") {"return" if ends is None else f"_dm_files {globs(ends)!r}; return"} ;;'
+                f'        "{name} {option.name}")'
+                f' {"return" if ends is None else f"_dm_files {globs(ends)!r}; return"} ;;'
             )
         for at, argument in enumerate(command.arguments):
             which = f"{name}:*" if argument.is_many else f"{name}:{at}"

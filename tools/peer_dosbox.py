@@ -240,7 +240,10 @@ none:   RET
 """
 SLOTS, CALLS, SCRIPTS = 12, 160, 100
 SECONDS = 600
-CONF = "[sdl]\noutput=surface\n[mixer]\nnosound=true\n[dos]\nxms=false\nems=false\numb=false\n[cpu]\ncore=normal\ncycles=max\n[autoexec]\nmount c {folder}\nc:\n{calls}exit\n"
+CONF = (
+    "[sdl]\noutput=surface\n[mixer]\nnosound=true\n[dos]\nxms=false\nems=false\numb=false\n[cpu]\n"
+    "core=normal\ncycles=max\n[autoexec]\nmount c {folder}\nc:\n{calls}exit\n"
+)
 
 
 def instruction_program(text):
@@ -295,7 +298,8 @@ def theirs(folder, programs):
         path = f"{folder}/{name[:-4]}.TXT"
         if not os.path.exists(path):
             sys.exit(
-                f"tools/peers: DOSBox ended with status {ran.returncode} and printed nothing of {name}: {ran.stderr.strip()[-300:]}"
+                f"tools/peers: DOSBox ended with status {ran.returncode} and printed nothing of {name}:"
+                f" {ran.stderr.strip()[-300:]}"
             )
         with open(path, "rb") as file:
             yield name, file.read()
@@ -332,11 +336,13 @@ def compare(seed):
             faults += 1
             number, here, there = lines[0]
             print(
-                f"{what}: {len(lines)} lines differ, the first is {number}: {here.decode()!r} here, {there.decode()!r} in DOSBox"
+                f"{what}: {len(lines)} lines differ, the first is {number}: {here.decode()!r} here,"
+                f" {there.decode()!r} in DOSBox"
             )
     for what, (why, bytes_known) in KNOWN.items():
         print(f"known: {what}: {known.get(what, 0)} of {len(bytes_known)} first bytes, {why}")
     print(
-        f"{len(INSTRUCTIONS)} byte instructions, {len(INSTRUCTIONS) * 2**18:,} cases, and {SCRIPTS} scripts of {CALLS} calls: {faults} differ"
+        f"{len(INSTRUCTIONS)} byte instructions, {len(INSTRUCTIONS) * 2**18:,} cases, and {SCRIPTS} scripts of"
+        f" {CALLS} calls: {faults} differ"
     )
     return 1 if faults else 0

@@ -181,7 +181,10 @@ def usage_faults(usage):
         given = next((line for line in lines if line.startswith(f"dm {name} ")), "")
         found = {*re.findall(r"\[[^\]]*\]|[^\s\[\]]+", given)}
         if not found <= wanted or wanted - found - {"[--steps N]"} or (wanted - found and name != "debug"):
-            yield f"the usage of dm {name} is `{given}`, and `{' '.join(word for word, _ in command.synopsis())}` in its help"
+            yield (
+                f"the usage of dm {name} is `{given}`, and `{' '.join(word for word, _ in command.synopsis())}` in its"
+                " help"
+            )
 
 
 def limit_faults(usage):
@@ -198,7 +201,10 @@ def session_faults(usage):
     told = [", ".join(re.findall("`([^`]*)`", cells[0])) for cells in tables("Commands")[0][1:]]
     wanted = usage.commands["debug"].session if "debug" in usage.commands else []
     if told != wanted:
-        yield f"the commands of the debugger are {'; '.join(told)}, and {'; '.join(wanted) or 'none'} in the help of dm debug"
+        yield (
+            f"the commands of the debugger are {'; '.join(told)}, and {'; '.join(wanted) or 'none'} in the help of dm"
+            " debug"
+        )
 
 
 def status_faults(what, heading, given):

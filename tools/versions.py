@@ -61,7 +61,8 @@ def release():
     found = RELEASE.fullmatch(heading[1]) if heading else None
     if not found:
         raise Unreadable(
-            f"CHANGELOG.md: its top is no release with a date, as `## 1.0.0, 26 November 2026`, but `{heading[0] if heading else ''}`"
+            "CHANGELOG.md: its top is no release with a date, as `## 1.0.0, 26 November 2026`, but"
+            f" `{heading[0] if heading else ''}`"
         )
     try:
         return found[1], datetime.datetime.strptime(found[2], "%d %B %Y").date()

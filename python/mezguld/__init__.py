@@ -533,11 +533,12 @@ _RECORDS = {
     "mezguld_place": "H cs, H ip, H before",
     "mezguld_contents": "H signature, H owner, H size",
     "mezguld_details": (
-        "mezguld_contents old_contents, mezguld_contents new_contents, H header, H byte, H block, H owner, H segment, H offset, H window, H handle, H pages, H saved, "
-        "H kib, H locked, H code, H wanted, H available"
+        "mezguld_contents old_contents, mezguld_contents new_contents, H header, H byte, H block, H owner, H segment,"
+        " H offset, H window, H handle, H pages, H saved, H kib, H locked, H code, H wanted, H available"
     ),
     "mezguld_finding": (
-        "Q step, Q more, Q last, Q origin_step, I kind, I is_error, mezguld_place at, mezguld_place origin_at, mezguld_act act, H process, mezguld_details details"
+        "Q step, Q more, Q last, Q origin_step, I kind, I is_error, mezguld_place at, mezguld_place origin_at,"
+        " mezguld_act act, H process, mezguld_details details"
     ),
 }
 _SIZES: dict[str, Any] = {

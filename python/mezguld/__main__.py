@@ -196,7 +196,8 @@ def draw(options: argparse.Namespace) -> int:
     # (The file is there, whether or not anybody reads this line.)
     with contextlib.suppress(OSError):
         say(
-            f"{shown(output)}: {found['calls']['seen']} calls, errors: {summary['errors']}, notes: {summary['notes']}, {found['run']['end']['text']}\n"
+            f"{shown(output)}: {found['calls']['seen']} calls, errors: {summary['errors']}, notes: {summary['notes']},"
+            f" {found['run']['end']['text']}\n"
         )
     return 0
 
@@ -290,7 +291,10 @@ def arguments() -> Parser:
         "run",
         help=about,
         allow_abbrev=False,
-        description=f"Runs a program as `dm run` does, and {about}: keys arrive as they are pressed, output appears at once, and Ctrl-C ends it.",
+        description=(
+            f"Runs a program as `dm run` does, and {about}: keys arrive as they are pressed, output appears at once,"
+            " and Ctrl-C ends it."
+        ),
         epilog="example: python -m mezguld run game.com",
     )
     command.add_argument("--steps", type=number, metavar="N", help="stop after so many steps (no limit)")

@@ -743,7 +743,9 @@ TEXTS: dict[tuple[int, int], dict[int, Callable[[Values, Values, int], str]]] = 
         + ("" if code else f": block at {after[AX]:04X}"),
         0x49: lambda before, after, code: f"block at {before[ES]:04X}",
         0x4A: lambda before, after, code: f"block at {before[ES]:04X} to {before[BX]:X}h paragraphs",
-        0x58: lambda before, after, code: f"{'link of upper memory' if before[AX] & 2 else 'strategy'} {before[BX]:02X}h",
+        0x58: lambda before, after, code: (
+            f"{'link of upper memory' if before[AX] & 2 else 'strategy'} {before[BX]:02X}h"
+        ),
     },
     EXPANDED: {
         0x43: lambda before, after, code: f"{before[BX]} pages" + ("" if code else f": handle {after[DX]}"),
@@ -845,7 +847,10 @@ class Progress:
         recorder = self.recorder
         if recorder is None:
             return "first run, under the checker"
-        return f"second run: {recorder.now:,} of at most {recorder.options.steps:,} steps, {recorder.seen:,} calls about memory"
+        return (
+            f"second run: {recorder.now:,} of at most {recorder.options.steps:,} steps, {recorder.seen:,} calls about"
+            " memory"
+        )
 
 
 def record(
@@ -880,8 +885,11 @@ def data(recorder: Recorder, programs: list[Program], options: Options, report: 
     """The data of a page, which docs/picture.md describes."""
     every, kept = recorder.every, len(recorder.moments)
     first = f" (of these the first {MOST_PROCESSES:,})" if len(recorder.must) >= MOST_PROCESSES else ""
-    rule = f"Of {recorder.seen:,} calls about memory, one in {every:,} is shown, and besides these each at which the checker found something or a program"
-    rule += f" starts or ends{first}. What lived only between two of the shown ones is left out, and so are processes that made none of them. The list of what was not freed"
+    rule = (
+        f"Of {recorder.seen:,} calls about memory, one in {every:,} is shown, and besides these each at which the"
+        f" checker found something or a program starts or ends{first}. What lived only between two of the shown ones is"
+        " left out, and so are processes that made none of them. The list of what was not freed"
+    )
     rule += " counts all calls."
     if every > 1:
         recorder.drop_processes()

@@ -48,7 +48,10 @@ class Block:
     list: int = 0
 
     def __repr__(self) -> str:
-        return f"Block(segment=0x{self.segment:04X}, last={self.last}, owner=0x{self.owner:04X}, size={self.size}, list={self.list})"
+        return (
+            f"Block(segment=0x{self.segment:04X}, last={self.last}, owner=0x{self.owner:04X}, size={self.size},"
+            f" list={self.list})"
+        )
 
 
 class Blocks(list):
@@ -138,7 +141,10 @@ class Instruction:
     text: str
 
     def __repr__(self) -> str:
-        return f"Instruction(segment=0x{self.segment:04X}, offset=0x{self.offset:04X}, data={self.data!r}, text={self.text!r})"
+        return (
+            f"Instruction(segment=0x{self.segment:04X}, offset=0x{self.offset:04X}, data={self.data!r},"
+            f" text={self.text!r})"
+        )
 
 
 # ---- findings

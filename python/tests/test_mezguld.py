@@ -365,7 +365,10 @@ class Records(unittest.TestCase):
             self.assertIsNotNone(getattr(mezguld, name))
         self.assertRaises(AttributeError, getattr, mezguld, "Nothing")
         self.assertIs(mezguld.Block, mezguld.records.Block)
-        program = "import sys, mezguld; before = 'mezguld.records' in sys.modules; mezguld.Block; print(before, 'mezguld.records' in sys.modules)"
+        program = (
+            "import sys, mezguld; before = 'mezguld.records' in sys.modules; mezguld.Block; print(before,"
+            " 'mezguld.records' in sys.modules)"
+        )
         environment = {**os.environ, "PYTHONPATH": os.path.join(ROOT, "python")}
         said = subprocess.run(
             [sys.executable, "-c", program], env=environment, stdout=subprocess.PIPE, check=True

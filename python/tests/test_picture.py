@@ -32,7 +32,10 @@ RUNS = {
     "children": (["children", "child", "leaf"], Options()),
 }
 # Allocates and frees a block for ever.
-TURNS = "MOV SP,400h\nMOV AH,4Ah\nMOV BX,40h\nINT 21h\nnext: MOV AH,48h\nMOV BX,5\nINT 21h\nMOV ES,AX\nMOV AH,49h\nINT 21h\nJMP next\n"
+TURNS = (
+    "MOV SP,400h\nMOV AH,4Ah\nMOV BX,40h\nINT 21h\nnext: MOV AH,48h\nMOV BX,5\nINT 21h\nMOV ES,AX\n"
+    "MOV AH,49h\nINT 21h\nJMP next\n"
+)
 
 
 def programs_of(names: list[str]) -> list[Program]:
@@ -144,7 +147,8 @@ class Records(unittest.TestCase):
     def test_more_findings_than_are_listed(self) -> None:
         # (Each turn frees what is no block, in 1,500 turns.)
         text = (
-            "MOV SP,400h\nMOV AH,4Ah\nMOV BX,40h\nINT 21h\nMOV CX,1500\nMOV BX,100h\nnext: MOV AH,49h\nMOV ES,BX\nINT 21h\nINC BX\nINC WORD [at]\nLOOP next\n"
+            "MOV SP,400h\nMOV AH,4Ah\nMOV BX,40h\nINT 21h\nMOV CX,1500\nMOV BX,100h\nnext: MOV AH,49h\n"
+            "MOV ES,BX\nINT 21h\nINC BX\nINC WORD [at]\nLOOP next\n"
             "MOV AX,4C00h\nINT 21h\nat: DW 0\n"
         )
         data = picture.record(one(text))
@@ -207,7 +211,8 @@ class Records(unittest.TestCase):
 
     def test_many_processes(self) -> None:
         text = (
-            "MOV SP,400h\nMOV AH,4Ah\nMOV BX,60h\nINT 21h\nMOV WORD [block+4],CS\nMOV CX,200\nnext: PUSH CX\nMOV AX,4B00h\nMOV DX,name\nPUSH CS\nPOP ES\nMOV BX,block\n"
+            "MOV SP,400h\nMOV AH,4Ah\nMOV BX,60h\nINT 21h\nMOV WORD [block+4],CS\nMOV CX,200\nnext: PUSH CX\n"
+            "MOV AX,4B00h\nMOV DX,name\nPUSH CS\nPOP ES\nMOV BX,block\n"
             "INT 21h\nPOP CX\nLOOP next\nMOV AX,4C00h\nINT 21h\nname: DB 'CHILD.COM',0\nblock: DW 0,80h,0,5Ch,0,6Ch,0\n"
         )
         programs = [*one(text), Program(b"CHILD.COM", mezguld.assemble("MOV AX,4C00h\nINT 21h\n"))]
@@ -235,7 +240,8 @@ class Records(unittest.TestCase):
     def test_refused_calls(self) -> None:
         data = picture.record(
             one(
-                "MOV AH,48h\nMOV BX,1234h\nINT 21h\nMOV AH,45h\nMOV DX,9\nINT 67h\nMOV AX,4310h\nINT 2Fh\nMOV [at],BX\nMOV WORD [at+2],ES\n"
+                "MOV AH,48h\nMOV BX,1234h\nINT 21h\nMOV AH,45h\nMOV DX,9\nINT 67h\nMOV AX,4310h\nINT 2Fh\n"
+                "MOV [at],BX\nMOV WORD [at+2],ES\n"
                 "MOV AH,0Ah\nMOV DX,7\nCALL FAR [at]\nMOV AX,4C00h\nINT 21h\nat: DW 0,0\n"
             )
         )
@@ -302,7 +308,10 @@ class Records(unittest.TestCase):
         self.assertEqual((data["kept"][0]["blocks"], data["calls"]["seen"]), (40, 122))
 
     def test_thinned_keeps_findings(self) -> None:
-        text = "MOV CX,60\nnext: MOV AH,49h\nMOV BX,1234h\nMOV ES,BX\nINT 21h\nINC WORD [at]\nLOOP next\nMOV AH,45h\nMOV DX,9\nINT 67h\nMOV AX,4C00h\nINT 21h\nat: DW 0\n"
+        text = (
+            "MOV CX,60\nnext: MOV AH,49h\nMOV BX,1234h\nMOV ES,BX\nINT 21h\nINC WORD [at]\nLOOP next\n"
+            "MOV AH,45h\nMOV DX,9\nINT 67h\nMOV AX,4C00h\nINT 21h\nat: DW 0\n"
+        )
         with mock.patch.object(picture, "MOST_MOMENTS", 8):
             data = picture.record(one(text))
         self.assertEqual(len(data["findings"]), 2)
@@ -330,8 +339,14 @@ class Reports(unittest.TestCase):
 
     def test_again_and_what_is_not_listed(self) -> None:
         lines = [
-            "note: step 6, 0103:0109 INT 21h function 49h (Free Allocated Memory): refused with code 09h, no such block",
-            "again: step 6, 0103:0109 INT 21h function 49h (Free Allocated Memory): refused with code 09h, no such block: 4 more, the last at step 30",
+            (
+                "note: step 6, 0103:0109 INT 21h function 49h (Free Allocated Memory): refused with code 09h, no such"
+                " block"
+            ),
+            (
+                "again: step 6, 0103:0109 INT 21h function 49h (Free Allocated Memory): refused with code 09h, no such"
+                " block: 4 more, the last at step 30"
+            ),
             "not listed: 7 findings",
             "errors: 0, notes: 12",
             "stopped: unlisted at 0103:0110: 0F FF",

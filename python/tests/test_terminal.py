@@ -63,7 +63,10 @@ INT 21h
     "'q'", "113"
 )
 # The same by function 06h, without a poll before.
-DIRECT = "next: MOV DL,0FFh\nMOV AH,6\nINT 21h\nJE next\nMOV DL,AL\nMOV AH,2\nINT 21h\nCMP DL,113\nJNE next\nMOV AH,4Ch\nINT 21h\n"
+DIRECT = (
+    "next: MOV DL,0FFh\nMOV AH,6\nINT 21h\nJE next\nMOV DL,AL\nMOV AH,2\nINT 21h\nCMP DL,113\nJNE next\n"
+    "MOV AH,4Ch\nINT 21h\n"
+)
 # Reads by 3Fh and writes what it got in brackets, up to the end of the file; its exit code is the number of reads.
 READ = """next: MOV BX,0
 MOV CX,64

@@ -19,7 +19,10 @@ PROGRAM = "crates/dm/out/dm"
 PLANTED = (
     (
         "docs/proved.md",
-        "| `libc::chdir` | sets the working directory: for a path of 4,096 bytes that ends in 0 it returns 0 or -1 | - | - |\n",
+        (
+            "| `libc::chdir` | sets the working directory: for a path of 4,096 bytes that ends in 0 it returns 0 or -1"
+            " | - | - |\n"
+        ),
         "",
         "38",
     ),

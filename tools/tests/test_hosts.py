@@ -11,7 +11,10 @@ ROOT = os.path.dirname(os.path.dirname(os.path.dirname(os.path.abspath(__file__)
 LIBRARY = f"{ROOT}/build/libmezguld.a"
 WARNINGS = ["-Wall", "-Wextra", "-Wconversion", "-Wcast-qual", "-pedantic", "-Werror", f"-I{ROOT}/include"]
 SANITIZERS = ["-g", "-fsanitize=address,undefined", "-fno-sanitize-recover=all"]
-TALK = b"Who? [it waits: yes]\n[the line comes: yes]\nHello, Ada\n[the line comes: yes]\nHello, Charles\n[exit codes 3 and 7]\n"
+TALK = (
+    b"Who? [it waits: yes]\n[the line comes: yes]\nHello, Ada\n[the line comes: yes]\nHello, Charles\n"
+    b"[exit codes 3 and 7]\n"
+)
 # The free block goes from 0129h up to segment A000h, where conventional memory ends.
 HOLDINGS = b"""block 0101: owner 0103, 1 paragraphs
 block 0103: owner 0103, 32 paragraphs

@@ -231,7 +231,9 @@ class Documents(unittest.TestCase):
 
     def test_dead_links_are_found(self):
         pages_there = {
-            "a/b.md": b"# One two\n\n[x](c.md#three), [x](c.md#four), [x](../d.md), [x](#one-two), [x](#two) [x](http://e)",
+            "a/b.md": (
+                b"# One two\n\n[x](c.md#three), [x](c.md#four), [x](../d.md), [x](#one-two), [x](#two) [x](http://e)"
+            ),
             "a/c.md": b"## Three",
         }
         self.assertEqual([*dead_links(pages_there)], ["a/b.md: c.md#four", "a/b.md: ../d.md#", "a/b.md: #two"])

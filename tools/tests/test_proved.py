@@ -67,7 +67,10 @@ class Names(unittest.TestCase):
             with self.subTest(calls=calls, says=says):
                 found = faults_in(
                     proved.PAGE,
-                    f"## Main contracts\n\n| What | The contract of | Says |\n|---|---|---|\n| runs | {calls} | {says} |\n\n## By crate\n",
+                    (
+                        f"## Main contracts\n\n| What | The contract of | Says |\n|---|---|---|\n| runs | {calls} |"
+                        f" {says} |\n\n## By crate\n"
+                    ),
                 )
                 self.assertEqual(len(found), 0 if words is None else 1, found)
                 self.assertIn(words or "", " ".join(found))
