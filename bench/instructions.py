@@ -5,8 +5,8 @@ the latter alone is subtracted. In each text `{i}` is the number of the repetiti
 them, the flags are those of the sample's `setup`.
 """
 COPIES, STRING_COPIES, REPEATS = 32, 4, 64
-# BX, BP, SI and DI point to zeros, AX, CX and DX hold small numbers, the stack is FFF0h, and a far address of the sample's
-# own code stands above it.
+# BX, BP, SI and DI point to zeros, AX, CX and DX hold small numbers, the stack is FFF0h, and a far address of the
+# sample's own code stands above it.
 START = (
     "MOV SP,0FFF0h",
     "MOV BX,2000h",

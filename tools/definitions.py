@@ -5,8 +5,9 @@ import specs
 
 HEAD = """# Definitions
 
-The definitions that the contracts of public functions rest on. A contract means what they mean, so they are what a reader compares with the public
-manuals. `tools/book` makes this page from the sources, and beside it `book.html`, which has the definitions themselves, each name linked.
+The definitions that the contracts of public functions rest on. A contract means what they mean, so they are what a
+reader compares with the public manuals. `tools/book` makes this page from the sources, and beside it `book.html`, which
+has the definitions themselves, each name linked.
 
 - **Meaning**: the comment above the definition.
 - **Contracts**: the public functions whose contracts name it; after *through*, definitions that name it.
@@ -17,9 +18,10 @@ The head of each file names its public source; where it names none, the definiti
 
 ## How much there is
 
-Lines are those of definitions, without comments. Not counted: the types of `src/` that definitions speak of (registers, mnemonics, errors: {types:,} lines in all),
-the kit's own definitions of lists, numbers and command lines, what the fields of a type have to do with the value that contracts see of it, and the clauses of
-the contracts themselves ({clauses:,}, of {functions:,} public functions).
+Lines are those of definitions, without comments. Not counted: the types of `src/` that definitions speak of (registers,
+mnemonics, errors: {types:,} lines in all), the kit's own definitions of lists, numbers and command lines, what the
+fields of a type have to do with the value that contracts see of it, and the clauses of the contracts themselves
+({clauses:,}, of {functions:,} public functions).
 """
 
 

@@ -93,7 +93,8 @@ class Uncounted(Exception):
 
 
 def tracked():
-    """The repository's files, by their paths from its root: those that git has, and new ones that it does not ignore."""
+    """The repository's files, by their paths from its root: those that git has, and new ones that it does not
+    ignore."""
     words = ["git", "ls-files", "-z", "--cached", "--others", "--exclude-standard"]
     listed = subprocess.run(words, cwd=specs.ROOT, capture_output=True, text=True, check=False)
     if listed.returncode:

@@ -137,7 +137,8 @@ def upper(name):
 
 
 def c_parameters(name, kind):
-    """The types and names that a parameter of an export has in C; None as a name stands for any name, as for a count."""
+    """The types and names that a parameter of an export has in C; None as a name stands for any name, as for a
+    count."""
     slice_of = re.fullmatch(r"&(mut )?\[(\w+)\]", kind)
     if slice_of:
         return [(f"{'' if slice_of[1] else 'const '}{TYPES.get(slice_of[2], slice_of[2])} *", name), ("size_t", None)]

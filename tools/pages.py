@@ -14,7 +14,8 @@ FILES = {"FILES": ("com", "exe"), "IN": (), "OUT": (), "FILE": ()}
 ENDINGS = {("asm", "IN"): ("asm",), ("disasm", "IN"): ("com",)}
 # A function of the header, and its declaration's parts.
 DECLARED = re.compile(
-    r"/\*(?P<comment>(?:[^*]|\*(?!/))*)\*/\s*(?P<code>(?:[^/#;{]|/(?!\*))*?\b(?P<name>mezguld_\w+)\((?P<parameters>[^)]*)\)[^;{]*;)"
+    r"/\*(?P<comment>(?:[^*]|\*(?!/))*)\*/\s*"
+    r"(?P<code>(?:[^/#;{]|/(?!\*))*?\b(?P<name>mezguld_\w+)\((?P<parameters>[^)]*)\)[^;{]*;)"
 )
 # A function that C compiles from the header: its comment, its head and its name.
 INLINE = re.compile(
@@ -320,7 +321,8 @@ _dm_files() {{
 }}
 
 _dm() {{
-    local current=${{COMP_WORDS[COMP_CWORD]}} previous=${{COMP_WORDS[COMP_CWORD - 1]}} command=${{COMP_WORDS[1]}} count=0 at
+    local current=${{COMP_WORDS[COMP_CWORD]}} previous=${{COMP_WORDS[COMP_CWORD - 1]}}
+    local command=${{COMP_WORDS[1]}} count=0 at
     COMPREPLY=()
     if [ "$COMP_CWORD" -eq 1 ]; then
         COMPREPLY=($(compgen -W "{commands} {top}" -- "$current"))

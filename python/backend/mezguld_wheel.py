@@ -112,5 +112,6 @@ def build_wheel(wheel_directory, config_settings=None, metadata_directory=None):
 
 
 def build_sdist(sdist_directory, config_settings=None):
-    """A source distribution is not made: the library cannot be built without the prover, and so not from sources alone."""
+    """A source distribution is not made: the library cannot be built without the prover, and so not from sources
+    alone."""
     raise NotImplementedError("there is no source distribution: the library is built by the Rattle kit")

@@ -442,7 +442,8 @@ class Run:
             self._machine.supply(self._fed)
 
     def _read_line(self) -> None:
-        """Has a line typed, and supplies it. Function 0Ah shows 0Dh at its end, 3Fh 0Dh and 0Ah, which it reads, too."""
+        """Has a line typed, and supplies it. Function 0Ah shows 0Dh at its end, 3Fh 0Dh and 0Ah, which it reads,
+        too."""
         registers, of_handle = self._machine.registers, self._function() == READ_HANDLE
         end = b"\r\n" if of_handle else b"\r"
         room = MOST_LINE if of_handle else self._machine.read(registers.ds, registers.dx, 1)[0] - 1

@@ -418,8 +418,11 @@ class Reports(unittest.TestCase):
     def test_who_freed_and_who_allocated(self) -> None:
         # Keeps 512 bytes with its stack, allocates a paragraph and frees it, reads it, and ends with a page of expanded
         # memory.
-        text = """MOV SP,200h\nMOV BX,20h\nMOV AH,4Ah\nINT 21h\nMOV BX,1\nMOV AH,48h\nINT 21h\nMOV ES,AX\nMOV AH,49h\nINT 21h\nES MOV AL,[0]
-            MOV BX,1\nMOV AH,43h\nINT 67h\nMOV AX,4C00h\nINT 21h\n"""
+        text = (
+            "MOV SP,200h\nMOV BX,20h\nMOV AH,4Ah\nINT 21h\nMOV BX,1\nMOV AH,48h\nINT 21h\n"
+            "MOV ES,AX\nMOV AH,49h\nINT 21h\nES MOV AL,[0]\n"
+            "MOV BX,1\nMOV AH,43h\nINT 67h\nMOV AX,4C00h\nINT 21h\n"
+        )
         with started(text) as machine:
             machine.check(1000)
             read, kept = machine.findings()

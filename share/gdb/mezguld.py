@@ -255,7 +255,8 @@ def dump(address, count="80"):
 
 
 def disassemble(address="cs:ip", count="8"):
-    """dm list [SEGMENT:OFFSET [COUNT]]: prints instructions, at CS:IP unless an address is given; COUNT in hexadecimal."""
+    """dm list [SEGMENT:OFFSET [COUNT]]: prints instructions, at CS:IP unless an address is given.
+    COUNT is in hexadecimal."""
     print(monitor("U {:04X}:{:04X} {:X}".format(*place(address), word(count))), end="")
 
 

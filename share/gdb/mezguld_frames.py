@@ -193,7 +193,8 @@ def current():
 
 
 def back_to(call, stack_segment):
-    """Goes back to the instruction that made a call, or to what stops before. Returns whether it is that instruction."""
+    """Goes back to the instruction that made a call, or to what stops before. Returns whether it is that
+    instruction."""
     address, slot = linear_of(*call.at), linear_of(stack_segment, call.slot)
     # Nothing but the call writes its return address, as a rule: not the same procedure further down the stack, either.
     point = gdb.Breakpoint(f"*(unsigned short *){slot}", gdb.BP_WATCHPOINT, gdb.WP_ACCESS, internal=True)
