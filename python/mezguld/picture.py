@@ -211,7 +211,7 @@ Values = Tuple[int, ...]
 WHY, STEPS, AX, BX, CX, DX, SP, BP, SI, DI, CS, DS, ES, SS, IP, FLAGS = 0, 2, *range(3, 17)
 
 
-class Watched:
+class QuickMachine:
     """A machine, by calls of the library that take little time: what they are given is made once, and calls that
     follow one another are made together. Only one thread uses it."""
 
@@ -450,8 +450,8 @@ Waiting = Tuple["Service", int, Values, Values, Back, Sequence[Tuple[int, bytes]
 class Recorder:
     """The moments of a run, the processes, and what programs did not free. `now` is how many steps were made."""
 
-    def __init__(self, watched: Watched, findings: list[dict[str, Any]], options: Options, first: bytes) -> None:
-        self.watched, self.options = watched, options
+    def __init__(self, machine: QuickMachine, findings: list[dict[str, Any]], options: Options, first: bytes) -> None:
+        self.machine, self.options = machine, options
         # (Behind them is a step that no run reaches.)
         self.left = [
             NEVER,
@@ -478,7 +478,7 @@ class Recorder:
         self.held: dict[int, tuple[Back, int, int, int]] = {}
         self.kept: dict[tuple[str, str, str], list[int]] = {}
         self.now = 0
-        self._start(shown(first), watched.now()[DS], 0)
+        self._start(shown(first), machine.now()[DS], 0)
         self.look("", "the program is loaded", "", must=True)
 
     # -- names and moments
@@ -488,7 +488,7 @@ class Recorder:
         self._settle()
         if must:
             self.must.add(len(self.moments))
-        changes = [listing.change(self.watched.listed(it)) for listing, it in zip(self.lists, LISTED)]
+        changes = [listing.change(self.machine.listed(it)) for listing, it in zip(self.lists, LISTED)]
         moment = [
             self.now,
             place_in(self.names, name),
@@ -623,8 +623,8 @@ class Recorder:
 
     def run(self) -> None:
         """Runs the program to its end, to another stop or to the limit of steps."""
-        watched, left, most, why = self.watched, self.left, self.options.steps, Stop.STEPS.value
-        registers = watched.now()
+        machine, left, most, why = self.machine, self.left, self.options.steps, Stop.STEPS.value
+        registers = machine.now()
         while why in GOES_ON and self.now < most:
             services = SERVICES.get((registers[CS], registers[IP]))
             if services is not None:
@@ -637,7 +637,7 @@ class Recorder:
                 self.others += 1
             while left[-1] <= self.now:
                 left.pop()
-            registers = watched.run_until(min(left[-1], most) - self.now)
+            registers = machine.run_until(min(left[-1], most) - self.now)
             why, self.now = registers[WHY], registers[STEPS]
             if left[-1] == self.now:
                 self._found()
@@ -656,12 +656,12 @@ class Recorder:
         # (Of a start or an end there is a moment until there are many.)
         is_wanted = is_kept or service.is_process and len(self.must) < MOST_PROCESSES
         back = (
-            self.watched.back(before, service.is_interrupt)
+            self.machine.back(before, service.is_interrupt)
             if is_wanted or service.is_followed or not is_usual
             else NOWHERE
         )
-        program, overlay = self.watched.program(before) if service.is_load else ("", None)
-        after, text = self.watched.performed(service.list if is_usual and is_wanted else None)
+        program, overlay = self.machine.program(before) if service.is_load else ("", None)
+        after, text = self.machine.performed(service.list if is_usual and is_wanted else None)
         # (A service that could not act is no step.)
         self.now += after[WHY] in ACTED
         call = None
@@ -688,9 +688,9 @@ class Recorder:
         if is_found or is_kept and self.stale:
             wanted = [it for it in LISTED if is_found or it in self.stale or it == service.list]
             self.stale.clear()
-            return [(PLACES[it], self.watched.listed(it)) for it in wanted]
+            return [(PLACES[it], self.machine.listed(it)) for it in wanted]
         if is_kept:
-            return ((service.place, self.watched.listed(service.list)),)
+            return ((service.place, self.machine.listed(service.list)),)
         self.stale.add(service.list)
         return ()
 
@@ -870,7 +870,7 @@ def record(
     # (The steps of what the checker finds are looked at too, so they are known before.)
     report = _checked(programs, options)
     with loaded(programs, options) as machine:
-        recorder = progress.recorder = Recorder(Watched(machine), report.findings, options, programs[0].name)
+        recorder = progress.recorder = Recorder(QuickMachine(machine), report.findings, options, programs[0].name)
         recorder.run()
     return data(
         recorder,
