@@ -14,22 +14,11 @@ ENDS = {
     "WORDS.COM": (26665190, "words 560 eb14"),
 }
 WHAT = {
-    "CHECKSUM.COM": (
-        "Fletcher's checksum over 8,192 bytes, 200 times: byte reads by LODSB, ADD and ADC on byte registers, LOOP"
-    ),
+    "CHECKSUM.COM": "Fletcher's checksum over 8,192 bytes, 200 times: byte reads by LODSB, ADD and ADC of bytes, LOOP",
     "CRC.COM": "CRC-16 over 4,096 bytes, bit by bit, 300 times: shifts and XOR of words, short jumps, LOOP",
-    "SIEVE.COM": (
-        "sieve of Eratosthenes over 8,191 odd numbers, 250 times: byte compares and writes by index, sums of words,"
-        " short jumps"
-    ),
-    "SORT.COM": (
-        "insertion sort of 512 words, 20 times: word reads and writes by base and index, compares, short jumps, near"
-        " calls and the stack"
-    ),
-    "WORDS.COM": (
-        "C compiled by `bcc`: counts and sorts the words of 15 texts, with strings, `malloc`, lists, recursion and"
-        " `printf`"
-    ),
+    "SIEVE.COM": "sieve of Eratosthenes over 8,191 odd numbers, 250 times: bytes by index, sums of words, short jumps",
+    "SORT.COM": "insertion sort of 512 words, 20 times: words by base and index, compares, short jumps, calls, the stack",
+    "WORDS.COM": "C by `bcc`: counts and sorts words of 15 texts: strings, `malloc`, lists, recursion, `printf`",
 }
 PROGRAMS = (*ENDS,)
 HAND_WRITTEN = PROGRAMS[:4]
@@ -57,13 +46,13 @@ OTHERS = {
     "writing check": ("function 02h of INT 21h (a byte written), with its INT", "`dm check`", "{:,.0f}"),
     "arranging check": (
         "functions 48h and 49h of INT 21h with ten headers, both with their INTs",
-        "`dm check`, which makes its marks anew: each of some 240,000 bytes that are set counts",
+        "`dm check`, which makes its marks anew, in some 240,000 bytes",
         "{:,.0f}",
     ),
     "memory": ("memory at the start", "a machine of 512 pages and 15,360 KiB against one of none", "{:.1f} a byte"),
     "pages": (
         "a page that is allocated and freed",
-        "`pages.asm`: functions 43h and 45h of INT 67h with one page, while 510 others are allocated, zeros included",
+        "`pages.asm`: 43h and 45h of INT 67h with one page, while 510 others are allocated, zeros included",
         "{:,.0f} for both",
     ),
     "moves": (
@@ -73,10 +62,7 @@ OTHERS = {
     ),
     "blocks": (
         "a move in extended memory",
-        (
-            "`blocks.asm`: function 0Bh with 256 KiB in each turn: between two blocks, within one block, and from"
-            " conventional memory"
-        ),
+        "`blocks.asm`: 0Bh with 256 KiB in each turn: between two blocks, within one, and from conventional memory",
         "{:.2f} a byte",
     ),
     "served": (
