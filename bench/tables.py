@@ -37,7 +37,7 @@ OTHERS = {
     "reaching run": (
         (
             "a step of a loop of eleven instructions, six of which touch data and stack, in a block of 2 KiB: free"
-            " memory lies within reach of DS and SS"
+            " memory is in reach of DS and SS"
         ),
         "`dm run`",
         "{:,.0f}",
