@@ -360,9 +360,8 @@ def record_fields(text):
     ]
 
 
-def python_faults(header):
-    """The faults of the Python module's tables of parameters and of exceptions, of its stops and of the fields of
-    its registers."""
+def python_module():
+    """What the Python module defines: its tables, the bodies of its classes, and the two statuses that it names."""
     tables, classes, numbers = {}, {}, {}
     for node in ast.parse(text_of("python/mezguld/__init__.py")).body:
         if isinstance(node, ast.Assign) and isinstance(node.targets[0], ast.Name) and isinstance(node.value, ast.Dict):
@@ -381,6 +380,13 @@ def python_faults(header):
             )
         elif isinstance(node, ast.ClassDef):
             classes[node.name] = node.body
+    return tables, classes, numbers
+
+
+def python_faults(header):
+    """The faults of the Python module's tables of parameters and of exceptions, of its stops and of the fields of
+    its registers."""
+    tables, classes, numbers = python_module()
     yield from status_faults(header, tables, numbers)
     parameters = ast.literal_eval(tables["_PARAMETERS"])
     for name in sorted({*header.functions, *parameters}):

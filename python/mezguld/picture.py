@@ -881,23 +881,51 @@ def record(
     )
 
 
+# Why blocks are in the list of what was not freed.
+WHYS = {
+    "process ended": "freed by the end of the process",
+    "resident": "kept by a resident program",
+    "run stopped": "allocated when the run stopped",
+}
+
+
+def rule_of(recorder: Recorder) -> str | None:
+    """Which calls a thinned record leaves out; None if it has all."""
+    if recorder.every == 1:
+        return None
+    first = f" (of these the first {MOST_PROCESSES:,})" if len(recorder.must) >= MOST_PROCESSES else ""
+    return (
+        f"Of {recorder.seen:,} calls about memory, one in {recorder.every:,} is shown, and besides these each at which"
+        f" the checker found something or a program starts or ends{first}. What lived only between two of the shown"
+        " ones is left out, and so are processes that made none of them. The list of what was not freed counts all"
+        " calls."
+    )
+
+
+def not_freed(recorder: Recorder) -> list[dict[str, Any]]:
+    """The blocks that programs left or hold, by what allocated them; those of the most paragraphs are the first."""
+    return [
+        {
+            "caller": caller,
+            "process": process,
+            "why": WHYS[word],
+            "is_leak": word == "process ended",
+            "blocks": count,
+            "paragraphs": size,
+            "first": first,
+            "last": last,
+        }
+        for (caller, _, word), (count, size, first, last, process) in sorted(
+            recorder.kept.items(), key=lambda it: -it[1][1]
+        )
+    ]
+
+
 def data(recorder: Recorder, programs: list[Program], options: Options, report: Report, command: str) -> dict[str, Any]:
     """The data of a page, which docs/picture.md describes."""
-    every, kept = recorder.every, len(recorder.moments)
-    first = f" (of these the first {MOST_PROCESSES:,})" if len(recorder.must) >= MOST_PROCESSES else ""
-    rule = (
-        f"Of {recorder.seen:,} calls about memory, one in {every:,} is shown, and besides these each at which the"
-        f" checker found something or a program starts or ends{first}. What lived only between two of the shown ones is"
-        " left out, and so are processes that made none of them. The list of what was not freed"
-    )
-    rule += " counts all calls."
-    if every > 1:
+    rule = rule_of(recorder)
+    if rule:
         recorder.drop_processes()
-    why = {
-        "process ended": "freed by the end of the process",
-        "resident": "kept by a resident program",
-        "run stopped": "allocated when the run stopped",
-    }
     return {
         "format": FORMAT,
         "version": __version__,
@@ -921,26 +949,12 @@ def data(recorder: Recorder, programs: list[Program], options: Options, report: 
         "calls": {
             "seen": recorder.seen,
             "others": recorder.others,
-            "shown": kept,
-            "every": every,
-            "rule": rule if every > 1 else None,
+            "shown": len(recorder.moments),
+            "every": recorder.every,
+            "rule": rule,
         },
         "processes": recorder.processes,
-        "kept": [
-            {
-                "caller": caller,
-                "process": process,
-                "why": why[word],
-                "is_leak": word == "process ended",
-                "blocks": count,
-                "paragraphs": size,
-                "first": first,
-                "last": last,
-            }
-            for (caller, _, word), (count, size, first, last, process) in sorted(
-                recorder.kept.items(), key=lambda it: -it[1][1]
-            )
-        ],
+        "kept": not_freed(recorder),
         "names": list(recorder.names),
         "callers": list(recorder.callers),
         "columns": COLUMNS,

@@ -88,22 +88,10 @@ def word_changed(it):
         )
     if code < 0x50:
         return (code & 7,)
-    fixed = {
-        0x98: (AX,),
-        0x99: (DX,),
-        0x9F: (AX,),
-        0xA0: (AX,),
-        0xA1: (AX,),
-        0xD4: (AX,),
-        0xD5: (AX,),
-        0xD7: (AX,),
-        0xE4: (AX,),
-        0xE5: (AX,),
-        0xEC: (AX,),
-        0xED: (AX,),
-    }
-    if code in fixed:
-        return fixed[code]
+    if code in (0x98, 0x9F, 0xA0, 0xA1, 0xD4, 0xD5, 0xD7, 0xE4, 0xE5, 0xEC, 0xED):
+        return (AX,)
+    if code == 0x99:
+        return (DX,)
     if 0x90 <= code < 0x98:
         return () if code == 0x90 else (AX, code & 7)
     if 0xA4 <= code < 0xB0:
