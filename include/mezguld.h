@@ -148,10 +148,10 @@ typedef struct mezguld_event {
     uint8_t number, ah;
 } mezguld_event;
 
-/* A header of the DOS memory arena (a memory control block): its own segment, one below that of its block, by which
- * findings name the block; the owner of the block, 0 if it is free, 8 for DOS, otherwise the segment of a program's
- * PSP; the size of the block in paragraphs; its signature, 5Ah (`Z`) in the last header of its list, otherwise 4Dh
- * (`M`); and its list: 0 for the first one, 1 for that of upper memory where the first does not lead to it. */
+/* A header of the DOS memory arena (a memory control block): its own segment (findings have that of its block, one
+ * above); the owner of the block, 0 if it is free, 8 for DOS, otherwise the segment of a program's PSP; the size of
+ * the block in paragraphs; its signature, 5Ah (`Z`) in the last header of its list, otherwise 4Dh (`M`); and its
+ * list: 0 for the first one, 1 for that of upper memory where the first does not lead to it. */
 typedef struct mezguld_block {
     uint16_t segment, owner, size;
     uint8_t signature, list;

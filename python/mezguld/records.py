@@ -37,10 +37,10 @@ __all__ = [
 
 @dataclass(frozen=True)
 class Block:
-    """A header of the DOS memory arena: its own segment, one below that of its block, by which findings name the
-    block; whether it is signed `Z` as the last of its list; the owner of the block (0: free; 8: DOS; else the segment
-    of a program's prefix); the size of the block in paragraphs of 16 bytes; and its list: 0 for the first one, 1 for
-    that of upper memory where the first does not lead to it. Its segments print in hexadecimal."""
+    """A header of the DOS memory arena: its own segment (findings have that of its block, one above); whether it is
+    signed `Z` as the last of its list; the owner of the block (0: free; 8: DOS; else the segment of a program's
+    prefix); the size of the block in paragraphs of 16 bytes; and its list: 0 for the first one, 1 for that of upper
+    memory where the first does not lead to it. Its segments print in hexadecimal."""
 
     segment: int
     last: bool
