@@ -17,7 +17,7 @@ WHAT = {
     "CHECKSUM.COM": "Fletcher's checksum over 8,192 bytes, 200 times: byte reads by LODSB, ADD and ADC of bytes, LOOP",
     "CRC.COM": "CRC-16 over 4,096 bytes, bit by bit, 300 times: shifts and XOR of words, short jumps, LOOP",
     "SIEVE.COM": "sieve of Eratosthenes over 8,191 odd numbers, 250 times: bytes by index, sums of words, short jumps",
-    "SORT.COM": "insertion sort of 512 words, 20 times: words by base and index, compares, jumps, near calls, the stack",
+    "SORT.COM": "insertion sort of 512 words, 20 times: words by base and index, compares, jumps, calls, the stack",
     "WORDS.COM": "C by `bcc`: counts and sorts words of 15 texts: strings, `malloc`, lists, recursion, `printf`",
 }
 PROGRAMS = (*ENDS,)
