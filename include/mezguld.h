@@ -148,10 +148,10 @@ typedef struct mezguld_event {
     uint8_t number, ah;
 } mezguld_event;
 
-/* A header of the DOS memory arena (a memory control block): its own segment, one below that of its block; the owner
- * of the block, 0 if it is free, 8 for DOS, otherwise the segment of a program's PSP; the size of the block in
- * paragraphs; its signature, 5Ah (`Z`) in the last header of its list, otherwise 4Dh (`M`); and its list: 0 for the
- * first one, 1 for that of upper memory where the first does not lead to it. */
+/* A header of the DOS memory arena (a memory control block): its own segment (findings have that of its block, one
+ * above); the owner of the block, 0 if it is free, 8 for DOS, otherwise the segment of a program's PSP; the size of
+ * the block in paragraphs; its signature, 5Ah (`Z`) in the last header of its list, otherwise 4Dh (`M`); and its
+ * list: 0 for the first one, 1 for that of upper memory where the first does not lead to it. */
 typedef struct mezguld_block {
     uint16_t segment, owner, size;
     uint8_t signature, list;
@@ -184,7 +184,8 @@ typedef struct mezguld_extended_block {
     uint16_t handle, kib;
 } mezguld_extended_block;
 
-/* An upper memory block of the extended memory driver: its segment, and its size in paragraphs. */
+/* An upper memory block of the extended memory driver: the segment of its first paragraph, as function 10h returned
+ * it, and its size in paragraphs. */
 typedef struct mezguld_upper_block {
     uint16_t segment, size;
 } mezguld_upper_block;
@@ -247,8 +248,9 @@ typedef struct mezguld_contents {
 /* What a finding is about. The members that do not count for its kind are 0. */
 typedef struct mezguld_details {
     mezguld_contents old_contents, new_contents; /* those of a header before the step and after it */
-    uint16_t header, byte;    /* the segment of a header, and which byte of it */
-    uint16_t block, owner;    /* the segment of a block, and of the program that owns it */
+    uint16_t header, byte;    /* the segment of a header, and which byte of it, 5 to 15 */
+    uint16_t block, owner;    /* the segment of a block's first paragraph, as the call that allocated it returned it,
+                               * one above that of its header, if it has one; and the PSP of the process that owns it */
     uint16_t segment, offset; /* the address of the first byte that an instruction touches there */
     uint16_t window;          /* a window of the page frame, 0 to 3 */
     uint16_t handle;          /* a handle */
@@ -487,7 +489,7 @@ MEZGULD_CALL mezguld_status mezguld_findings(const mezguld *machine, mezguld_fin
                                              size_t *wanted);
 
 /* Writes how many errors and how many notes that report has, repetitions included, into `*errors` and `*notes`, and
- * how many findings it neither lists nor counts as repetitions, since it lists 100 of their kind, into
+ * how many findings it neither lists nor counts as repetitions, since it lists 100 errors and 100 notes, into
  * `*not_listed`. NO_MACHINE. */
 MEZGULD_CALL mezguld_status mezguld_finding_counts(const mezguld *machine, uint64_t *errors, uint64_t *notes,
                                                    uint64_t *not_listed);

@@ -52,8 +52,12 @@ class Parser(argparse.ArgumentParser):
             sys.excepthook = uncaught
             atexit.register(flush_at_the_end)
         super().__init__(
-            prog=more.pop("prog", name_of_script()), description=about.strip(), epilog=f"example: {example}",
-            formatter_class=argparse.RawDescriptionHelpFormatter, allow_abbrev=False, **more,
+            prog=more.pop("prog", name_of_script()),
+            description=about.strip(),
+            epilog=f"example: {example}",
+            formatter_class=argparse.RawDescriptionHelpFormatter,
+            allow_abbrev=False,
+            **more,
         )
 
     def add_argument(self, *names, **more):
@@ -87,7 +91,9 @@ def program(path):
     whole = os.path.abspath(path)
     try:
         with contextlib.suppress(subprocess.TimeoutExpired):
-            subprocess.run([whole, "--version"], stdin=subprocess.DEVNULL, capture_output=True, timeout=SECONDS, check=False)
+            subprocess.run(
+                [whole, "--version"], stdin=subprocess.DEVNULL, capture_output=True, timeout=SECONDS, check=False
+            )
     except OSError as error:
         raise argparse.ArgumentTypeError(f"{path} is not a program: {error.strerror}") from error
     return whole

@@ -5,8 +5,9 @@ import specs
 
 HEAD = """# Definitions
 
-The definitions that the contracts of public functions rest on. A contract means what they mean, so they are what a reader compares with the public
-manuals. `tools/book` makes this page from the sources, and beside it `book.html`, which has the definitions themselves, each name linked.
+The definitions that the contracts of public functions rest on. A contract means what they mean, so they are what a
+reader compares with the public manuals. `tools/book` makes this page from the sources, and beside it `book.html`, which
+has the definitions themselves, each name linked.
 
 - **Meaning**: the comment above the definition.
 - **Contracts**: the public functions whose contracts name it; after *through*, definitions that name it.
@@ -17,9 +18,10 @@ The head of each file names its public source; where it names none, the definiti
 
 ## How much there is
 
-Lines are those of definitions, without comments. Not counted: the types of `src/` that definitions speak of (registers, mnemonics, errors: {types:,} lines in all),
-the kit's own definitions of lists, numbers and command lines, what the fields of a type have to do with the value that contracts see of it, and the clauses of
-the contracts themselves ({clauses:,}, of {functions:,} public functions).
+Lines are those of definitions, without comments. Not counted: the types of `src/` that definitions speak of (registers,
+mnemonics, errors: {types:,} lines in all), the kit's own definitions of lists, numbers and command lines, what the
+fields of a type have to do with the value that contracts see of it, and the clauses of the contracts themselves
+({clauses:,}, of {functions:,} public functions).
 """
 
 
@@ -37,8 +39,10 @@ class Page:
         yield "| Contracts of | Definitions | Lines |"
         yield "|---|---|---|"
         yield f"| all public functions | {self.size(self.reached)} |"
-        yield f"| the machine and its laws (`dm_machine`) | {self.size(self.specs.reached(self.specs.promised('dm_machine')))} |"
-        yield f"| `dm_main` | {self.size(self.specs.reached([key for it in self.specs.public('dm_cli') if it.name == 'dm_main' for key in it.refs]))} |"
+        of_machine = self.specs.reached(self.specs.promised("dm_machine"))
+        yield f"| the machine and its laws (`dm_machine`) | {self.size(of_machine)} |"
+        of_main = [key for it in self.specs.public("dm_cli") if it.name == "dm_main" for key in it.refs]
+        yield f"| `dm_main` | {self.size(self.specs.reached(of_main))} |"
         yield f"| the library | {self.size(self.specs.reached(self.specs.promised('dm_c')))} |"
         yield ""
         yield "Of the definitions that all public functions reach, by crate:"
@@ -54,11 +58,18 @@ class Page:
         through = [f"`{it.name}`" for it in self.users.get(it.key, []) if it.kind != "type"]
         contracts = specs.some_of(named, 6) if named else f"through {specs.some_of(through, 3)}" if through else ""
         rows = [f"`{name}`" if "::" in name else name for name in self.rows.get(it.key, [])]
-        return f"| `{it.name}` | {' '.join(it.meaning()).replace('|', chr(92) + '|')} | {contracts} | {specs.some_of(rows, 8)} |"
+        return (
+            f"| `{it.name}` | {' '.join(it.meaning()).replace('|', chr(92) + '|')} | {contracts} |"
+            f" {specs.some_of(rows, 8)} |"
+        )
 
     def lines(self):
         public = self.specs.public()
-        yield HEAD.format(types=believed.type_lines(self.reached.values()), clauses=sum(len(it.clauses) for it in public), functions=len(public))
+        yield HEAD.format(
+            types=believed.type_lines(self.reached.values()),
+            clauses=sum(len(it.clauses) for it in public),
+            functions=len(public),
+        )
         yield from self.counts()
         for crate in self.specs.groups:
             files = {}
@@ -86,4 +97,3 @@ class Page:
         for key, rows in self.rows.items():
             if key not in self.specs.definitions:
                 yield f"{rows[0]}: no definition {key}"
-

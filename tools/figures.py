@@ -13,42 +13,68 @@ import specs
 # The sentences of each page, by the names of the figures in `counted`; a blank stands for any space. The figures of a
 # page's second list are those of the kit's files, and hold for one kit.
 SENTENCES = {
-    "README.md": (["{machine_definitions} definitions on {machine_lines} lines", "{axioms} contracts of C functions"], []),
+    "README.md": (
+        ["{machine_definitions} definitions on {machine_lines} lines", "{axioms} contracts of C functions"],
+        [],
+    ),
     "CONTRIBUTING.md": (
         ["This proves {crates_of_dm} crates", "in all {mutants} mutants, of which the gate tries {must_fail}"],
         [],
     ),
     "docs/architecture.md": (
         [
-            "{crates} crates, {crates_of_tests} of them of tests", "{mnemonics} mnemonics in {templates} templates", "{forms} forms",
-            "{functions_of_dos} numbers are served", "{functions_of_ems} of INT 67h", "{functions_of_xms} of the extended memory driver",
+            "{crates} crates, {crates_of_tests} of them of tests",
+            "{mnemonics} mnemonics in {templates} templates",
+            "{forms} forms",
+            "{functions_of_dos} numbers are served",
+            "{functions_of_ems} of INT 67h",
+            "{functions_of_xms} of the extended memory driver",
         ],
         [],
     ),
     "docs/proved.md": (
         [
-            "`dm_machine`) they are {machine_definitions} definitions on {machine_lines} lines, for `dm_main` {main_definitions} on {main_lines}, for the library"
-            " {library_definitions} on {library_lines}, for all public functions {all_definitions} on {all_lines};",
-            "README counts {machine_definitions} definitions on {machine_lines} lines", "speak of are {all_types} lines more,", "have {clauses} clauses",
+            (
+                "`dm_machine`) they are {machine_definitions} definitions on {machine_lines} lines, for `dm_main`"
+                " {main_definitions} on {main_lines}, for the library {library_definitions} on {library_lines}, for all"
+                " public functions {all_definitions} on {all_lines};"
+            ),
+            "README counts {machine_definitions} definitions on {machine_lines} lines",
+            "speak of are {all_types} lines more,",
+            "have {clauses} clauses",
             "reaches: {main_definitions} of this repository on {main_lines} lines",
-            "that they speak of | {types} |", "beside the contract of `dm_main` itself, {axioms}",
-            "**The contracts of {axioms} C functions**, {axioms_libc} in the kit's crate `libc` and {axioms_os} in `os`", "counts them as `axioms={axioms}`",
-            "that of the library as `axioms={of_library}`", "takes these {axioms} contracts",
-            "{called} of the functions are called by the compiled code of `dm`, {of_library} of them by the library.", "The other {uncalled} are never called.",
+            "that they speak of | {types} |",
+            "beside the contract of `dm_main` itself, {axioms}",
+            (
+                "**The contracts of {axioms} C functions**, {axioms_libc} in the kit's crate `libc` and {axioms_os} in"
+                " `os`"
+            ),
+            "counts them as `axioms={axioms}`",
+            "that of the library as `axioms={of_library}`",
+            "takes these {axioms} contracts",
+            "{called} of the functions are called by the compiled code of `dm`, {of_library} of them by the library.",
+            "The other {uncalled} are never called.",
             "the {exports} exports of `dm_c`",
         ],
         [
             "and {clap_definitions} of `clap` on {clap_lines} | {program_lines} |",
-            "`core` {core}, `std` {std}, `std_alloc` {std_alloc}, `std_collections` {std_collections}", "reach into them | {specifications} |",
+            "`core` {core}, `std` {std}, `std_alloc` {std_alloc}, `std_collections` {std_collections}",
+            "reach into them | {specifications} |",
             "the host and its stack | {sum} |",
         ],
     ),
     "docs/testing.md": (
         [
-            "There are {rows} rows in `rows/` and `examples/`", "tries the {must_fail} edits in the `must-fail` directories", "{mutants} in all, at up to",
-            "`tools/terminal` holds {terminal_conversations} conversations", "plays the {gdb_conversations} conversations of `tools/talks`",
-            "`python/tests` has {python_tests} tests", "each of the {templates} templates of the instruction table", "`tools/tests` plants {planted} differences",
-            "makes the {real_programs} programs of `tools/real`", "makes the pages of {browser_pages} programs",
+            "There are {rows} rows in `rows/` and `examples/`",
+            "tries the {must_fail} edits in the `must-fail` directories",
+            "{mutants} in all, at up to",
+            "`tools/terminal` holds {terminal_conversations} conversations",
+            "plays the {gdb_conversations} conversations of `tools/talks`",
+            "`python/tests` has {python_tests} tests",
+            "each of the {templates} templates of the instruction table",
+            "`tools/tests` plants {planted} differences",
+            "makes the {real_programs} programs of `tools/real`",
+            "makes the pages of {browser_pages} programs",
         ],
         [],
     ),
@@ -67,12 +93,15 @@ class Uncounted(Exception):
 
 
 def tracked():
-    """The repository's files, by their paths from its root: those that git has, and new ones that it does not ignore."""
+    """The repository's files, by their paths from its root: those that git has, and new ones that it does not
+    ignore."""
     words = ["git", "ls-files", "-z", "--cached", "--others", "--exclude-standard"]
     listed = subprocess.run(words, cwd=specs.ROOT, capture_output=True, text=True, check=False)
     if listed.returncode:
         raise Uncounted(f"git does not list the files of the tree: {' '.join(listed.stderr.split())}")
-    return [path for path in dict.fromkeys(listed.stdout.split("\0")) if path and os.path.exists(f"{specs.ROOT}/{path}")]
+    return [
+        path for path in dict.fromkeys(listed.stdout.split("\0")) if path and os.path.exists(f"{specs.ROOT}/{path}")
+    ]
 
 
 def syntax_of(path):
@@ -160,7 +189,11 @@ def of_tree():
         "mnemonics": variants("crates/dm_ins/src/action.rt", "Mnemonic"),
         "forms": variants("crates/dm_forms/src/form.rt", "Form"),
         # (A test compares this number with the table's, and has the prefixes in it.)
-        "templates": captured("crates/dm_text_tests/src/assembly/table.rt", r'^    same\(&rt, "rows", text\.lines\(\)\.count\(\), (\d+)\);$') - PREFIXES,
+        "templates": captured(
+            "crates/dm_text_tests/src/assembly/table.rt",
+            r'^    same\(&rt, "rows", text\.lines\(\)\.count\(\), (\d+)\);$',
+        )
+        - PREFIXES,
         "functions_of_dos": len(served.numbers(served.DOS)),
         "functions_of_ems": len(served.numbers(served.EXPANDED)),
         "functions_of_xms": len(served.numbers(served.EXTENDED)),

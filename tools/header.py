@@ -13,26 +13,69 @@ ROOT = os.path.dirname(os.path.dirname(os.path.abspath(__file__)))
 FOLDERS = ("dm_c/src", "dm_c/src/calls", "dm_views/src/inventory")
 # The C type of a number, and of each type of the exports.
 NUMBERS = {"u8": "uint8_t", "u16": "uint16_t", "u32": "uint32_t", "u64": "uint64_t", "usize": "size_t"}
-TYPES = {**NUMBERS, "MachineHandle": "mezguld", "Stopped": "mezguld_stopped", "Registers": "mezguld_cpu", "Point": "mezguld_point", "Awaited": "mezguld_event",
-         "ArenaBlock": "mezguld_block", "ListEnd": "mezguld_list_end", "PageHandle": "mezguld_page_handle", "Window": "mezguld_window",
-         "ExtendedBlock": "mezguld_extended_block", "UpperBlock": "mezguld_upper_block", "Act": "mezguld_act", "CodePlace": "mezguld_place",
-         "Contents": "mezguld_contents", "Details": "mezguld_details", "FoundRecord": "mezguld_finding"}
+TYPES = {
+    **NUMBERS,
+    "MachineHandle": "mezguld",
+    "Stopped": "mezguld_stopped",
+    "Registers": "mezguld_cpu",
+    "Point": "mezguld_point",
+    "Awaited": "mezguld_event",
+    "ArenaBlock": "mezguld_block",
+    "ListEnd": "mezguld_list_end",
+    "PageHandle": "mezguld_page_handle",
+    "Window": "mezguld_window",
+    "ExtendedBlock": "mezguld_extended_block",
+    "UpperBlock": "mezguld_upper_block",
+    "Act": "mezguld_act",
+    "CodePlace": "mezguld_place",
+    "Contents": "mezguld_contents",
+    "Details": "mezguld_details",
+    "FoundRecord": "mezguld_finding",
+}
 # The meaning of each letter of `_PARAMETERS` in the Python module; `p` is a pointer that is followed by a count.
 LETTERS = {
-    "m": "mezguld *", "h": "mezguld **", "s": "mezguld_stopped *", "r": "mezguld_cpu *", "c": "const mezguld_cpu *", "w": "size_t *", "q": "uint64_t *",
-    "n": "size_t", "I": "uint32_t", "B": "uint32_t", "Q": "uint64_t", "H": "uint16_t", "e": "mezguld_list_end *", "d": "uint32_t *",
+    "m": "mezguld *",
+    "h": "mezguld **",
+    "s": "mezguld_stopped *",
+    "r": "mezguld_cpu *",
+    "c": "const mezguld_cpu *",
+    "w": "size_t *",
+    "q": "uint64_t *",
+    "n": "size_t",
+    "I": "uint32_t",
+    "B": "uint32_t",
+    "Q": "uint64_t",
+    "H": "uint16_t",
+    "e": "mezguld_list_end *",
+    "d": "uint32_t *",
 }
 # What C calls a status and a reason to stop, which are numbers of the exports; an export that returns a number that is
 # no status; and the type that C has for bytes, `void` for data and `char` for texts.
-STATUS_TYPE, STOP_TYPE, KIND_TYPE, NO_STATUS, BYTES = "mezguld_status", "mezguld_stop", "mezguld_kind", ("dm_c_version",), re.compile(r"\b(?:void|char) \*")
+STATUS_TYPE, STOP_TYPE, KIND_TYPE, NO_STATUS, BYTES = (
+    "mezguld_status",
+    "mezguld_stop",
+    "mezguld_kind",
+    ("dm_c_version",),
+    re.compile(r"\b(?:void|char) \*"),
+)
 # The fields that are numbers in the crates and enumerations in C: the enumeration of each, by the struct.
 NAMED = {
-    ("Stopped", "why"): STOP_TYPE, ("Awaited", "kind"): KIND_TYPE, ("FoundRecord", "kind"): "mezguld_finding_kind", ("Act", "how"): "mezguld_how",
+    ("Stopped", "why"): STOP_TYPE,
+    ("Awaited", "kind"): KIND_TYPE,
+    ("FoundRecord", "kind"): "mezguld_finding_kind",
+    ("Act", "how"): "mezguld_how",
 }
 # The exceptions of the Python module whose status has another name in the header, and the statuses that it raises
 # nothing for: its own calls meet neither an event of no kind, NULL, bad variables, a finding that is not listed nor, at
 # last, a buffer that is too small.
-RENAMED, UNRAISED = {"COMMAND_SYNTAX": "SYNTAX", "BREAKPOINTS_FULL": "FULL"}, ("OK", "TOO_SMALL", "BAD_EVENT", "NULL_POINTER", "BAD_VARIABLES", "NO_FINDING")
+RENAMED, UNRAISED = {"COMMAND_SYNTAX": "SYNTAX", "BREAKPOINTS_FULL": "FULL"}, (
+    "OK",
+    "TOO_SMALL",
+    "BAD_EVENT",
+    "NULL_POINTER",
+    "BAD_VARIABLES",
+    "NO_FINDING",
+)
 # The status of the exports that C never sees, since lib/mezguld.c makes each handle; and those that lib/mezguld.c
 # returns by itself.
 INNER, OUTER = ("IN_USE",), ("NULL_POINTER", "BAD_VARIABLES")
@@ -41,13 +84,36 @@ WRITTEN_OUT = ("mezguld", "mezguld_stopped", "mezguld_cpu", "mezguld_point", "me
 # The functions that take a `const mezguld *`; and those of the header whose parameters are not those of the export but
 # for `const`: they make or free a machine.
 READERS = (
-    "steps", "registers", "read", "read_linear", "output", "output_count", "input_left", "answer", "copy", "blocks", "page_handles", "windows", "extended_blocks",
-    "upper_blocks", "high_memory", "read_page", "read_block", "findings", "finding_counts", "finding_line",
+    "steps",
+    "registers",
+    "read",
+    "read_linear",
+    "output",
+    "output_count",
+    "input_left",
+    "answer",
+    "copy",
+    "blocks",
+    "page_handles",
+    "windows",
+    "extended_blocks",
+    "upper_blocks",
+    "high_memory",
+    "read_page",
+    "read_block",
+    "findings",
+    "finding_counts",
+    "finding_line",
 )
 MAKERS = {
-    "mezguld_new": {"machine": "mezguld **"}, "mezguld_copy": {"copy": "mezguld **"}, "mezguld_free": {},
+    "mezguld_new": {"machine": "mezguld **"},
+    "mezguld_copy": {"copy": "mezguld **"},
+    "mezguld_free": {},
 }
-EXPORT = re.compile(r'#\[unsafe\(no_mangle\)\]\s*pub extern "C" fn (\w+)\s*\(([^)]*)\)\s*(?:->\s*([\w&\[\] ]+?))?\s*(?=\bensures\b|\brequires\b|\{)')
+EXPORT = re.compile(
+    r'#\[unsafe\(no_mangle\)\]\s*pub extern "C" fn (\w+)\s*\(([^)]*)\)\s*(?:->\s*([\w&\[\] ]+?))?\s*'
+    r"(?=\bensures\b|\brequires\b|\{)"
+)
 STRUCT = re.compile(r"#\[repr\(C\)\]\s*(?:#\[[^\]]*\]\s*)*pub struct (\w+) \{([^}]*)\}")
 CONSTANT = re.compile(r"^pub(?:\(crate\))? const (\w+): u32 = (\d+);", re.M)
 # (A status that is a named constant is on a line of its own.)
@@ -71,7 +137,8 @@ def upper(name):
 
 
 def c_parameters(name, kind):
-    """The types and names that a parameter of an export has in C; None as a name stands for any name, as for a count."""
+    """The types and names that a parameter of an export has in C; None as a name stands for any name, as for a
+    count."""
     slice_of = re.fullmatch(r"&(mut )?\[(\w+)\]", kind)
     if slice_of:
         return [(f"{'' if slice_of[1] else 'const '}{TYPES.get(slice_of[2], slice_of[2])} *", name), ("size_t", None)]
@@ -99,7 +166,10 @@ class Exports:
         for name, parameters, result in EXPORT.findall(whole):
             pairs = [pair.split(":") for pair in parameters.split(",") if pair.strip()]
             given = [it for word, kind in pairs for it in c_parameters(word.strip(), " ".join(kind.split()))]
-            self.functions[name] = (STATUS_TYPE if result == "u32" and name not in NO_STATUS else TYPES.get(result, result or "void"), given)
+            self.functions[name] = (
+                STATUS_TYPE if result == "u32" and name not in NO_STATUS else TYPES.get(result, result or "void"),
+                given,
+            )
         for name, fields in STRUCT.findall(whole):
             found = [declared_field(name, line) for line in fields.split(",") if line.strip()]
             self.structs[name] = [it for it in found if it]
@@ -131,7 +201,11 @@ class Header:
         text = re.sub(r"/\*.*?\*/", " ", text_of(path), flags=re.S)
         text = re.sub(r"^MEZGULD_(?:CALL|MAKES\(\d\)) ", "", text, flags=re.M)
         # (The one function that C compiles itself: the text of each status.)
-        self.told = {name: text for _, body in INLINE.findall(text) for name, text in re.findall(r'case MEZGULD_(\w+): return ("[^"]+");', body)}
+        self.told = {
+            name: text
+            for _, body in INLINE.findall(text)
+            for name, text in re.findall(r'case MEZGULD_(\w+): return ("[^"]+");', body)
+        }
         text = INLINE.sub("", text)
         self.declarations = len(re.findall(r"\b(?:mezguld|dm_c)_\w+\s*\(", text))
         self.functions = {}
@@ -147,9 +221,18 @@ class Header:
                     kind, first = type_and_name(words[0])
                     found += [(kind, first), *[(kind, word.strip()) for word in words[1:]]]
             self.structs[name] = found
-        enums = {name: {word: int(value) for word, value in ENUMERATOR.findall(it)} for it, name in re.findall(r"typedef enum \w+ \{([^}]*)\} (\w+);", text)}
-        self.statuses, self.stops, self.kinds = enums.get(STATUS_TYPE, {}), enums.get(STOP_TYPE, {}), enums.get(KIND_TYPE, {})
-        self.found_kinds = {name.removeprefix("FOUND_"): value for name, value in enums.get("mezguld_finding_kind", {}).items()}
+        enums = {
+            name: {word: int(value) for word, value in ENUMERATOR.findall(it)}
+            for it, name in re.findall(r"typedef enum \w+ \{([^}]*)\} (\w+);", text)
+        }
+        self.statuses, self.stops, self.kinds = (
+            enums.get(STATUS_TYPE, {}),
+            enums.get(STOP_TYPE, {}),
+            enums.get(KIND_TYPE, {}),
+        )
+        self.found_kinds = {
+            name.removeprefix("FOUND_"): value for name, value in enums.get("mezguld_finding_kind", {}).items()
+        }
         self.hows = enums.get("mezguld_how", {})
 
 
@@ -158,14 +241,19 @@ def shown(parameters):
 
 
 def fits(given, wanted):
-    return len(given) == len(wanted) and all(one[0] == other[0] and other[1] in (one[1], None) for one, other in zip(given, wanted))
+    return len(given) == len(wanted) and all(
+        one[0] == other[0] and other[1] in (one[1], None) for one, other in zip(given, wanted)
+    )
 
 
 def compare_numbers(what, given, wanted):
     """The faults of a table of named numbers of the header against that of the exports."""
     for name in sorted({*given, *wanted}):
         if given.get(name) != wanted.get(name):
-            yield f"the {what} MEZGULD_{name} is {given.get(name, 'missing')} in the header and {wanted.get(name, 'missing')} in the exports"
+            yield (
+                f"the {what} MEZGULD_{name} is {given.get(name, 'missing')} in the header and"
+                f" {wanted.get(name, 'missing')} in the exports"
+            )
 
 
 def export_faults(declared, exports):
@@ -174,7 +262,9 @@ def export_faults(declared, exports):
         yield "an export or a prototype cannot be read"
     for name in sorted({*declared.functions, *exports.functions}):
         if name not in declared.functions or name not in exports.functions:
-            yield f"{name} is {'exported and not declared' if name in exports.functions else 'declared and not exported'}"
+            yield (
+                f"{name} is {'exported and not declared' if name in exports.functions else 'declared and not exported'}"
+            )
             continue
         (result, given), (of_export, wanted) = declared.functions[name], exports.functions[name]
         if result != of_export:
@@ -182,7 +272,10 @@ def export_faults(declared, exports):
         if not fits(given, wanted):
             yield f"{name}({shown(given)}) in the header is ({shown(wanted)}) in the exports"
     if declared.structs.get("mezguld") != exports.structs.get("MachineHandle"):
-        yield f"the struct mezguld has {shown(declared.structs.get('mezguld', []))} in the header and {shown(exports.structs.get('MachineHandle', []))} in the exports"
+        yield (
+            f"the struct mezguld has {shown(declared.structs.get('mezguld', []))} in the header and"
+            f" {shown(exports.structs.get('MachineHandle', []))} in the exports"
+        )
 
 
 def wanted_of(name, exported):
@@ -214,14 +307,25 @@ def header_faults(header, declared, exports):
             yield f"{name}({shown(given)}) is ({shown(wanted)}) for the export"
     for name, kind in TYPES.items():
         if name not in NUMBERS and name != "MachineHandle" and header.structs.get(kind) != exports.structs.get(name):
-            yield f"the struct {kind} has {shown(header.structs.get(kind, []))} in the header and {shown(exports.structs.get(name, []))} in the exports"
+            yield (
+                f"the struct {kind} has {shown(header.structs.get(kind, []))} in the header and"
+                f" {shown(exports.structs.get(name, []))} in the exports"
+            )
     for name in sorted({*header.statuses} ^ {*header.told}):
-        yield f"the status MEZGULD_{name} has {'a text and no number' if name in header.told else 'no text'} in the header"
+        yield (
+            f"the status MEZGULD_{name} has {'a text and no number' if name in header.told else 'no text'} in the"
+            " header"
+        )
     inner = {name: number for name, number in exports.statuses.items() if name not in INNER}
-    yield from compare_numbers("status", {name: number for name, number in header.statuses.items() if name not in OUTER}, inner)
+    yield from compare_numbers(
+        "status", {name: number for name, number in header.statuses.items() if name not in OUTER}, inner
+    )
     for name in OUTER:
         if name not in header.statuses or header.statuses[name] in exports.statuses.values():
-            yield f"the status MEZGULD_{name} is {header.statuses.get(name, 'missing')} in the header, and lib/mezguld.c returns it"
+            yield (
+                f"the status MEZGULD_{name} is {header.statuses.get(name, 'missing')} in the header, and lib/mezguld.c"
+                " returns it"
+            )
     yield from compare_numbers("stop", header.stops, exports.stops)
 
 
@@ -238,45 +342,80 @@ def status_faults(header, tables, numbers):
     wanted = {f"MEZGULD_{name}": number for name, number in header.statuses.items()}
     for name in sorted({*given, *wanted}):
         if given.get(name) != wanted.get(name) and not (name not in given and name[len("MEZGULD_") :] in UNRAISED):
-            yield f"the status {name} is {wanted.get(name, 'missing')} in the header and {given.get(name, 'missing')} in the Python module"
+            yield (
+                f"the status {name} is {wanted.get(name, 'missing')} in the header and {given.get(name, 'missing')} in"
+                " the Python module"
+            )
 
 
 def record_fields(text):
     """The fields of a record of the Python module, as C declares them."""
     found = [re.fullmatch(r"(\d*)(\w+) (\w+)", it).groups() for it in text.split(", ")]
-    return [({"B": "uint8_t", "H": "uint16_t", "I": "uint32_t", "Q": "uint64_t"}.get(kind, kind), f"{word}[{count}]" if count else word) for count, kind, word in found]
+    return [
+        (
+            {"B": "uint8_t", "H": "uint16_t", "I": "uint32_t", "Q": "uint64_t"}.get(kind, kind),
+            f"{word}[{count}]" if count else word,
+        )
+        for count, kind, word in found
+    ]
+
+
+def python_module():
+    """What the Python module defines: its tables, the bodies of its classes, and the two statuses that it names."""
+    tables, classes, numbers = {}, {}, {}
+    for node in ast.parse(text_of("python/mezguld/__init__.py")).body:
+        if isinstance(node, ast.Assign) and isinstance(node.targets[0], ast.Name) and isinstance(node.value, ast.Dict):
+            tables[node.targets[0].id] = node.value
+        elif (
+            isinstance(node, ast.Assign)
+            and isinstance(node.targets[0], ast.Tuple)
+            and isinstance(node.value, ast.Tuple)
+        ):
+            numbers.update(
+                {
+                    name.id: it.value
+                    for name, it in zip(node.targets[0].elts, node.value.elts)
+                    if name.id in ("_OK", "_TOO_SMALL")
+                }
+            )
+        elif isinstance(node, ast.ClassDef):
+            classes[node.name] = node.body
+    return tables, classes, numbers
 
 
 def python_faults(header):
     """The faults of the Python module's tables of parameters and of exceptions, of its stops and of the fields of
     its registers."""
-    tables, classes, numbers = {}, {}, {}
-    for node in ast.parse(text_of("python/mezguld/__init__.py")).body:
-        if isinstance(node, ast.Assign) and isinstance(node.targets[0], ast.Name) and isinstance(node.value, ast.Dict):
-            tables[node.targets[0].id] = node.value
-        elif isinstance(node, ast.Assign) and isinstance(node.targets[0], ast.Tuple) and isinstance(node.value, ast.Tuple):
-            numbers.update({name.id: it.value for name, it in zip(node.targets[0].elts, node.value.elts) if name.id in ("_OK", "_TOO_SMALL")})
-        elif isinstance(node, ast.ClassDef):
-            classes[node.name] = node.body
+    tables, classes, numbers = python_module()
     yield from status_faults(header, tables, numbers)
     parameters = ast.literal_eval(tables["_PARAMETERS"])
     for name in sorted({*header.functions, *parameters}):
         letters = parameters.get(name, "").replace(" ", "")
-        given = ["mezguld *" if kind == "const mezguld *" else kind for kind, _ in header.functions.get(name, ("", []))[1]]
+        given = [
+            "mezguld *" if kind == "const mezguld *" else kind for kind, _ in header.functions.get(name, ("", []))[1]
+        ]
         wanted = [LETTERS.get(letter) for letter in letters]
         counted = [kind.endswith("*") and given[at + 1 : at + 2] == ["size_t"] for at, kind in enumerate(given)]
         pairs = zip(letters, given, wanted, counted)
-        if len(letters) != len(given) or not all(is_counted if letter == "p" else kind == want for letter, kind, want, is_counted in pairs):
+        if len(letters) != len(given) or not all(
+            is_counted if letter == "p" else kind == want for letter, kind, want, is_counted in pairs
+        ):
             yield f"{name} has the parameters `{parameters.get(name, '')}` in the Python module"
     stops = {it.targets[0].id: it.value.value for it in classes["Stop"] if isinstance(it, ast.Assign)}
     if stops != header.stops:
         yield "the stops of the Python module are not those of the header"
-    for name, wanted, what in (("Kind", header.kinds, "events"), ("FindingKind", header.found_kinds, "findings"), ("How", header.hows, "acts")):
+    for name, wanted, what in (
+        ("Kind", header.kinds, "events"),
+        ("FindingKind", header.found_kinds, "findings"),
+        ("How", header.hows, "acts"),
+    ):
         if {it.targets[0].id: it.value.value for it in classes[name] if isinstance(it, ast.Assign)} != wanted:
             yield f"the kinds of {what} of the Python module are not those of the header"
     records = {name: record_fields(text) for name, text in ast.literal_eval(tables["_RECORDS"]).items()}
     for name in {*TYPES.values()} - {*NUMBERS.values(), *WRITTEN_OUT}:
-        if records.get(name) != [("uint32_t" if kind in NAMED.values() else kind, word) for kind, word in header.structs.get(name, [])]:
+        if records.get(name) != [
+            ("uint32_t" if kind in NAMED.values() else kind, word) for kind, word in header.structs.get(name, [])
+        ]:
             yield f"the record {name} of the Python module is not that of the header"
     registers = [it.target.id for it in classes["Registers"] if isinstance(it, ast.AnnAssign)]
     if registers != [name for _, name in header.structs.get("mezguld_cpu", [])]:
@@ -294,5 +433,15 @@ def faults():
 def words():
     """The words of the header and of the Python module, the header's names also without their prefix; and those of C
     and Python in documents."""
-    names = re.findall(r"[A-Za-z_]\w*", text_of("include/mezguld.h") + text_of("lib/exports.h") + text_of("python/mezguld/__init__.py"))
-    return {*names, *[re.sub(r"^MEZGULD_", "", name) for name in names], "MEZGULD_", "malloc", "realloc", "free", "unittest"}
+    names = re.findall(
+        r"[A-Za-z_]\w*", text_of("include/mezguld.h") + text_of("lib/exports.h") + text_of("python/mezguld/__init__.py")
+    )
+    return {
+        *names,
+        *[re.sub(r"^MEZGULD_", "", name) for name in names],
+        "MEZGULD_",
+        "malloc",
+        "realloc",
+        "free",
+        "unittest",
+    }

@@ -15,14 +15,24 @@ ROOT = os.path.dirname(os.path.dirname(os.path.realpath(__file__)))
 # The processors for the crate with the longest chain above it, even while others wait.
 AHEAD = 2
 # The names used from the kit's module of crates, and from its class of crates.
-OF_KIT, OF_CRATE = ("RATTLE", "cores", "files_of", "guarded", "help_of", "lock", "text_of"), ("below", "build_static", "call", "is_built", "run", "words")
+OF_KIT, OF_CRATE = ("RATTLE", "cores", "files_of", "guarded", "help_of", "lock", "text_of"), (
+    "below",
+    "build_static",
+    "call",
+    "is_built",
+    "run",
+    "words",
+)
 
 
 def require():
     """Ends the script where the kit is not in the path."""
     if shutil.which("rt") is None:
         script = os.path.relpath(os.path.realpath(sys.argv[0]), ROOT)
-        sys.exit(f"{script}: the command `rt` of the Rattle kit is not in the path: CONTRIBUTING.md, under \"Set up\", says where it comes from")
+        sys.exit(
+            f'{script}: the command `rt` of the Rattle kit is not in the path: CONTRIBUTING.md, under "Set up", says'
+            " where it comes from"
+        )
 
 
 def name():
@@ -139,7 +149,10 @@ def prove(made, crate, jobs):
     shutil.rmtree(folder, ignore_errors=True)
     os.makedirs(folder)
     # As in the gate, a library is built from its statements, without its proofs: all crates above it load it.
-    words = [*crate.words(["--jobs", str(jobs)], keeps=False), *["--statements"] * ("--statements" in made.help_of("build"))]
+    words = [
+        *crate.words(["--jobs", str(jobs)], keeps=False),
+        *["--statements"] * ("--statements" in made.help_of("build")),
+    ]
     with tempfile.TemporaryFile("w+", errors="replace") as crate.out:
         failed = crate.call(made.RATTLE, "build", *words, "-o", crate.rlib)
         crate.out.seek(0)
@@ -179,6 +192,15 @@ def prove_all(made, crates):
 
 def in_turn(commands):
     """Runs commands of the kit, each given as a crate and words, one after the other. Returns the highest status."""
-    print(f"{os.path.basename(sys.argv[0])}: the kit's module is not the known one, so crates are proved one after the other, by `rt`", flush=True)
-    runs = (subprocess.run(["rt", *words.split()], cwd=f"{ROOT}/crates/{name}", stdin=subprocess.DEVNULL, check=False) for name, words in commands)
+    print(
+        (
+            f"{os.path.basename(sys.argv[0])}: the kit's module is not the known one, so crates are proved one after"
+            " the other, by `rt`"
+        ),
+        flush=True,
+    )
+    runs = (
+        subprocess.run(["rt", *words.split()], cwd=f"{ROOT}/crates/{name}", stdin=subprocess.DEVNULL, check=False)
+        for name, words in commands
+    )
     return max(ran.returncode for ran in runs)

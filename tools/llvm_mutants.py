@@ -10,7 +10,18 @@ import re
 
 PREDICATES = {"eq": "ne", "ult": "ule", "ugt": "uge", "slt": "sle", "sgt": "sge"}
 PREDICATES.update({other: one for one, other in PREDICATES.items()})
-OPERATIONS = {"add": "sub", "sub": "add", "and": "or", "or": "and", "shl": "lshr", "lshr": "shl", "udiv": "urem", "urem": "udiv", "xor": "or", "mul": "add"}
+OPERATIONS = {
+    "add": "sub",
+    "sub": "add",
+    "and": "or",
+    "or": "and",
+    "shl": "lshr",
+    "lshr": "shl",
+    "udiv": "urem",
+    "urem": "udiv",
+    "xor": "or",
+    "mul": "add",
+}
 # What only the unproved build has.
 CHECKS = re.compile(r'  call void @("rattle-llvm-checks::|llvm\.trap\(\)|llvm\.memset\.p0\.i64\(.*i8 -86,)')
 NAME, NUMBER = re.compile(r"%[\w.]+"), r"-?\d+"
@@ -62,11 +73,15 @@ def unused(lines):
     while live:
         line = lines[live.pop()]
         for name in NAME.findall(line):
-            for place in ([values[name]] if name in values else []) + (stores.get(name, []) if LOAD.match(line) else []):
+            for place in ([values[name]] if name in values else []) + (
+                stores.get(name, []) if LOAD.match(line) else []
+            ):
                 if place not in seen:
                     seen.add(place)
                     live.append(place)
-    return left | {place for place in (*values.values(), *(it for found in stores.values() for it in found)) if place not in seen}
+    return left | {
+        place for place in (*values.values(), *(it for found in stores.values() for it in found)) if place not in seen
+    }
 
 
 def flags(lines):
@@ -102,7 +117,9 @@ def sites(lines):
             found.append((place, "branch", None))
         if re.match(rf"  ret i(\d+) {NUMBER}$", line):
             found.append((place, "number", None))
-        if re.match(r'  (%\S+ = )?call .*@"dm_', line) and re.search(rf"\bi(8|16|32)( noundef| zeroext| signext)* {NUMBER}[,)]", line):
+        if re.match(r'  (%\S+ = )?call .*@"dm_', line) and re.search(
+            rf"\bi(8|16|32)( noundef| zeroext| signext)* {NUMBER}[,)]", line
+        ):
             found.append((place, "argument", None))
         if line.startswith("  switch "):
             cases = next(count for count, it in enumerate(lines[place + 1 :]) if it.startswith("  ]"))

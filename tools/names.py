@@ -24,11 +24,24 @@ class Thing:
     has its own name, the words of its crate."""
 
     def __init__(self, crate, module, kind, key, refs, owner="", passed=()):
-        self.crate, self.module, self.kind, self.key, self.refs, self.owner, self.passed = crate, module, kind, key, refs, owner, passed
+        self.crate, self.module, self.kind, self.key, self.refs, self.owner, self.passed = (
+            crate,
+            module,
+            kind,
+            key,
+            refs,
+            owner,
+            passed,
+        )
 
     def passes_on(self, other):
         """Whether a function or method calls another one of its name."""
-        return (other.owner or other.crate) in self.passed or not other.owner and other.crate == self.crate and bool(self.passed)
+        return (
+            (other.owner or other.crate) in self.passed
+            or not other.owner
+            and other.crate == self.crate
+            and bool(self.passed)
+        )
 
     @property
     def place(self):
@@ -41,15 +54,21 @@ def things(known):
     for it in known.definitions.values():
         is_type = it.kind == "type"
         if it.key in reached or is_type and it.name in specs.exports(os.path.dirname(it.path)):
-            found.setdefault(it.name, []).append(Thing(it.crate, it.module, "type" if is_type else "definition", it.key, ()))
+            found.setdefault(it.name, []).append(
+                Thing(it.crate, it.module, "type" if is_type else "definition", it.key, ())
+            )
     for it in known.contracts:
         if it.is_public and it.crate != "dm":
             module = it.path.split("/src/")[1][: -len(".rt")].replace("/", ".")
             owner, _, name = it.name.rpartition("::")
             if not owner:
-                found.setdefault(name, []).append(Thing(it.crate, module, "function", None, it.refs, "", passed(it, name)))
+                found.setdefault(name, []).append(
+                    Thing(it.crate, module, "function", None, it.refs, "", passed(it, name))
+                )
             elif name not in OF_RUST:
-                found.setdefault(name, []).append(Thing(it.crate, module, "method", None, it.refs, it.trait or owner, passed(it, name)))
+                found.setdefault(name, []).append(
+                    Thing(it.crate, module, "method", None, it.refs, it.trait or owner, passed(it, name))
+                )
     return found
 
 
@@ -68,7 +87,9 @@ def passed(it, name):
 def words_of(crate):
     """The words of a crate's sources."""
     paths = glob.glob(f"{specs.ROOT}/crates/{crate}/src/**/*.rt", recursive=True)
-    return frozenset(word for path in paths for word in re.findall(r"\w+", specs.text_of(os.path.relpath(path, specs.ROOT))))
+    return frozenset(
+        word for path in paths for word in re.findall(r"\w+", specs.text_of(os.path.relpath(path, specs.ROOT)))
+    )
 
 
 def is_one(known, first, second):
@@ -80,12 +101,19 @@ def is_one(known, first, second):
     if first.passes_on(second) or second.passes_on(first):
         return True
     if first.crate != second.crate:
-        return first.crate in OF_DRIVERS and second.crate in OF_DRIVERS or first.key in second.refs or second.key in first.refs
+        return (
+            first.crate in OF_DRIVERS
+            and second.crate in OF_DRIVERS
+            or first.key in second.refs
+            or second.key in first.refs
+        )
     if first.crate in OF_DRIVERS or first.key in second.refs or second.key in first.refs:
         return True
     if {first.kind, second.kind} == {"type", "definition"}:
         return first.key in known.values or second.key in known.values
-    return first.crate == "dm_views" and first.module.replace("inventory.", "") == second.module.replace("inventory.", "")
+    return first.crate == "dm_views" and first.module.replace("inventory.", "") == second.module.replace(
+        "inventory.", ""
+    )
 
 
 def several(known):
@@ -95,7 +123,9 @@ def several(known):
         groups = []
         for it in all_of_it:
             same = [group for group in groups if any(is_one(known, it, other) for other in group)]
-            groups = [group for group in groups if group not in same] + [[*(other for group in same for other in group), it]]
+            groups = [group for group in groups if group not in same] + [
+                [*(other for group in same for other in group), it]
+            ]
         if len({group[0].place for group in groups}) > 1:
             found[name] = [group[0].place for group in groups]
     return found

@@ -11,7 +11,16 @@ CONDITIONS = ("JO", "JNO", "JB", "JAE", "JZ", "JNZ", "JBE", "JA", "JS", "JNS", "
 SHIFTS = {0: "ROL", 1: "ROR", 2: "RCL", 3: "RCR", 4: "SHL", 5: "SHR", 7: "SAR"}
 UNARY = {0: "TEST", 2: "NOT", 3: "NEG", 4: "MUL", 5: "IMUL", 6: "DIV", 7: "IDIV"}
 STRINGS = {
-    0xA4: "MOVSB", 0xA5: "MOVSW", 0xA6: "CMPSB", 0xA7: "CMPSW", 0xAA: "STOSB", 0xAB: "STOSW", 0xAC: "LODSB", 0xAD: "LODSW", 0xAE: "SCASB", 0xAF: "SCASW",
+    0xA4: "MOVSB",
+    0xA5: "MOVSW",
+    0xA6: "CMPSB",
+    0xA7: "CMPSW",
+    0xAA: "STOSB",
+    0xAB: "STOSW",
+    0xAC: "LODSB",
+    0xAD: "LODSW",
+    0xAE: "SCASB",
+    0xAF: "SCASW",
 }
 # The prefixes that say where memory operands are, in the order of the segment registers' numbers.
 SEGMENTS = (0x26, 0x2E, 0x36, 0x3E)
@@ -54,10 +63,38 @@ def _made() -> list[Entry]:
         entry(8 * number + 6, "PUSH")
         if number != 1:
             entry(8 * number + 7, "POP")
-    for first, mnemonic in ((0x27, "DAA"), (0x2F, "DAS"), (0x37, "AAA"), (0x3F, "AAS"), (0x98, "CBW"), (0x99, "CWD"), (0x9B, "WAIT"), (0x9C, "PUSHF"),
-                            (0x9D, "POPF"), (0x9E, "SAHF"), (0x9F, "LAHF"), (0xC3, "RET"), (0xCB, "RETF"), (0xCC, "INT3"), (0xCE, "INTO"), (0xCF, "IRET"),
-                            (0xD7, "XLAT"), (0xF4, "HLT"), (0xF5, "CMC"), (0xF8, "CLC"), (0xF9, "STC"), (0xFA, "CLI"), (0xFB, "STI"), (0xFC, "CLD"),
-                            (0xFD, "STD"), (0xEC, "IN"), (0xED, "IN"), (0xEE, "OUT"), (0xEF, "OUT"), *STRINGS.items()):
+    for first, mnemonic in (
+        (0x27, "DAA"),
+        (0x2F, "DAS"),
+        (0x37, "AAA"),
+        (0x3F, "AAS"),
+        (0x98, "CBW"),
+        (0x99, "CWD"),
+        (0x9B, "WAIT"),
+        (0x9C, "PUSHF"),
+        (0x9D, "POPF"),
+        (0x9E, "SAHF"),
+        (0x9F, "LAHF"),
+        (0xC3, "RET"),
+        (0xCB, "RETF"),
+        (0xCC, "INT3"),
+        (0xCE, "INTO"),
+        (0xCF, "IRET"),
+        (0xD7, "XLAT"),
+        (0xF4, "HLT"),
+        (0xF5, "CMC"),
+        (0xF8, "CLC"),
+        (0xF9, "STC"),
+        (0xFA, "CLI"),
+        (0xFB, "STI"),
+        (0xFC, "CLD"),
+        (0xFD, "STD"),
+        (0xEC, "IN"),
+        (0xED, "IN"),
+        (0xEE, "OUT"),
+        (0xEF, "OUT"),
+        *STRINGS.items(),
+    ):
         entry(first, mnemonic)
     for number in range(8):
         entry(0x40 + number, "INC")
@@ -70,7 +107,16 @@ def _made() -> list[Entry]:
         entry(0xD8 + number, "ESC", is_modrm=True)
     for number, mnemonic in enumerate(CONDITIONS):
         entry(0x70 + number, mnemonic, after=1)
-    for first, mnemonic in ((0x84, "TEST"), (0x85, "TEST"), (0x86, "XCHG"), (0x87, "XCHG"), (0x88, "MOV"), (0x89, "MOV"), (0x8A, "MOV"), (0x8B, "MOV")):
+    for first, mnemonic in (
+        (0x84, "TEST"),
+        (0x85, "TEST"),
+        (0x86, "XCHG"),
+        (0x87, "XCHG"),
+        (0x88, "MOV"),
+        (0x89, "MOV"),
+        (0x8A, "MOV"),
+        (0x8B, "MOV"),
+    ):
         entry(first, mnemonic, is_modrm=True)
     for first, mnemonic in ((0x8D, "LEA"), (0xC4, "LES"), (0xC5, "LDS")):
         entry(first, mnemonic, is_modrm=True, is_memory=True)
@@ -80,10 +126,30 @@ def _made() -> list[Entry]:
             entry(0x8E, "MOV", reg=reg, is_modrm=True)
     for first, mnemonic, size in ((0x8F, "POP", 0), (0xC6, "MOV", 1), (0xC7, "MOV", 2)):
         entry(first, mnemonic, reg=0, is_modrm=True, after=size)
-    for first, mnemonic, size in ((0x9A, "CALLF", 4), (0xEA, "JMPF", 4), (0xE8, "CALL", 2), (0xE9, "JMP", 2), (0xEB, "JMP", 1), (0xC2, "RET", 2),
-                                  (0xCA, "RETF", 2), (0xCD, "INT", 1), (0xE0, "LOOPNE", 1), (0xE1, "LOOPE", 1), (0xE2, "LOOP", 1), (0xE3, "JCXZ", 1),
-                                  (0xE4, "IN", 1), (0xE5, "IN", 1), (0xE6, "OUT", 1), (0xE7, "OUT", 1), (0xA8, "TEST", 1), (0xA9, "TEST", 2),
-                                  (0xA0, "MOV", 2), (0xA1, "MOV", 2), (0xA2, "MOV", 2), (0xA3, "MOV", 2)):
+    for first, mnemonic, size in (
+        (0x9A, "CALLF", 4),
+        (0xEA, "JMPF", 4),
+        (0xE8, "CALL", 2),
+        (0xE9, "JMP", 2),
+        (0xEB, "JMP", 1),
+        (0xC2, "RET", 2),
+        (0xCA, "RETF", 2),
+        (0xCD, "INT", 1),
+        (0xE0, "LOOPNE", 1),
+        (0xE1, "LOOPE", 1),
+        (0xE2, "LOOP", 1),
+        (0xE3, "JCXZ", 1),
+        (0xE4, "IN", 1),
+        (0xE5, "IN", 1),
+        (0xE6, "OUT", 1),
+        (0xE7, "OUT", 1),
+        (0xA8, "TEST", 1),
+        (0xA9, "TEST", 2),
+        (0xA0, "MOV", 2),
+        (0xA1, "MOV", 2),
+        (0xA2, "MOV", 2),
+        (0xA3, "MOV", 2),
+    ):
         entry(first, mnemonic, after=size)
     for first in range(0xD0, 0xD4):
         for reg, mnemonic in SHIFTS.items():
@@ -96,7 +162,13 @@ def _made() -> list[Entry]:
     for first in (0xFE, 0xFF):
         entry(first, "INC", reg=0, is_modrm=True)
         entry(first, "DEC", reg=1, is_modrm=True)
-    for reg, mnemonic, is_memory in ((2, "CALL", False), (3, "CALLF", True), (4, "JMP", False), (5, "JMPF", True), (6, "PUSH", False)):
+    for reg, mnemonic, is_memory in (
+        (2, "CALL", False),
+        (3, "CALLF", True),
+        (4, "JMP", False),
+        (5, "JMPF", True),
+        (6, "PUSH", False),
+    ):
         entry(0xFF, mnemonic, reg=reg, is_modrm=True, is_memory=is_memory)
     return sorted(entries, key=lambda it: (it.first, it.reg or 0))
 

@@ -13,13 +13,20 @@ HEADER = "include/mezguld.h"
 FILES = {"FILES": ("com", "exe"), "IN": (), "OUT": (), "FILE": ()}
 ENDINGS = {("asm", "IN"): ("asm",), ("disasm", "IN"): ("com",)}
 # A function of the header, and its declaration's parts.
-DECLARED = re.compile(r"/\*(?P<comment>(?:[^*]|\*(?!/))*)\*/\s*(?P<code>(?:[^/#;{]|/(?!\*))*?\b(?P<name>mezguld_\w+)\((?P<parameters>[^)]*)\)[^;{]*;)")
+DECLARED = re.compile(
+    r"/\*(?P<comment>(?:[^*]|\*(?!/))*)\*/\s*"
+    r"(?P<code>(?:[^/#;{]|/(?!\*))*?\b(?P<name>mezguld_\w+)\((?P<parameters>[^)]*)\)[^;{]*;)"
+)
 # A function that C compiles from the header: its comment, its head and its name.
-INLINE = re.compile(r"/\*(?P<comment>(?:[^*]|\*(?!/))*)\*/\s*static inline (?P<code>[^;{]*?\b(?P<name>mezguld_\w+)\([^)]*\))\n\{")
+INLINE = re.compile(
+    r"/\*(?P<comment>(?:[^*]|\*(?!/))*)\*/\s*static inline (?P<code>[^;{]*?\b(?P<name>mezguld_\w+)\([^)]*\))\n\{"
+)
 # What stands before a function for compilers alone.
 ATTRIBUTE = re.compile(r"MEZGULD_(?:CALL|MAKES\(\d\)) ")
 # A part of the header between empty lines: a comment, if there is one, and a declaration of a type or a constant.
-PIECE = re.compile(r"(?:/\*(?P<comment>(?:[^*]|\*(?!/))*)\*/\s*)?(?P<code>(?:typedef|enum|struct|#define MEZGULD_(?!H\b)).*)", re.S)
+PIECE = re.compile(
+    r"(?:/\*(?P<comment>(?:[^*]|\*(?!/))*)\*/\s*)?(?P<code>(?:typedef|enum|struct|#define MEZGULD_(?!H\b)).*)", re.S
+)
 
 
 # ---- roff
@@ -27,7 +34,14 @@ PIECE = re.compile(r"(?:/\*(?P<comment>(?:[^*]|\*(?!/))*)\*/\s*)?(?P<code>(?:typ
 
 def escaped(text):
     """A text as roff takes it, with hyphens and quotes that can be copied."""
-    text = text.replace("\\", "\\e").replace("-", "\\-").replace("'", "\\(aq").replace("`", "\\(ga").replace("^", "\\(ha").replace("~", "\\(ti")
+    text = (
+        text.replace("\\", "\\e")
+        .replace("-", "\\-")
+        .replace("'", "\\(aq")
+        .replace("`", "\\(ga")
+        .replace("^", "\\(ha")
+        .replace("~", "\\(ti")
+    )
     return f"\\&{text}" if text.startswith(".") else text
 
 
@@ -36,14 +50,20 @@ def marked(cell):
     which only point elsewhere."""
     cell = re.sub(r" \(\[[^\]]*\]\([^)]*\)\)", "", cell)
     cell = re.sub(r"\[([^\]]*)\]\([^)]*\)", r"\1", cell)
-    return "".join(f"\\fB{escaped(part.strip())}\\fR" if at % 2 else escaped(part) for at, part in enumerate(cell.split("`")))
+    return "".join(
+        f"\\fB{escaped(part.strip())}\\fR" if at % 2 else escaped(part) for at, part in enumerate(cell.split("`"))
+    )
 
 
 def lines(text):
     """Roff text, a sentence to a line where that fits, cut into short lines at spaces. (roff reads a line that
     begins with a dot as a request.)"""
     sentences = re.split(r"(?<=[a-z\d)R][.:?]) (?=[A-Z(\\])", " ".join(text.split()))
-    cut = [line for sentence in sentences for line in textwrap.wrap(sentence, COLUMNS, break_long_words=False, break_on_hyphens=False)]
+    cut = [
+        line
+        for sentence in sentences
+        for line in textwrap.wrap(sentence, COLUMNS, break_long_words=False, break_on_hyphens=False)
+    ]
     return [f"\\&{line}" if line.startswith((".", "'")) else line for line in cut]
 
 
@@ -83,7 +103,10 @@ class Page:
     def list(self, items):
         """A table of the manual as a list: the first cell of each line, then the others."""
         for first, *others in items:
-            self.item(f"\\fB{escaped(usage.plain(first))}\\fR", ". ".join(upper_first(marked(cell)).rstrip(".") for cell in others if cell != "-") + ".")
+            self.item(
+                f"\\fB{escaped(usage.plain(first))}\\fR",
+                ". ".join(upper_first(marked(cell)).rstrip(".") for cell in others if cell != "-") + ".",
+            )
 
     def __str__(self):
         return "\n".join(self.body) + "\n"
@@ -114,7 +137,9 @@ def text_of(option, those):
 def default_of(option, those):
     """A sentence about an option's default, with those of commands that have another one; nothing if there is none."""
     others = "".join(f", in {name} {it.default}" for name, it in those.items() if it.default != option.default)
-    return {None: "", "": " The default is the empty text."}.get(option.default, f" The default is {option.default}{others}.")
+    return {None: "", "": " The default is the empty text."}.get(
+        option.default, f" The default is {option.default}{others}."
+    )
 
 
 def add_options(page, program):
@@ -125,10 +150,14 @@ def add_options(page, program):
         told = f"{text_of(option, those)}{default_of(option, those)}{names}"
         page.item(keys + (f" \\fI{option.value}\\fR" if option.value else ""), escaped(told))
     version = next(it for it in program.top.options if it.name == "--version")
-    page.item(f"\\fB{escaped(version.short)}\\fR, \\fB{escaped(version.name)}\\fR", escaped(f"{version.text}. (Without a command.)"))
+    page.item(
+        f"\\fB{escaped(version.short)}\\fR, \\fB{escaped(version.name)}\\fR",
+        escaped(f"{version.text}. (Without a command.)"),
+    )
     page.text(
-        "Options may stand before or after the files. A value follows its option, or stands after an equals sign; \\fB\\-\\-\\fR ends the options. "
-        "Numbers are decimal. Help and the version go to standard error, with status 2."
+        "Options may stand before or after the files. A value follows its option, or stands after an equals sign;"
+        " \\fB\\-\\-\\fR ends the options. Numbers are decimal. Help and the version go to standard error, with"
+        " status 2."
     )
 
 
@@ -141,7 +170,12 @@ def dm_page(program):
         page.body += [".br"] * (at > 0) + lines(synopsis(command))
     page.head("description")
     for name, command in program.commands.items():
-        page.item(f"\\fBdm {name}\\fR", " ".join(escaped(f"{text}.") for text in [command.about, *(f"{it.name}: {it.text}" for it in command.arguments)]))
+        page.item(
+            f"\\fBdm {name}\\fR",
+            " ".join(
+                escaped(f"{text}.") for text in [command.about, *(f"{it.name}: {it.text}" for it in command.arguments)]
+            ),
+        )
     add_options(page, program)
     page.head("exit status")
     page.list([[cells[0], f"{cells[1]}: {cells[2]}"] for cells in usage.tables("Exit status")[0][1:]])
@@ -149,7 +183,9 @@ def dm_page(program):
     page.under("Why a run stopped: the line of standard error that begins with \\(dqstopped: \\(dq")
     page.list(usage.tables("Why a run stops")[0][1:])
     page.under("Faults: the line of standard error that begins with \\(dqdm: \\(dq")
-    page.list([[f"`{'`, `'.join(re.findall('`([^`]*)`', cells[0]))}`", cells[1]] for cells in usage.tables("Faults")[0][1:]])
+    page.list(
+        [[f"`{'`, `'.join(re.findall('`([^`]*)`', cells[0]))}`", cells[1]] for cells in usage.tables("Faults")[0][1:]]
+    )
     page.head("limits")
     page.list(usage.tables("Commands and options")[1][1:])
     page.head("commands of dm debug")
@@ -159,7 +195,10 @@ def dm_page(program):
         page.text(escaped(f"{command.about}:"))
         page.as_is([command.example])
     page.head("see also")
-    page.text("\\fBmezguld\\fR(3). The manual, with examples and sessions, is docs/manual.md in the folder share/doc/mezguld of the installation.")
+    page.text(
+        "\\fBmezguld\\fR(3). The manual, with examples and sessions, is docs/manual.md in the folder share/doc/mezguld"
+        " of the installation."
+    )
     return str(page)
 
 
@@ -216,7 +255,16 @@ def library_page():
     """The text of mezguld(3)."""
     text = usage.text_of(HEADER)
     functions = [*declarations(text), *inline_functions(text)]
-    page = Page("mezguld", 3, "\n".join(lines(f"mezguld, {', '.join(name for name, _, _ in functions)} \\- the library of the MS\\-DOS machine of Mezguld")))
+    page = Page(
+        "mezguld",
+        3,
+        "\n".join(
+            lines(
+                f"mezguld, {', '.join(name for name, _, _ in functions)} \\- the library of the MS\\-DOS machine of"
+                " Mezguld"
+            )
+        ),
+    )
     page.head("synopsis")
     page.as_is(["#include <mezguld.h>", "", "cc program.c $(pkg-config --cflags --libs mezguld)"])
     page.head("description")
@@ -273,7 +321,8 @@ _dm_files() {{
 }}
 
 _dm() {{
-    local current=${{COMP_WORDS[COMP_CWORD]}} previous=${{COMP_WORDS[COMP_CWORD - 1]}} command=${{COMP_WORDS[1]}} count=0 at
+    local current=${{COMP_WORDS[COMP_CWORD]}} previous=${{COMP_WORDS[COMP_CWORD - 1]}}
+    local command=${{COMP_WORDS[1]}} count=0 at
     COMPREPLY=()
     if [ "$COMP_CWORD" -eq 1 ]; then
         COMPREPLY=($(compgen -W "{commands} {top}" -- "$current"))
@@ -309,18 +358,29 @@ def bash_completion(program):
     """The text of the completion for bash."""
     values, options, files, valued = [], [], [], set()
     for name, command in program.commands.items():
-        options.append(f'            {name}) COMPREPLY=($(compgen -W "{" ".join(it.name for it in command.options)}" -- "$current")) ;;')
+        options.append(
+            f"            {name}) COMPREPLY=($(compgen -W"
+            f' "{" ".join(it.name for it in command.options)}" -- "$current")) ;;'
+        )
         for option in (it for it in command.options if it.value):
             valued.add(option.name)
             ends = endings(name, option.value)
-            values.append(f'        "{name} {option.name}") {"return" if ends is None else f"_dm_files {globs(ends)!r}; return"} ;;')
+            values.append(
+                f'        "{name} {option.name}")'
+                f' {"return" if ends is None else f"_dm_files {globs(ends)!r}; return"} ;;'
+            )
         for at, argument in enumerate(command.arguments):
             which = f"{name}:*" if argument.is_many else f"{name}:{at}"
             files.append(f"        {which}) _dm_files {globs(endings(name, argument.name) or ())!r} ;;")
     files.append('        help:0) COMPREPLY=($(compgen -W "' + " ".join(program.commands) + '" -- "$current")) ;;')
     return BASH.format(
-        version=versions.version(), commands=" ".join(program.top.commands), top=" ".join(it.name for it in program.top.options), values="\n".join(values),
-        options="\n".join(options), files="\n".join(files), valued=" | *:".join(sorted(valued)),
+        version=versions.version(),
+        commands=" ".join(program.top.commands),
+        top=" ".join(it.name for it in program.top.options),
+        values="\n".join(values),
+        options="\n".join(options),
+        files="\n".join(files),
+        valued=" | *:".join(sorted(valued)),
     )
 
 
@@ -338,26 +398,44 @@ def zsh_files(ends):
 def zsh_argument(name, argument):
     """An argument's word for _arguments."""
     files = endings(name, argument.name)
-    return f"'{'*' if argument.is_many else ''}:{quoted(argument.text)}:{zsh_files(files) if files is not None else ''}'"
+    return (
+        f"'{'*' if argument.is_many else ''}:{quoted(argument.text)}:{zsh_files(files) if files is not None else ''}'"
+    )
 
 
 def zsh_option(name, option):
     """An option's word for _arguments."""
     ends = endings(name, option.value)
     value = f":{option.value}:{zsh_files(ends) if ends is not None else ' '}" if option.value else ""
-    keys = f"'({option.short} {option.name})'{{{option.short},{option.name}}}'" if option.short else f"'{option.name}{'=' if option.value else ''}"
+    keys = (
+        f"'({option.short} {option.name})'{{{option.short},{option.name}}}'"
+        if option.short
+        else f"'{option.name}{'=' if option.value else ''}"
+    )
     return f"{keys}[{quoted(option.text)}]{value}'"
 
 
 def zsh_completion(program):
     """The text of the completion for zsh."""
-    text = [f"#compdef dm\n# Completion of dm for zsh, made from its help (Mezguld {versions.version()}).\n", "local -a subcommands", "subcommands=("]
+    text = [
+        f"#compdef dm\n# Completion of dm for zsh, made from its help (Mezguld {versions.version()}).\n",
+        "local -a subcommands",
+        "subcommands=(",
+    ]
     text += [f"    '{name}:{quoted(about)}'" for name, about in program.top.commands.items()]
     text += [")", "if ((CURRENT == 2)); then", "    if [[ $words[2] == -* ]]; then"]
     text += [f"        _arguments {' '.join(zsh_option('', it) for it in program.top.options)}"]
     text += ["    else", "        _describe command subcommands", "    fi", "    return", "fi"]
     text += ["local subcommand=$words[2]", "shift words", "((CURRENT--))", "case $subcommand in"]
     for name, command in program.commands.items():
-        words = [*(zsh_option(name, it) for it in command.options), *(zsh_argument(name, it) for it in command.arguments)]
-        text += [f"    {name})", "        _arguments \\", " \\\n".join(f"            {word}" for word in words), "        ;;"]
+        words = [
+            *(zsh_option(name, it) for it in command.options),
+            *(zsh_argument(name, it) for it in command.arguments),
+        ]
+        text += [
+            f"    {name})",
+            "        _arguments \\",
+            " \\\n".join(f"            {word}" for word in words),
+            "        ;;",
+        ]
     return "\n".join([*text, "    help) _describe command subcommands ;;", "esac"]) + "\n"

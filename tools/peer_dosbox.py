@@ -26,18 +26,34 @@ NOTHING = ""
 INSTRUCTIONS = {
     **{f"{name} AL,BL": (ALL, NOTHING) for name in ("ADD", "ADC", "SUB", "SBB", "CMP")},
     **{f"{name} AL,BL": (ALL & ~ADJUST, NOTHING) for name in ("AND", "OR", "XOR", "TEST")},
-    "INC AL": (ALL, NOTHING), "DEC AL": (ALL, NOTHING), "NEG AL": (ALL, NOTHING), "NOT AL": (ALL, NOTHING),
-    "MUL BL": (CARRY | OVERFLOW, NOTHING), "IMUL BL": (CARRY | OVERFLOW, NOTHING), "DIV BL": (0, DIVIDE[0] + "MOV AH,0\n"), "IDIV BL": (0, DIVIDE[1]),
+    "INC AL": (ALL, NOTHING),
+    "DEC AL": (ALL, NOTHING),
+    "NEG AL": (ALL, NOTHING),
+    "NOT AL": (ALL, NOTHING),
+    "MUL BL": (CARRY | OVERFLOW, NOTHING),
+    "IMUL BL": (CARRY | OVERFLOW, NOTHING),
+    "DIV BL": (0, DIVIDE[0] + "MOV AH,0\n"),
+    "IDIV BL": (0, DIVIDE[1]),
     **{f"{name} AL,1": (CARRY | OVERFLOW, NOTHING) for name in ("ROL", "ROR", "RCL", "RCR")},
     **{f"{name} AL,1": (ALL & ~ADJUST, NOTHING) for name in ("SHL", "SHR", "SAR")},
     **{f"{name} AL,CL": (CARRY, NOTHING) for name in ("ROL", "ROR", "RCL", "RCR")},
     **{f"{name} AL,CL": (CARRY | SHOWN, "AND CL,7\n") for name in ("SHL", "SHR", "SAR")},
-    "AAA": (CARRY | ADJUST, NOTHING), "AAS": (CARRY | ADJUST, NOTHING), "DAA": (ALL & ~OVERFLOW, NOTHING), "DAS": (ALL & ~OVERFLOW, NOTHING),
-    "AAM": (SHOWN, NOTHING), "AAD": (SHOWN, NOTHING), "CBW": (ALL, NOTHING), "LAHF": (0, "AND AL,0\n"), "SAHF": (ALL & ~OVERFLOW, NOTHING), "XCHG AL,AH": (ALL, NOTHING),
+    "AAA": (CARRY | ADJUST, NOTHING),
+    "AAS": (CARRY | ADJUST, NOTHING),
+    "DAA": (ALL & ~OVERFLOW, NOTHING),
+    "DAS": (ALL & ~OVERFLOW, NOTHING),
+    "AAM": (SHOWN, NOTHING),
+    "AAD": (SHOWN, NOTHING),
+    "CBW": (ALL, NOTHING),
+    "LAHF": (0, "AND AL,0\n"),
+    "SAHF": (ALL & ~OVERFLOW, NOTHING),
+    "XCHG AL,AH": (ALL, NOTHING),
 }
 # What differs, and the first bytes with which it does: docs/DECISIONS.md has each.
 KNOWN = {
-    "AAA": ("no carry from AL into AH", range(0xFA, 0x100)), "AAS": ("no borrow of AL from AH", range(6)), "DAS": ("no carry for a borrow of AL", range(6)),
+    "AAA": ("no carry from AL into AH", range(0xFA, 0x100)),
+    "AAS": ("no borrow of AL from AH", range(6)),
+    "DAS": ("no carry for a borrow of AL", range(6)),
 }
 EACH = """
         MOV BP,0
@@ -224,7 +240,10 @@ none:   RET
 """
 SLOTS, CALLS, SCRIPTS = 12, 160, 100
 SECONDS = 600
-CONF = "[sdl]\noutput=surface\n[mixer]\nnosound=true\n[dos]\nxms=false\nems=false\numb=false\n[cpu]\ncore=normal\ncycles=max\n[autoexec]\nmount c {folder}\nc:\n{calls}exit\n"
+CONF = (
+    "[sdl]\noutput=surface\n[mixer]\nnosound=true\n[dos]\nxms=false\nems=false\numb=false\n[cpu]\n"
+    "core=normal\ncycles=max\n[autoexec]\nmount c {folder}\nc:\n{calls}exit\n"
+)
 
 
 def instruction_program(text):
@@ -278,7 +297,10 @@ def theirs(folder, programs):
     for name in programs:
         path = f"{folder}/{name[:-4]}.TXT"
         if not os.path.exists(path):
-            sys.exit(f"tools/peers: DOSBox ended with status {ran.returncode} and printed nothing of {name}: {ran.stderr.strip()[-300:]}")
+            sys.exit(
+                f"tools/peers: DOSBox ended with status {ran.returncode} and printed nothing of {name}:"
+                f" {ran.stderr.strip()[-300:]}"
+            )
         with open(path, "rb") as file:
             yield name, file.read()
 
@@ -313,8 +335,14 @@ def compare(seed):
         if lines:
             faults += 1
             number, here, there = lines[0]
-            print(f"{what}: {len(lines)} lines differ, the first is {number}: {here.decode()!r} here, {there.decode()!r} in DOSBox")
+            print(
+                f"{what}: {len(lines)} lines differ, the first is {number}: {here.decode()!r} here,"
+                f" {there.decode()!r} in DOSBox"
+            )
     for what, (why, bytes_known) in KNOWN.items():
         print(f"known: {what}: {known.get(what, 0)} of {len(bytes_known)} first bytes, {why}")
-    print(f"{len(INSTRUCTIONS)} byte instructions, {len(INSTRUCTIONS) * 2**18:,} cases, and {SCRIPTS} scripts of {CALLS} calls: {faults} differ")
+    print(
+        f"{len(INSTRUCTIONS)} byte instructions, {len(INSTRUCTIONS) * 2**18:,} cases, and {SCRIPTS} scripts of"
+        f" {CALLS} calls: {faults} differ"
+    )
     return 1 if faults else 0

@@ -41,7 +41,11 @@ def for_nasm(text):
     text = re.sub(r"\b(JMP|CALL) FAR ([0-9A-F]+h:)", r"\1 \2", text)
     text = re.sub(r"\bJMP ([0-9])", r"JMP NEAR \1", text)
     # (Else nasm makes two jumps of a conditional one, whose distance it does not know.)
-    text = re.sub(r"^(J[A-Z]+) ([0-9][0-9A-F]*h)$", lambda it: it[0] if it[1] in ("JMP", "JCXZ") else f"{it[1]} SHORT {it[2]}", text)
+    text = re.sub(
+        r"^(J[A-Z]+) ([0-9][0-9A-F]*h)$",
+        lambda it: it[0] if it[1] in ("JMP", "JCXZ") else f"{it[1]} SHORT {it[2]}",
+        text,
+    )
     return re.sub(r"\bJMP NEAR ([0-9A-F]+h:)", r"JMP \1", text)
 
 
@@ -72,7 +76,9 @@ def assembled(lines):
             text += [f"dw end{place}-begin{place}" for place in places]
             with open(source, "w", encoding="ascii") as file:
                 file.write("\n".join(text) + "\n")
-            ran = subprocess.run(["nasm", "-f", "bin", "-w-all", "-o", made, source], capture_output=True, text=True, check=False)
+            ran = subprocess.run(
+                ["nasm", "-f", "bin", "-w-all", "-o", made, source], capture_output=True, text=True, check=False
+            )
             if ran.returncode == 0:
                 break
             bad = {(int(number) - 5) // 3 for number in re.findall(r":(\d+): (?:error|fatal)", ran.stderr)}
@@ -98,7 +104,9 @@ def listed(codes):
         file.write(image)
         file.flush()
         skips = [word for place, code in enumerate(codes) for word in ("-s", hex(ORIGIN + SLOT * place))]
-        printed = subprocess.run(["ndisasm", "-b", "16", "-o", hex(ORIGIN), *skips, file.name], capture_output=True, text=True, check=True).stdout
+        printed = subprocess.run(
+            ["ndisasm", "-b", "16", "-o", hex(ORIGIN), *skips, file.name], capture_output=True, text=True, check=True
+        ).stdout
     for line in printed.splitlines():
         words = line.split(None, 2)
         if len(words) == 3 and re.fullmatch("[0-9A-F]{8}", words[0]):
@@ -141,11 +149,21 @@ def compare(seed):
             if ours[place] is None:
                 faults.append(f"{entry.name}: {code.hex(' ')} is no instruction for U")
             elif made[place] is None:
-                kinds[f"{entry.mnemonic}: nasm does not take the text (as {ours[place]})"[:90] if entry.mnemonic != "ESC" else "ESC: nasm has instructions of the 8087"] += 1
-            elif entry.mnemonic == "XCHG" and made[place] != code and exchanged(texts.text(made[place], place)) == ours[place]:
+                kinds[
+                    f"{entry.mnemonic}: nasm does not take the text (as {ours[place]})"[:90]
+                    if entry.mnemonic != "ESC"
+                    else "ESC: nasm has instructions of the 8087"
+                ] += 1
+            elif (
+                entry.mnemonic == "XCHG"
+                and made[place] != code
+                and exchanged(texts.text(made[place], place)) == ours[place]
+            ):
                 kinds["XCHG of two registers: nasm takes them in the other order"] += 1
             elif texts.text(made[place], place) != ours[place]:
-                faults.append(f"{entry.name}: {code.hex(' ')} is {ours[place]}, and nasm makes {made[place].hex(' ')} of it")
+                faults.append(
+                    f"{entry.name}: {code.hex(' ')} is {ours[place]}, and nasm makes {made[place].hex(' ')} of it"
+                )
             else:
                 counts["assembled by nasm to the same instruction"] += 1
                 counts["to the same bytes"] += made[place] == code

@@ -15,10 +15,23 @@ ARITHMETIC = CARRY | PARITY | AUXILIARY | ZERO | SIGN | OVERFLOW
 # The flags that an instruction leaves undefined (Intel 8086 Family User's Manual, table 2-21, "Instruction set
 # reference data").
 UNDEFINED = {
-    "AAA": OVERFLOW | SIGN | ZERO | PARITY, "AAS": OVERFLOW | SIGN | ZERO | PARITY, "AAD": OVERFLOW | AUXILIARY | CARRY, "AAM": OVERFLOW | AUXILIARY | CARRY,
-    "DAA": OVERFLOW, "DAS": OVERFLOW, "AND": AUXILIARY, "OR": AUXILIARY, "XOR": AUXILIARY, "TEST": AUXILIARY,
-    "MUL": SIGN | ZERO | AUXILIARY | PARITY, "IMUL": SIGN | ZERO | AUXILIARY | PARITY, "DIV": ARITHMETIC, "IDIV": ARITHMETIC,
-    "SHL": AUXILIARY, "SHR": AUXILIARY, "SAR": AUXILIARY,
+    "AAA": OVERFLOW | SIGN | ZERO | PARITY,
+    "AAS": OVERFLOW | SIGN | ZERO | PARITY,
+    "AAD": OVERFLOW | AUXILIARY | CARRY,
+    "AAM": OVERFLOW | AUXILIARY | CARRY,
+    "DAA": OVERFLOW,
+    "DAS": OVERFLOW,
+    "AND": AUXILIARY,
+    "OR": AUXILIARY,
+    "XOR": AUXILIARY,
+    "TEST": AUXILIARY,
+    "MUL": SIGN | ZERO | AUXILIARY | PARITY,
+    "IMUL": SIGN | ZERO | AUXILIARY | PARITY,
+    "DIV": ARITHMETIC,
+    "IDIV": ARITHMETIC,
+    "SHL": AUXILIARY,
+    "SHR": AUXILIARY,
+    "SAR": AUXILIARY,
 }
 SHIFTS = (0xD2, 0xD3)
 # The segments of a case: with any offset the address stays in conventional memory, above the code that sets the
@@ -51,7 +64,9 @@ class Case:
         # Numbers at the borders are frequent, and so are those that make a division possible.
         for name in ("ax", "bx", "cx", "dx", "si", "di", "bp"):
             if numbers.randrange(4) == 0:
-                self.state[name] = numbers.choice((0, 1, 2, 7, 8, 0xFF, 0x80, 0x7F, 0x7FFF, 0x8000, 0xFFFF, 0x0009, 0x0909))
+                self.state[name] = numbers.choice(
+                    (0, 1, 2, 7, 8, 0xFF, 0x80, 0x7F, 0x7FFF, 0x8000, 0xFFFF, 0x0009, 0x0909)
+                )
         if entry.mnemonic in ("DIV", "IDIV") and numbers.randrange(2):
             self.state["dx"] = numbers.randrange(16) if numbers.randrange(2) else 0xFFFF - numbers.randrange(16)
         self.state["ip"] = numbers.randrange(0x100, 0xFF00)
@@ -99,7 +114,9 @@ class Case:
         return flags
 
     def __str__(self):
-        return f"{self.entry.name}: {self.code.hex(' ')} with " + " ".join(f"{name}={value:04X}" for name, value in self.state.items())
+        return f"{self.entry.name}: {self.code.hex(' ')} with " + " ".join(
+            f"{name}={value:04X}" for name, value in self.state.items()
+        )
 
 
 def word(number):
@@ -208,8 +225,18 @@ class Comparison:
             low, step = case.state["ax"] & 0xFF, 0x100 if mnemonic == "AAA" else -0x100
             if (low > 0xF9 if step > 0 else low < 6) and (found["ax"] + step) & 0xFFFF == theirs["ax"]:
                 return f"{mnemonic}: no carry out of AL", {**theirs, "ax": found["ax"]}, case.undefined
-        if mnemonic == "DAS" and theirs["flags"] & CARRY and not found["flags"] & CARRY and case.state["ax"] & 0xFF < 6 and not case.state["flags"] & CARRY:
-            return "DAS: no carry for a borrow out of the low digit", {**theirs, "flags": theirs["flags"] & ~CARRY}, case.undefined
+        if (
+            mnemonic == "DAS"
+            and theirs["flags"] & CARRY
+            and not found["flags"] & CARRY
+            and case.state["ax"] & 0xFF < 6
+            and not case.state["flags"] & CARRY
+        ):
+            return (
+                "DAS: no carry for a borrow out of the low digit",
+                {**theirs, "flags": theirs["flags"] & ~CARRY},
+                case.undefined,
+            )
         return self.pushed(case), theirs, case.undefined
 
     def by_interrupt(self, case, number, known):
@@ -287,7 +314,11 @@ class Comparison:
         watched.set(case.state)
         watched.step(case.state, self.until(case, found), 0 if case.is_repeated else 1)
         bases = [16 * case.state[name] for name in ("ds", "es", "ss", "cs")]
-        return any(0xFFFF <= address + size - 1 - base <= 0x10003 and address + size - base > 0x10000 for address, size in watched.accesses for base in bases)
+        return any(
+            0xFFFF <= address + size - 1 - base <= 0x10003 and address + size - base > 0x10000
+            for address, size in watched.accesses
+            for base in bases
+        )
 
     def level(self):
         """Makes Unicorn's memory that of ours."""
@@ -350,7 +381,11 @@ def is_named(entry, names):
     """Whether these names have the entry: its first byte, this with its reg field, or a range of first bytes."""
     for name in names:
         first, _, last = name.upper().partition("-")
-        if last and int(first, 16) <= entry.first <= int(last, 16) or name.upper() in (f"{entry.first:02X}", entry.name.split()[0]):
+        if (
+            last
+            and int(first, 16) <= entry.first <= int(last, 16)
+            or name.upper() in (f"{entry.first:02X}", entry.name.split()[0])
+        ):
             return True
     return not names
 
@@ -373,7 +408,10 @@ def main():
                 print(fault)
             if len(faults) > 5:
                 print(f"{name}: {len(faults) - 5} more")
-            print(f"{name}: {count} cases, {sum(others.values())} with a known difference, {len(faults)} others", flush=True)
+            print(
+                f"{name}: {count} cases, {sum(others.values())} with a known difference, {len(faults)} others",
+                flush=True,
+            )
     for name, count in sorted(known.items()):
         print(f"known: {name}: {count}")
     print(f"{len(places)} entries, {made} cases, {sum(known.values())} with a known difference, {wrong} others")

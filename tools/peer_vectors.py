@@ -53,7 +53,11 @@ def entry_of(code):
         return None, False
     reg = code[at + 1] >> 3 & 7 if at + 1 < len(code) else None
     for entry in opcodes.ENTRIES:
-        if entry.first == code[at] and entry.reg in (None, reg) and (entry.second is None or code[at + 1 : at + 2] == [entry.second]):
+        if (
+            entry.first == code[at]
+            and entry.reg in (None, reg)
+            and (entry.second is None or code[at + 1 : at + 2] == [entry.second])
+        ):
             return entry, entry.first in opcodes.STRINGS and bool({opcodes.REP, opcodes.REPNE} & set(code[:at]))
     return None, False
 
@@ -82,7 +86,14 @@ class Player:
         before, after = test["initial"], test["final"]
         entry, is_repeated = entry_of(test["bytes"])
         places = {at for at, _ in (*before["ram"], *after["ram"])}
-        segment = next((it for it in SEGMENTS if not any(16 * it + stage.ORIGIN - 16 <= at <= 16 * it + stage.STACK for at in places)), None)
+        segment = next(
+            (
+                it
+                for it in SEGMENTS
+                if not any(16 * it + stage.ORIGIN - 16 <= at <= 16 * it + stage.STACK for at in places)
+            ),
+            None,
+        )
         if entry is None:
             self.counts["no instruction of the table"] += 1
             return
@@ -106,7 +117,9 @@ class Player:
             # (The interrupt has pushed flags that the division leaves undefined.)
             pushed = {16 * now["ss"] + (now["sp"] + at & 0xFFFF) for at in (4, 5)}
             ram = [(at, byte) for at, byte in ram if at not in pushed]
-        self.compare(f"{path}: test {number} ({test.get('name', '')})", now, wanted, ram, undefined(entry, before["regs"]))
+        self.compare(
+            f"{path}: test {number} ({test.get('name', '')})", now, wanted, ram, undefined(entry, before["regs"])
+        )
 
     def compare(self, name, now, wanted, ram, mask):
         """Compares what a test left."""

@@ -22,7 +22,9 @@ class Played:
 
     def __init__(self, words, folder, given=b"", environment=None, kept=()):
         try:
-            ran = subprocess.run(words, cwd=folder, input=given, env=environment, pass_fds=kept, capture_output=True, timeout=SECONDS)
+            ran = subprocess.run(
+                words, cwd=folder, input=given, env=environment, pass_fds=kept, capture_output=True, timeout=SECONDS
+            )
         except subprocess.TimeoutExpired as error:
             raise Differs(f"no answer after {SECONDS} seconds: {' '.join(words)}") from error
         self.status, self.told, self.wrote = ran.returncode, ran.stderr.decode("latin-1"), ran.stdout

@@ -40,7 +40,11 @@ def paths_of(it):
 
 def names_of(known, crate, module, is_private=False):
     """The names of functions, public ones or all, and of public types, traits and modules of a crate or a module."""
-    there = [it for it in known.contracts if (it.is_public or is_private) and it.crate == crate and is_below(it.path, crate, module)]
+    there = [
+        it
+        for it in known.contracts
+        if (it.is_public or is_private) and it.crate == crate and is_below(it.path, crate, module)
+    ]
     found = set().union(*(paths_of(it) for it in there)) if there else set()
     for at, _, names in os.walk(f"{specs.ROOT}/crates/{crate}/src"):
         paths = (os.path.relpath(f"{at}/{name}", specs.ROOT) for name in names if name.endswith(".rt"))
@@ -58,7 +62,11 @@ def faults_of_main(known, text, crates, defined):
         there = set().union(*(names_of(known, crate, "") for crate in of or crates))
         others = (name for name in named if name not in crates and name not in there)
         yield from (f"{PAGE}: `{name}` is no public name of {' or '.join(of) or 'any crate'}" for name in others)
-        yield from (f"{PAGE}: there is no definition `{name}`" for name in NAME.findall(says) if name not in defined and name not in crates)
+        yield from (
+            f"{PAGE}: there is no definition `{name}`"
+            for name in NAME.findall(says)
+            if name not in defined and name not in crates
+        )
 
 
 def faults_of_files():
@@ -74,16 +82,31 @@ def faults(known):
     """Each name of a line that its crate, or its module, does not have. Behind the word `definitions` definitions are
     named, behind `private` functions that are not public, and in the table of exports definitions of the crate of
     exports."""
-    text, defined, crates = specs.text_of(PAGE), {it.name for it in known.definitions.values()}, dict(specs.crate_names())
+    text, defined, crates = (
+        specs.text_of(PAGE),
+        {it.name for it in known.definitions.values()},
+        dict(specs.crate_names()),
+    )
     for crate, module, cell in (line for line in LINE.findall(text) if line[0] in crates):
         calls, _, definitions = cell.partition("definition")
-        there, place = names_of(known, crate, module, cell.startswith("private ")), f"{crate}::{module}" if module else crate
+        there, place = (
+            names_of(known, crate, module, cell.startswith("private ")),
+            f"{crate}::{module}" if module else crate,
+        )
         yield from (f"{PAGE}: {place} has no public `{name}`" for name in NAME.findall(calls) if name not in there)
-        yield from (f"{PAGE}: there is no definition `{name}`" for name in NAME.findall(definitions) if name not in defined and name not in crates)
+        yield from (
+            f"{PAGE}: there is no definition `{name}`"
+            for name in NAME.findall(definitions)
+            if name not in defined and name not in crates
+        )
     there = names_of(known, EXPORTS, "")
     of_exports = {it.name for it in known.definitions.values() if it.crate == EXPORTS}
     for calls, definitions in EXPORT.findall(text):
         yield from (f"{PAGE}: {EXPORTS} has no public `{name}`" for name in NAME.findall(calls) if name not in there)
-        yield from (f"{PAGE}: {EXPORTS} has no definition `{name}`" for name in NAME.findall(definitions) if name not in of_exports)
+        yield from (
+            f"{PAGE}: {EXPORTS} has no definition `{name}`"
+            for name in NAME.findall(definitions)
+            if name not in of_exports
+        )
     yield from faults_of_main(known, text, crates, defined)
     yield from faults_of_files()

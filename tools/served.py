@@ -32,4 +32,6 @@ def spelled(folder):
             runs[-1].append(number)
         else:
             runs.append([number])
-    return ", ".join(f"{run[0]:02X}h to {run[-1]:02X}h" if len(run) > 2 else ", ".join(f"{it:02X}h" for it in run) for run in runs)
+    return ", ".join(
+        f"{run[0]:02X}h to {run[-1]:02X}h" if len(run) > 2 else ", ".join(f"{it:02X}h" for it in run) for run in runs
+    )

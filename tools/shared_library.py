@@ -20,11 +20,36 @@ HEADERS = {
     "stdint.h": "".join(f"typedef __UINT{bits}_TYPE__ uint{bits}_t;\n" for bits in (8, 16, 32, 64)),
 }
 COMPILED = (
-    "--target=x86_64-unknown-linux-gnu", "--no-default-config", "-std=c11", "-O2", "-fPIC", "-fno-builtin", "-Wall", "-Wextra", "-Werror", "-nostdinc", "-Ibuild/headers",
+    "--target=x86_64-unknown-linux-gnu",
+    "--no-default-config",
+    "-std=c11",
+    "-O2",
+    "-fPIC",
+    "-fno-builtin",
+    "-Wall",
+    "-Wextra",
+    "-Werror",
+    "-nostdinc",
+    "-Ibuild/headers",
 )
 FLAGS = (
-    "-shared", "-m", "elf_x86_64", "--eh-frame-hdr", "--gc-sections", "--build-id=sha1", "--no-dependent-libraries", "--strip-all", "--threads=1",
-    "-z", "now", "-z", "relro", "-z", "noexecstack", "-z", "defs",
+    "-shared",
+    "-m",
+    "elf_x86_64",
+    "--eh-frame-hdr",
+    "--gc-sections",
+    "--build-id=sha1",
+    "--no-dependent-libraries",
+    "--strip-all",
+    "--threads=1",
+    "-z",
+    "now",
+    "-z",
+    "relro",
+    "-z",
+    "noexecstack",
+    "-z",
+    "defs",
 )
 BEFORE, AFTER = ("crti.o", "crtbeginS.o"), ("libc.so.6", "libc_nonshared.a", "crtendS.o", "crtn.o")
 
@@ -82,7 +107,17 @@ def link():
     of_kit = f"{kit.folder()}/c/liblibc_c.a"
     join(tools, [ARCHIVE, of_kit])
     write_symbols()
-    words = [f"{tools}/bin/ld.lld", *FLAGS, "-soname", soname(), "--version-script", SYMBOLS, "-o", f"{LIBRARY}.new", *[f"{tools}/lib/{it}" for it in BEFORE]]
+    words = [
+        f"{tools}/bin/ld.lld",
+        *FLAGS,
+        "-soname",
+        soname(),
+        "--version-script",
+        SYMBOLS,
+        "-o",
+        f"{LIBRARY}.new",
+        *[f"{tools}/lib/{it}" for it in BEFORE],
+    ]
     words += [OBJECT, "--whole-archive", ARCHIVE, "--no-whole-archive", of_kit, *[f"{tools}/lib/{it}" for it in AFTER]]
     made(words, f"the linker refuses {ARCHIVE}")
     os.replace(f"{LIBRARY}.new", LIBRARY)

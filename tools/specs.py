@@ -29,6 +29,7 @@ def text_of(path):
     with open(f"{ROOT}/{path}", encoding="utf-8") as file:
         return file.read()
 
+
 # A file of definitions that only proofs and private contracts name.
 INNER = re.compile(r"/specs/(?:\w+/)?inner/")
 
@@ -115,7 +116,9 @@ class Specs:
             if used:
                 imports.update(imported(used))
                 if line.startswith("pub "):
-                    self.passed_on.update({f"{crate}.{module}.{name}": type_path(it.split(".")) for name, it in imported(used).items()})
+                    self.passed_on.update(
+                        {f"{crate}.{module}.{name}": type_path(it.split(".")) for name, it in imported(used).items()}
+                    )
             elif re.match(r"  +-- ", line) and is_inside:
                 # (The comment of a field, or of a line of a table.)
                 current.lines.append(line)
@@ -139,7 +142,9 @@ class Specs:
 
     def read_sources(self, crate):
         root = next(it for it in ("lib.rt", "main.rt") if os.path.exists(f"{ROOT}/crates/{crate}/src/{it}"))
-        self.abouts[crate] = [it[3:].strip() for it in text_of(f"crates/{crate}/src/{root}").split("\n") if it.startswith("//!")]
+        self.abouts[crate] = [
+            it[3:].strip() for it in text_of(f"crates/{crate}/src/{root}").split("\n") if it.startswith("//!")
+        ]
         for at, folders, names in sorted(os.walk(f"{ROOT}/crates/{crate}/src")):
             folders.sort()
             for name in sorted(names):
@@ -191,7 +196,13 @@ class Specs:
                 is_open = function.clauses[-1].count("{") > function.clauses[-1].count("}")
             elif block and block[1] == "Model" and line.strip().startswith("ghost Value"):
                 self.read_value(crate, path, block[2], line, whole, inner)
-            docs = docs + [line.strip()] if line.strip().startswith("///") else docs if line.strip().startswith("#[") else []
+            docs = (
+                docs + [line.strip()]
+                if line.strip().startswith("///")
+                else docs
+                if line.strip().startswith("#[")
+                else []
+            )
 
     def read_type(self, crate, module, path, number, name, docs, lines, imports):
         made = Definition(crate, f"declared.{module}", name, "type", [it[3:].strip() for it in docs], path, number)
@@ -204,7 +215,10 @@ class Specs:
 
     def read_value(self, crate, path, name, line, whole, inner):
         """The view of a type in a contract: the value that its model names."""
-        key = next((it for it in self.definitions if self.definitions[it].path == path and self.definitions[it].name == name), None)
+        key = next(
+            (it for it in self.definitions if self.definitions[it].path == path and self.definitions[it].name == name),
+            None,
+        )
         if key:
             self.definitions[key].lines = [line.strip()]
             self.values.add(key)
@@ -366,7 +380,10 @@ def head_of(lines):
 
 def lines_of(path):
     """The lines of a file. A `use` that goes over several lines is one line, and as many empty ones follow it."""
-    return LONG_USE.sub(lambda it: " ".join(it[0].split()).replace(",}", "}").replace(", }", "}") + "\n" * it[0].count("\n"), text_of(path)).split("\n")
+    return LONG_USE.sub(
+        lambda it: " ".join(it[0].split()).replace(",}", "}").replace(", }", "}") + "\n" * it[0].count("\n"),
+        text_of(path),
+    ).split("\n")
 
 
 def imported(used):

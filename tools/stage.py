@@ -14,7 +14,17 @@ WORDS = ("ax", "bx", "cx", "dx", "sp", "bp", "si", "di", "cs", "ds", "es", "ss",
 # Conventional memory, in which all cases stay.
 MEMORY = 0xA0000
 # The flags that the 8086 has, and what PUSHF stores besides.
-CARRY, PARITY, AUXILIARY, ZERO, SIGN, TRAP, INTERRUPT, DIRECTION, OVERFLOW = 0x001, 0x004, 0x010, 0x040, 0x080, 0x100, 0x200, 0x400, 0x800
+CARRY, PARITY, AUXILIARY, ZERO, SIGN, TRAP, INTERRUPT, DIRECTION, OVERFLOW = (
+    0x001,
+    0x004,
+    0x010,
+    0x040,
+    0x080,
+    0x100,
+    0x200,
+    0x400,
+    0x800,
+)
 FLAGS, ALWAYS = 0xFD5, 0xF002
 # Where the code is that sets the registers, and the stack that it uses: both in the first program's block.
 SEGMENT, ORIGIN, STACK = 0x0103, 0x0100, 0x0400
@@ -63,13 +73,36 @@ class Ours:
 
     def set(self, state, segment=SEGMENT):
         """Sets the registers, by code in this segment, which has room for it from ORIGIN to STACK."""
-        code = b"".join((
-            b"\xB8", struct.pack("<H", segment), b"\x8E\xD0\xBC", struct.pack("<H", STACK), b"\xB8", struct.pack("<H", state["flags"]), b"\x50\x9D",
-            *(b"\xB8" + struct.pack("<H", state[name]) + move for name, move in (("ss", b"\x8E\xD0"), ("es", b"\x8E\xC0"), ("ds", b"\x8E\xD8"))),
-            *(first + struct.pack("<H", state[name]) for first, name in (
-                (b"\xBC", "sp"), (b"\xBD", "bp"), (b"\xB9", "cx"), (b"\xBA", "dx"), (b"\xBB", "bx"), (b"\xBE", "si"), (b"\xBF", "di"), (b"\xB8", "ax"))),
-            b"\xEA", struct.pack("<HH", state["ip"], state["cs"]),
-        ))
+        code = b"".join(
+            (
+                b"\xB8",
+                struct.pack("<H", segment),
+                b"\x8E\xD0\xBC",
+                struct.pack("<H", STACK),
+                b"\xB8",
+                struct.pack("<H", state["flags"]),
+                b"\x50\x9D",
+                *(
+                    b"\xB8" + struct.pack("<H", state[name]) + move
+                    for name, move in (("ss", b"\x8E\xD0"), ("es", b"\x8E\xC0"), ("ds", b"\x8E\xD8"))
+                ),
+                *(
+                    first + struct.pack("<H", state[name])
+                    for first, name in (
+                        (b"\xBC", "sp"),
+                        (b"\xBD", "bp"),
+                        (b"\xB9", "cx"),
+                        (b"\xBA", "dx"),
+                        (b"\xBB", "bx"),
+                        (b"\xBE", "si"),
+                        (b"\xBF", "di"),
+                        (b"\xB8", "ax"),
+                    )
+                ),
+                b"\xEA",
+                struct.pack("<HH", state["ip"], state["cs"]),
+            )
+        )
         self.machine.write(segment, ORIGIN, code)
         self.machine.run(21)
 
@@ -92,13 +125,18 @@ class Unicorn:
         self.unicorn = unicorn
         self.machine = unicorn.Uc(unicorn.UC_ARCH_X86, unicorn.UC_MODE_16)
         self.machine.mem_map(0, 0x200000)
-        self.names = [getattr(x86_const, f"UC_X86_REG_{'EFLAGS' if name == 'flags' else name.upper()}") for name in WORDS]
+        self.names = [
+            getattr(x86_const, f"UC_X86_REG_{'EFLAGS' if name == 'flags' else name.upper()}") for name in WORDS
+        ]
         # The interrupt that the last instruction raised, if any, and the accesses of memory.
         self.interrupt, self.accesses = None, None
         # (Else an interrupt would be taken for one within that before it.)
         self.fresh = self.machine.context_save()
         self.machine.hook_add(unicorn.UC_HOOK_INTR, self._interrupted)
-        for number, hook in ((x86_const.UC_X86_INS_IN, lambda uc, port, size, data: (1 << 8 * size) - 1), (x86_const.UC_X86_INS_OUT, lambda *_: None)):
+        for number, hook in (
+            (x86_const.UC_X86_INS_IN, lambda uc, port, size, data: (1 << 8 * size) - 1),
+            (x86_const.UC_X86_INS_OUT, lambda *_: None),
+        ):
             self.machine.hook_add(unicorn.UC_HOOK_INSN, hook, None, 1, 0, number)
 
     def _interrupted(self, machine, number, _):
@@ -109,7 +147,9 @@ class Unicorn:
         """Keeps the accesses of memory from here on."""
         self.accesses = []
         kinds = self.unicorn.UC_HOOK_MEM_READ | self.unicorn.UC_HOOK_MEM_WRITE
-        return self.machine.hook_add(kinds, lambda uc, kind, address, size, value, data: self.accesses.append((address, size)))
+        return self.machine.hook_add(
+            kinds, lambda uc, kind, address, size, value, data: self.accesses.append((address, size))
+        )
 
     def read(self, linear, count):
         """Bytes of memory."""

@@ -58,7 +58,9 @@ def bytes_of(path):
 
 def tracked(*paths):
     """The repository's files below some paths, by their paths from its root."""
-    listed = subprocess.run(["git", "ls-files", "-z", *paths], cwd=kit.ROOT, capture_output=True, text=True, check=False)
+    listed = subprocess.run(
+        ["git", "ls-files", "-z", *paths], cwd=kit.ROOT, capture_output=True, text=True, check=False
+    )
     if listed.returncode:
         raise NotBuilt(f"git does not list the files of the tree: {' '.join(listed.stderr.split())}")
     return [path for path in listed.stdout.split("\0") if path and os.path.isfile(f"{kit.ROOT}/{path}")]
@@ -76,7 +78,9 @@ def stripped(data):
             file.write(data)
         # (The tool goes by the name that it is called by.)
         os.symlink(tool, f"{folder}/llvm-strip")
-        ran = subprocess.run([f"{folder}/llvm-strip", "--strip-all", f"{folder}/program"], capture_output=True, text=True, check=False)
+        ran = subprocess.run(
+            [f"{folder}/llvm-strip", "--strip-all", f"{folder}/program"], capture_output=True, text=True, check=False
+        )
         if ran.returncode:
             raise NotBuilt(f"{PROGRAM} cannot be stripped: {' '.join(ran.stderr.split())[:400]}")
         with open(f"{folder}/program", "rb") as file:
@@ -138,7 +142,10 @@ def library(layout):
     yield f"{folder}/{shared_library.soname()}", (Link(f"libmezguld.so.{version}"), 0o777)
     yield f"{folder}/libmezguld.so", (Link(shared_library.soname()), 0o777)
     up = "/".join([".."] * (layout.library.count("/") + 2))
-    yield f"{folder}/pkgconfig/mezguld.pc", (PKG_CONFIG.format(up=up, lib=layout.library, version=version).encode(), 0o644)
+    yield f"{folder}/pkgconfig/mezguld.pc", (
+        PKG_CONFIG.format(up=up, lib=layout.library, version=version).encode(),
+        0o644,
+    )
     yield f"{layout.prefix}include/mezguld.h", (bytes_of("include/mezguld.h"), 0o644)
 
 
@@ -172,13 +179,27 @@ def files(layout):
     shared_library.link()
     program = usage.Usage(PROGRAM)
     share = f"{layout.prefix}share"
-    found = {f"{layout.prefix}bin/dm": (stripped(bytes_of(PROGRAM)), 0o755), **dict(library(layout)), **dict(documents(layout))}
+    found = {
+        f"{layout.prefix}bin/dm": (stripped(bytes_of(PROGRAM)), 0o755),
+        **dict(library(layout)),
+        **dict(documents(layout)),
+    }
     found[f"{share}/bash-completion/completions/dm"] = (pages.bash_completion(program).encode(), 0o644)
     found[f"{share}/{layout.zsh[len('share/') :]}/_dm"] = (pages.zsh_completion(program).encode(), 0o644)
     for path, data in manuals():
-        found[f"{share}/man/{path}{'.gz' if layout.is_compressed else ''}"] = (compressed(data) if layout.is_compressed else data, 0o644)
+        found[f"{share}/man/{path}{'.gz' if layout.is_compressed else ''}"] = (
+            compressed(data) if layout.is_compressed else data,
+            0o644,
+        )
     return dict(sorted(found.items()))
 
 
 # Why there are no files, as a script tells it.
-REASONS = (NotBuilt, shared_library.NotLinked, usage.Unreadable, versions.Unreadable, OSError, subprocess.CalledProcessError)
+REASONS = (
+    NotBuilt,
+    shared_library.NotLinked,
+    usage.Unreadable,
+    versions.Unreadable,
+    OSError,
+    subprocess.CalledProcessError,
+)

@@ -86,7 +86,14 @@ class Command:
 def help_of(program, *words):
     """The text that `dm WORDS.. --help` prints."""
     try:
-        ran = subprocess.run([program, *words, "--help"], capture_output=True, text=True, stdin=subprocess.DEVNULL, timeout=SECONDS, check=False)
+        ran = subprocess.run(
+            [program, *words, "--help"],
+            capture_output=True,
+            text=True,
+            stdin=subprocess.DEVNULL,
+            timeout=SECONDS,
+            check=False,
+        )
     except (OSError, subprocess.TimeoutExpired) as error:
         raise Unreadable(f"{program} does not run: {error}") from error
     return (ran.stdout + ran.stderr).rstrip("\n")
@@ -97,7 +104,9 @@ class Usage:
 
     def __init__(self, program):
         self.top = Command("dm", help_of(program))
-        self.commands = {name: Command(f"dm {name}", help_of(program, name)) for name in self.top.commands if name != "help"}
+        self.commands = {
+            name: Command(f"dm {name}", help_of(program, name)) for name in self.top.commands if name != "help"
+        }
 
     def options(self):
         """Each option of the commands once, with that of each command that has it; that for help is the last."""
@@ -172,7 +181,10 @@ def usage_faults(usage):
         given = next((line for line in lines if line.startswith(f"dm {name} ")), "")
         found = {*re.findall(r"\[[^\]]*\]|[^\s\[\]]+", given)}
         if not found <= wanted or wanted - found - {"[--steps N]"} or (wanted - found and name != "debug"):
-            yield f"the usage of dm {name} is `{given}`, and `{' '.join(word for word, _ in command.synopsis())}` in its help"
+            yield (
+                f"the usage of dm {name} is `{given}`, and `{' '.join(word for word, _ in command.synopsis())}` in its"
+                " help"
+            )
 
 
 def limit_faults(usage):
@@ -189,7 +201,10 @@ def session_faults(usage):
     told = [", ".join(re.findall("`([^`]*)`", cells[0])) for cells in tables("Commands")[0][1:]]
     wanted = usage.commands["debug"].session if "debug" in usage.commands else []
     if told != wanted:
-        yield f"the commands of the debugger are {'; '.join(told)}, and {'; '.join(wanted) or 'none'} in the help of dm debug"
+        yield (
+            f"the commands of the debugger are {'; '.join(told)}, and {'; '.join(wanted) or 'none'} in the help of dm"
+            " debug"
+        )
 
 
 def status_faults(what, heading, given):
@@ -209,7 +224,10 @@ def faults(program):
         usage = Usage(program)
         declared = header.Header("include/mezguld.h")
         found = [*option_faults(usage), *usage_faults(usage), *limit_faults(usage), *session_faults(usage)]
-        found += [*status_faults("status", "Statuses and exceptions", declared.statuses), *status_faults("stop", "Calls", declared.stops)]
+        found += [
+            *status_faults("status", "Statuses and exceptions", declared.statuses),
+            *status_faults("stop", "Calls", declared.stops),
+        ]
     except Unreadable as why:
         found = [str(why)]
     yield from (fault if fault.startswith(MANUAL) else f"{MANUAL}: {fault}" for fault in found)

@@ -13,11 +13,18 @@ import subprocess
 ROOT = os.path.dirname(os.path.dirname(os.path.realpath(__file__)))
 # Where the version stands, each with the pattern of the line.
 CONSTANT = ("crates/dm_options/src/arguments.rt", r'^const VERSION: &str = "([^"]*)";$')
-PLACES = (CONSTANT, ("include/mezguld.h", r'^#define MEZGULD_VERSION "([^"]*)"$'), ("python/mezguld/__init__.py", r'^__version__ = "([^"]*)"$'))
+PLACES = (
+    CONSTANT,
+    ("include/mezguld.h", r'^#define MEZGULD_VERSION "([^"]*)"$'),
+    ("python/mezguld/__init__.py", r'^__version__ = "([^"]*)"$'),
+)
 PLACES += (("rows/texts/wrong_lines.row", r"^    dm (\d+\.\d+\.\d+)$"),)
 NUMBERS = ("MAJOR", "MINOR", "PATCH")
 # The version as one number, in the library and in its header.
-LIBRARY = (("crates/dm_c/src/exports.rt", r"^const VERSION: u32 = ([\d_]+);$"), ("include/mezguld.h", r"^#define MEZGULD_VERSION_NUMBER (\d+)$"))
+LIBRARY = (
+    ("crates/dm_c/src/exports.rt", r"^const VERSION: u32 = ([\d_]+);$"),
+    ("include/mezguld.h", r"^#define MEZGULD_VERSION_NUMBER (\d+)$"),
+)
 # The name of a package, with its version.
 PACKAGE = re.compile(r"\bmezguld[_-](\d+\.\d+\.\d+)")
 HEADING = re.compile(r"^## (.*)$", re.M)
@@ -53,7 +60,10 @@ def release():
     heading = HEADING.search(text_of("CHANGELOG.md"))
     found = RELEASE.fullmatch(heading[1]) if heading else None
     if not found:
-        raise Unreadable(f"CHANGELOG.md: its top is no release with a date, as `## 1.0.0, 26 November 2026`, but `{heading[0] if heading else ''}`")
+        raise Unreadable(
+            "CHANGELOG.md: its top is no release with a date, as `## 1.0.0, 26 November 2026`, but"
+            f" `{heading[0] if heading else ''}`"
+        )
     try:
         return found[1], datetime.datetime.strptime(found[2], "%d %B %Y").date()
     except ValueError as error:

@@ -42,8 +42,15 @@ def metadata():
     """The text of the file METADATA."""
     said, classifiers = project()
     lines = [
-        "Metadata-Version: 2.1", f"Name: {said['name']}", f"Version: {version()}", f"Summary: {said['description']}", "License: none was given",
-        *[f"Classifier: {it}" for it in classifiers], f"Requires-Python: {said['requires-python']}", "Description-Content-Type: text/plain", "",
+        "Metadata-Version: 2.1",
+        f"Name: {said['name']}",
+        f"Version: {version()}",
+        f"Summary: {said['description']}",
+        "License: none was given",
+        *[f"Classifier: {it}" for it in classifiers],
+        f"Requires-Python: {said['requires-python']}",
+        "Description-Content-Type: text/plain",
+        "",
         re.match(r'r?"""(.*?)"""', text_of(os.path.join(PACKAGE, "__init__.py")), re.S)[1],
     ]
     return "\n".join(lines)
@@ -61,8 +68,17 @@ def entries(library):
     """The paths of the wheel with their bytes, sorted, but for RECORD."""
     folder = f"mezguld-{version()}.dist-info"
     tags = tag(library).split("-")
-    wheel = ["Wheel-Version: 1.0", "Generator: mezguld_wheel", "Root-Is-Purelib: false", *[f"Tag: py3-none-{it}" for it in tags[2].split(".")]]
-    found = {f"mezguld/{name}": text_of(os.path.join(PACKAGE, name)).encode() for name in os.listdir(PACKAGE) if name.endswith((".py", ".typed", ".html"))}
+    wheel = [
+        "Wheel-Version: 1.0",
+        "Generator: mezguld_wheel",
+        "Root-Is-Purelib: false",
+        *[f"Tag: py3-none-{it}" for it in tags[2].split(".")],
+    ]
+    found = {
+        f"mezguld/{name}": text_of(os.path.join(PACKAGE, name)).encode()
+        for name in os.listdir(PACKAGE)
+        if name.endswith((".py", ".typed", ".html"))
+    }
     found["mezguld/libmezguld.so"] = library
     found[f"{folder}/METADATA"] = metadata().encode()
     found[f"{folder}/WHEEL"] = ("\n".join(wheel) + "\n").encode()
@@ -71,6 +87,7 @@ def entries(library):
 
 def record(files, itself):
     """The text of the file RECORD."""
+
     def sum_of(data):
         return base64.urlsafe_b64encode(hashlib.sha256(data).digest()).decode().rstrip("=")
 
@@ -95,5 +112,6 @@ def build_wheel(wheel_directory, config_settings=None, metadata_directory=None):
 
 
 def build_sdist(sdist_directory, config_settings=None):
-    """A source distribution is not made: the library cannot be built without the prover, and so not from sources alone."""
+    """A source distribution is not made: the library cannot be built without the prover, and so not from sources
+    alone."""
     raise NotImplementedError("there is no source distribution: the library is built by the Rattle kit")

@@ -31,24 +31,104 @@ from typing import TYPE_CHECKING, Any, Callable, Iterable, NamedTuple, NoReturn
 
 if TYPE_CHECKING:
     from .records import (
-        Act, Block, Blocks, Contents, Details, Expanded, Extended, ExtendedBlock, Finding, Findings, Instruction, Origin, PageHandle, Place, UpperBlock, Window,
+        Act,
+        Block,
+        Blocks,
+        Contents,
+        Details,
+        Expanded,
+        Extended,
+        ExtendedBlock,
+        Finding,
+        Findings,
+        Instruction,
+        Origin,
+        PageHandle,
+        Place,
+        UpperBlock,
+        Window,
     )
 
 __all__ = [
-    "Act", "Block", "Blocks", "Contents", "Details", "Ended", "Error", "Event", "Expanded", "Extended", "ExtendedBlock", "Finding", "FindingKind", "Findings", "How",
-    "Instruction", "Kind", "Machine", "Origin", "PageHandle", "Place", "Registers", "Stop", "Stopped", "UpperBlock", "Window", "assemble", "disassemble",
-    "BadFormat", "BadName", "BreakpointsFull", "CommandSyntax", "InputClosed", "LineRange", "LineRefused", "LineSyntax", "LineTwice", "LineUnknown", "NameTwice",
-    "NoHandle", "NoMachine", "NoPage", "NotFound", "NotLoaded", "OutOfMemory", "PastEnd", "Short", "Started", "TailTooLong", "TooLarge", "TooLong", "VariablesTooLong", "__version__",
+    "Act",
+    "Block",
+    "Blocks",
+    "Contents",
+    "Details",
+    "Ended",
+    "Error",
+    "Event",
+    "Expanded",
+    "Extended",
+    "ExtendedBlock",
+    "Finding",
+    "FindingKind",
+    "Findings",
+    "How",
+    "Instruction",
+    "Kind",
+    "Machine",
+    "Origin",
+    "PageHandle",
+    "Place",
+    "Registers",
+    "Stop",
+    "Stopped",
+    "UpperBlock",
+    "Window",
+    "assemble",
+    "disassemble",
+    "BadFormat",
+    "BadName",
+    "BreakpointsFull",
+    "CommandSyntax",
+    "InputClosed",
+    "LineRange",
+    "LineRefused",
+    "LineSyntax",
+    "LineTwice",
+    "LineUnknown",
+    "NameTwice",
+    "NoHandle",
+    "NoMachine",
+    "NoPage",
+    "NotFound",
+    "NotLoaded",
+    "OutOfMemory",
+    "PastEnd",
+    "Short",
+    "Started",
+    "TailTooLong",
+    "TooLarge",
+    "TooLong",
+    "VariablesTooLong",
+    "__version__",
 ]
 
 __version__ = "2.0.0"
 
 # What the module `records` has: data classes, which take longer to make than all else here, and are loaded with the
 # first call that wants one.
-_OF_RECORDS = frozenset((
-    "Act", "Block", "Blocks", "Contents", "Details", "Expanded", "Extended", "ExtendedBlock", "Finding", "Findings", "Instruction", "Origin", "PageHandle", "Place",
-    "UpperBlock", "Window",
-))
+_OF_RECORDS = frozenset(
+    (
+        "Act",
+        "Block",
+        "Blocks",
+        "Contents",
+        "Details",
+        "Expanded",
+        "Extended",
+        "ExtendedBlock",
+        "Finding",
+        "Findings",
+        "Instruction",
+        "Origin",
+        "PageHandle",
+        "Place",
+        "UpperBlock",
+        "Window",
+    )
+)
 
 
 def __getattr__(name: str) -> Any:
@@ -234,9 +314,25 @@ class TooLong(Error, ValueError):
 
 _OK, _TOO_SMALL = 0, 4
 _REFUSALS = {
-    1: NoMachine, 3: OutOfMemory, 5: TooLarge, 6: VariablesTooLong, 7: BadName, 8: NameTwice, 9: Started, 10: TailTooLong,
-    11: NotFound, 12: BadFormat, 13: Short, 14: NotLoaded, 15: CommandSyntax, 16: BreakpointsFull, 21: TooLong, 22: InputClosed,
-    26: NoHandle, 27: NoPage, 28: PastEnd,
+    1: NoMachine,
+    3: OutOfMemory,
+    5: TooLarge,
+    6: VariablesTooLong,
+    7: BadName,
+    8: NameTwice,
+    9: Started,
+    10: TailTooLong,
+    11: NotFound,
+    12: BadFormat,
+    13: Short,
+    14: NotLoaded,
+    15: CommandSyntax,
+    16: BreakpointsFull,
+    21: TooLong,
+    22: InputClosed,
+    26: NoHandle,
+    27: NoPage,
+    28: PastEnd,
 }
 _LINES = {17: LineSyntax, 18: LineUnknown, 19: LineRange, 20: LineTwice}
 for _status, _kind in (*_REFUSALS.items(), *_LINES.items()):
@@ -415,8 +511,13 @@ class _Point(ctypes.Structure):
 
 class _Event(ctypes.Structure):
     _fields_ = [
-        ("kind", ctypes.c_uint32), ("address", ctypes.c_uint32), ("length", ctypes.c_uint32), ("segment", ctypes.c_uint16), ("offset", ctypes.c_uint16),
-        ("number", ctypes.c_uint8), ("ah", ctypes.c_uint8),
+        ("kind", ctypes.c_uint32),
+        ("address", ctypes.c_uint32),
+        ("length", ctypes.c_uint32),
+        ("segment", ctypes.c_uint16),
+        ("offset", ctypes.c_uint16),
+        ("number", ctypes.c_uint8),
+        ("ah", ctypes.c_uint8),
     ]
 
 
@@ -432,18 +533,29 @@ _RECORDS = {
     "mezguld_place": "H cs, H ip, H before",
     "mezguld_contents": "H signature, H owner, H size",
     "mezguld_details": (
-        "mezguld_contents old_contents, mezguld_contents new_contents, H header, H byte, H block, H owner, H segment, H offset, H window, H handle, H pages, H saved, "
-        "H kib, H locked, H code, H wanted, H available"
+        "mezguld_contents old_contents, mezguld_contents new_contents, H header, H byte, H block, H owner, H segment,"
+        " H offset, H window, H handle, H pages, H saved, H kib, H locked, H code, H wanted, H available"
     ),
     "mezguld_finding": (
-        "Q step, Q more, Q last, Q origin_step, I kind, I is_error, mezguld_place at, mezguld_place origin_at, mezguld_act act, H process, mezguld_details details"
+        "Q step, Q more, Q last, Q origin_step, I kind, I is_error, mezguld_place at, mezguld_place origin_at,"
+        " mezguld_act act, H process, mezguld_details details"
     ),
 }
-_SIZES: dict[str, Any] = {"B": ctypes.c_uint8, "H": ctypes.c_uint16, "I": ctypes.c_uint32, "Q": ctypes.c_uint64, "8B": ctypes.c_uint8 * 8}
+_SIZES: dict[str, Any] = {
+    "B": ctypes.c_uint8,
+    "H": ctypes.c_uint16,
+    "I": ctypes.c_uint32,
+    "Q": ctypes.c_uint64,
+    "8B": ctypes.c_uint8 * 8,
+}
 _STRUCTURES: dict[str, Any] = {}
 for _struct, _members in _RECORDS.items():
     _pairs = [_member.split(" ") for _member in _members.split(", ")]
-    _STRUCTURES[_struct] = type(_struct, (ctypes.Structure,), {"_fields_": [(_word, {**_SIZES, **_STRUCTURES}[_size]) for _size, _word in _pairs]})
+    _STRUCTURES[_struct] = type(
+        _struct,
+        (ctypes.Structure,),
+        {"_fields_": [(_word, {**_SIZES, **_STRUCTURES}[_size]) for _size, _word in _pairs]},
+    )
 del _struct, _members, _pairs
 
 
@@ -506,9 +618,21 @@ _PARAMETERS = {
     "mezguld_disassemble": "pn pn w",
 }
 _TYPES = {
-    "m": ctypes.c_void_p, "h": ctypes.POINTER(ctypes.c_void_p), "s": ctypes.POINTER(_Stopped), "r": ctypes.POINTER(_Registers), "c": ctypes.POINTER(_Registers), "p": ctypes.c_void_p, "n": ctypes.c_size_t,
-    "w": ctypes.POINTER(ctypes.c_size_t), "q": ctypes.POINTER(ctypes.c_uint64), "I": ctypes.c_uint32, "Q": ctypes.c_uint64, "H": ctypes.c_uint16,
-    "B": ctypes.c_uint32, "e": ctypes.POINTER(_STRUCTURES["mezguld_list_end"]), "d": ctypes.POINTER(ctypes.c_uint32),
+    "m": ctypes.c_void_p,
+    "h": ctypes.POINTER(ctypes.c_void_p),
+    "s": ctypes.POINTER(_Stopped),
+    "r": ctypes.POINTER(_Registers),
+    "c": ctypes.POINTER(_Registers),
+    "p": ctypes.c_void_p,
+    "n": ctypes.c_size_t,
+    "w": ctypes.POINTER(ctypes.c_size_t),
+    "q": ctypes.POINTER(ctypes.c_uint64),
+    "I": ctypes.c_uint32,
+    "Q": ctypes.c_uint64,
+    "H": ctypes.c_uint16,
+    "B": ctypes.c_uint32,
+    "e": ctypes.POINTER(_STRUCTURES["mezguld_list_end"]),
+    "d": ctypes.POINTER(ctypes.c_uint32),
 }
 
 
@@ -526,7 +650,9 @@ def _opened() -> ctypes.CDLL:
         function.restype = None if name == "mezguld_free" else ctypes.c_uint32
         function.argtypes = [_TYPES[letter] for letter in parameters if letter != " "]
     if library.mezguld_version() // 10000 != int(__version__.split(".", maxsplit=1)[0]):
-        raise ImportError(f"the library {path} is not that of Mezguld {__version__}: its version is {library.mezguld_version()}")
+        raise ImportError(
+            f"the library {path} is not that of Mezguld {__version__}: its version is {library.mezguld_version()}"
+        )
     return library
 
 
@@ -561,7 +687,7 @@ def _bytes(data: bytes | bytearray | memoryview) -> bytes:
     try:
         return memoryview(data).tobytes()
     except TypeError:
-        raise TypeError(f"bytes are wanted, as b\"..\", and not {type(data).__name__}") from None
+        raise TypeError(f'bytes are wanted, as b"..", and not {type(data).__name__}') from None
 
 
 def _name(name: str | bytes) -> bytes:
@@ -592,21 +718,36 @@ def _points(breakpoints: Iterable[tuple[int, int]]) -> tuple[ctypes.Array, int]:
     try:
         listed = [(segment, offset) for segment, offset in breakpoints]
     except (TypeError, ValueError) as error:
-        raise type(error)(f"breakpoints are a list of segments and offsets, as [(0x0103, 0x0100)], and not {breakpoints!r}") from None
-    pairs = [_Point(_number(segment, 0xFFFF, "a segment"), _number(offset, 0xFFFF, "an offset")) for segment, offset in listed]
+        raise type(error)(
+            f"breakpoints are a list of segments and offsets, as [(0x0103, 0x0100)], and not {breakpoints!r}"
+        ) from None
+    pairs = [
+        _Point(_number(segment, 0xFFFF, "a segment"), _number(offset, 0xFFFF, "an offset"))
+        for segment, offset in listed
+    ]
     return (_Point * (len(pairs) + 1))(*pairs), len(pairs)
 
 
 # How many bytes linear addresses reach.
 _MOST_MEMORY = 0x10FFF0
 # The greatest number of each field of an event behind its kind.
-_MOST_OF_EVENTS = {"address": 0xFFFFFFFF, "length": 0xFFFFFFFF, "segment": 0xFFFF, "offset": 0xFFFF, "number": 0xFF, "ah": 0xFF}
+_MOST_OF_EVENTS = {
+    "address": 0xFFFFFFFF,
+    "length": 0xFFFFFFFF,
+    "segment": 0xFFFF,
+    "offset": 0xFFFF,
+    "number": 0xFF,
+    "ah": 0xFF,
+}
 
 
 def _event(event: Event) -> _Event:
     if not isinstance(event, Event) or not isinstance(event.kind, Kind):
         raise TypeError(f"an event is made by Event.at or one of its like, and not {event!r}")
-    return _Event(event.kind.value, *(_number(getattr(event, name), most, f"the {name} of an event") for name, most in _MOST_OF_EVENTS.items()))
+    return _Event(
+        event.kind.value,
+        *(_number(getattr(event, name), most, f"the {name} of an event") for name, most in _MOST_OF_EVENTS.items()),
+    )
 
 
 def _address(address: int, count: int) -> int:
@@ -639,11 +780,15 @@ _GO, _GO_STEPS = re.compile(rb"[Gg](?: ([0-9A-Fa-f]{1,8}))?"), "FFFFFF"
 
 def _first_slice(events: list[Event]) -> int:
     """The steps of the first slice of a run up to events: few where each compares many bytes."""
-    slow = sum(min(it.length, 0x10FFF0) for it in events if it.kind is Kind.AT_CHANGE and it.address + it.length > 0xC0000)
+    slow = sum(
+        min(it.length, 0x10FFF0) for it in events if it.kind is Kind.AT_CHANGE and it.address + it.length > 0xC0000
+    )
     return max(_FIRST_SLICE // (slow // 512 + 1), 1)
 
 
-def _sliced(steps: int, run: Callable[[int], tuple[Any, bool]], is_over: Callable[[], bool], first: int = _FIRST_SLICE) -> Any:
+def _sliced(
+    steps: int, run: Callable[[int], tuple[Any, bool]], is_over: Callable[[], bool], first: int = _FIRST_SLICE
+) -> Any:
     """Makes a run in slices, until `is_over`: `run(count)` returns its result, and whether nothing has stopped it. A
     run of a steps and then one of b steps are the run of a + b steps; so are runs up to breakpoints, where the first
     has reached none."""
@@ -801,7 +946,14 @@ class Machine:
         self._call(function, count)
         return count.value
 
-    def _run(self, function: Callable[..., int], steps: int, *arguments: object, last: tuple[object, ...] = (), first: int = _FIRST_SLICE) -> Stopped:
+    def _run(
+        self,
+        function: Callable[..., int],
+        steps: int,
+        *arguments: object,
+        last: tuple[object, ...] = (),
+        first: int = _FIRST_SLICE,
+    ) -> Stopped:
         """A run by slices, which no other call comes between. `last` are the arguments behind that for the stop."""
 
         def run(count: int) -> tuple[Stopped, bool]:
@@ -833,7 +985,11 @@ class Machine:
         self._call(_library.mezguld_add, *_given(_name(name)), *_given(_bytes(program)))
 
     def load(
-        self, name: str | bytes, tail: str | bytes = b"", input: bytes = b"", more: bool = False  # pylint: disable=redefined-builtin
+        self,
+        name: str | bytes,
+        tail: str | bytes = b"",
+        input: bytes = b"",
+        more: bool = False,  # pylint: disable=redefined-builtin
     ) -> None:
         """Loads the program of this name, with a command tail of at most 126 bytes (it begins with a space, as in `"
         /q"`) and the console's input. With `more`, its input is open: more may come by `supply`.
@@ -898,7 +1054,14 @@ class Machine:
             raise TypeError("events are a list, as [Event.at_call(0x21)]")
         listed, place = list(events), ctypes.c_size_t()
         given = (_Event * (len(listed) + 1))(*(_event(event) for event in listed))
-        stopped = self._run(_library.mezguld_run_to, _number(steps, _MOST_STEPS, "steps"), given, len(listed), last=(place,), first=_first_slice(listed))
+        stopped = self._run(
+            _library.mezguld_run_to,
+            _number(steps, _MOST_STEPS, "steps"),
+            given,
+            len(listed),
+            last=(place,),
+            first=_first_slice(listed),
+        )
         return Ended(*stopped, listed[place.value] if stopped.why is Stop.EVENT else None)
 
     @property
@@ -922,7 +1085,10 @@ class Machine:
             words = Registers(*registers)
         except TypeError:
             raise TypeError("all registers are wanted, as machine.registers._replace(ax=1)") from None
-        self._call(_library.mezguld_set_registers, _Registers(*(_number(word, 0xFFFF, name) for name, word in zip(words._fields, words))))
+        self._call(
+            _library.mezguld_set_registers,
+            _Registers(*(_number(word, 0xFFFF, name) for name, word in zip(words._fields, words))),
+        )
 
     def read(self, segment: int, offset: int, count: int) -> bytes:
         """So many bytes of memory, at most 65,536, from segment:offset on; offsets wrap in their segment. FFh where
@@ -963,7 +1129,9 @@ class Machine:
         """What the program wrote to the console, from byte `start` of it on (past the end: nothing). `NotLoaded`."""
         start = _number(start, _MOST_STEPS, "the start")
         with self._held():
-            return _taken(lambda buffer, size, wanted: _library.mezguld_output(self._handle, start, buffer, size, wanted))
+            return _taken(
+                lambda buffer, size, wanted: _library.mezguld_output(self._handle, start, buffer, size, wanted)
+            )
 
     @property
     def output_count(self) -> int:
@@ -1025,7 +1193,9 @@ class Machine:
 
     def _finding_line(self, number: int) -> str:
         """The line of a finding in the report."""
-        line = _taken(lambda buffer, room, wanted: _library.mezguld_finding_line(self._handle, number, buffer, room, wanted), 160)
+        line = _taken(
+            lambda buffer, room, wanted: _library.mezguld_finding_line(self._handle, number, buffer, room, wanted), 160
+        )
         return line.decode("latin-1").rstrip("\n")
 
     def _records(self, function: Callable[..., int], name: str, *last: object) -> list[Any]:
@@ -1048,7 +1218,10 @@ class Machine:
 
         end = _STRUCTURES["mezguld_list_end"]()
         records = self._records(_library.mezguld_blocks, "mezguld_block", end)
-        return Blocks((Block(it.segment, it.signature == ord("Z"), it.owner, it.size, it.list) for it in records), end.at if end.destroyed else None)
+        return Blocks(
+            (Block(it.segment, it.signature == ord("Z"), it.owner, it.size, it.list) for it in records),
+            end.at if end.destroyed else None,
+        )
 
     def expanded(self) -> Expanded:
         """Expanded memory: its handles, and what its windows show. `NotLoaded`."""
@@ -1073,7 +1246,9 @@ class Machine:
             self._call(_library.mezguld_high_memory, a20, used)
         return Extended(
             [ExtendedBlock(it.handle, it.address, it.kib, it.locks) for it in blocks],
-            [UpperBlock(it.segment, it.size) for it in upper], bool(a20.value), bool(used.value),
+            [UpperBlock(it.segment, it.size) for it in upper],
+            bool(a20.value),
+            bool(used.value),
         )
 
     def read_page(self, handle: int, page: int, offset: int = 0, count: int | None = None) -> bytes:

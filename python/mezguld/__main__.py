@@ -13,13 +13,32 @@ import threading
 import time
 from typing import Any, Callable, NoReturn
 
-from . import BadFormat, Error, Machine, NameTwice, OutOfMemory, Short, Stop, TailTooLong, TooLarge, __version__, picture
+from . import (
+    BadFormat,
+    Error,
+    Machine,
+    NameTwice,
+    OutOfMemory,
+    Short,
+    Stop,
+    TailTooLong,
+    TooLarge,
+    __version__,
+    picture,
+)
 
 # The most bytes of a file and of the input, and of a file's name.
 MOST_BYTES, MOST_NAME = 16 << 20, 64
 # The seconds before the first line about the progress, and at most between two of them.
 FIRST_PAUSE, LAST_PAUSE = 5.0, 60.0
-FAULTS = {NameTwice: "name twice", TooLarge: "too large", TailTooLong: "tail too long", BadFormat: "bad format", Short: "short", OutOfMemory: "out of memory"}
+FAULTS = {
+    NameTwice: "name twice",
+    TooLarge: "too large",
+    TailTooLong: "tail too long",
+    BadFormat: "bad format",
+    Short: "short",
+    OutOfMemory: "out of memory",
+}
 
 
 class Fault(Exception):
@@ -30,7 +49,12 @@ class Parser(argparse.ArgumentParser):
     """A parser that refuses a wrong command line with one sentence and status 2."""
 
     def error(self, message: str) -> NoReturn:
-        self.exit(2, f"{self.prog}: {message}; {self.prog} --help tells more\n".encode("ascii", "backslashreplace").decode("ascii"))
+        self.exit(
+            2,
+            f"{self.prog}: {message}; {self.prog} --help tells more\n".encode("ascii", "backslashreplace").decode(
+                "ascii"
+            ),
+        )
 
 
 def number(text: str) -> int:
@@ -153,7 +177,10 @@ def draw(options: argparse.Namespace) -> int:
     run = picture.Options(options.steps, options.ems, options.xms, options.upper, os.fsencode(options.tail), console)
     try:
         progress = picture.Progress()
-        found = made(lambda: picture.record(programs, run, files=options.files, input_file=options.input, progress=progress), progress)
+        found = made(
+            lambda: picture.record(programs, run, files=options.files, input_file=options.input, progress=progress),
+            progress,
+        )
     except Error as error:
         raise Fault(FAULTS.get(type(error), str(error))) from error
     text = picture.text_of(found) + "\n" if options.json else picture.page(found)
@@ -168,7 +195,10 @@ def draw(options: argparse.Namespace) -> int:
     summary = found["summary"]
     # (The file is there, whether or not anybody reads this line.)
     with contextlib.suppress(OSError):
-        say(f"{shown(output)}: {found['calls']['seen']} calls, errors: {summary['errors']}, notes: {summary['notes']}, {found['run']['end']['text']}\n")
+        say(
+            f"{shown(output)}: {found['calls']['seen']} calls, errors: {summary['errors']}, notes: {summary['notes']},"
+            f" {found['run']['end']['text']}\n"
+        )
     return 0
 
 
@@ -216,7 +246,9 @@ def play(options: argparse.Namespace) -> int:
 
 def add_machine(command: argparse.ArgumentParser) -> None:
     """Adds the options of a machine, and the files."""
-    command.add_argument("--ems", type=number, default=64, metavar="PAGES", help="pages of expanded memory, of 16 KiB (64)")
+    command.add_argument(
+        "--ems", type=number, default=64, metavar="PAGES", help="pages of expanded memory, of 16 KiB (64)"
+    )
     command.add_argument("--xms", type=number, default=1024, metavar="KIB", help="KiB of extended memory (1024)")
     command.add_argument("--upper", action="store_true", help="DOS has upper memory, segments D000h to DFFFh")
     command.add_argument("--tail", default="", metavar="TEXT", help="the command tail; it begins with a space")
@@ -225,24 +257,44 @@ def add_machine(command: argparse.ArgumentParser) -> None:
 
 def arguments() -> Parser:
     """The parser of the command line. A command is a function of the options that returns the exit status."""
-    parser = Parser(prog="python -m mezguld", description="The proved MS-DOS machine of Mezguld, from the command line.", allow_abbrev=False)
+    parser = Parser(
+        prog="python -m mezguld",
+        description="The proved MS-DOS machine of Mezguld, from the command line.",
+        allow_abbrev=False,
+    )
     parser.add_argument("--version", action="version", version=f"mezguld {__version__}")
     commands = parser.add_subparsers(metavar="COMMAND", required=True)
     about = "draws a page that shows what a program did with memory"
     command = commands.add_parser(
-        "picture", help=about, allow_abbrev=False, description=f"Runs a program as `dm check` does, and {about}: one HTML file, for any browser.",
+        "picture",
+        help=about,
+        allow_abbrev=False,
+        description=f"Runs a program as `dm check` does, and {about}: one HTML file, for any browser.",
         epilog="example: python -m mezguld picture leaks.com -o memory.html </dev/null",
     )
-    command.add_argument("--steps", type=number, default=picture.Options().steps, metavar="N", help="stop after so many steps (100000000)")
+    command.add_argument(
+        "--steps",
+        type=number,
+        default=picture.Options().steps,
+        metavar="N",
+        help="stop after so many steps (100000000)",
+    )
     add_machine(command)
     command.add_argument("--input", metavar="FILE", help="the file with the console's input (standard input)")
     command.add_argument("--json", action="store_true", help="write the page's data alone, as JSON")
-    command.add_argument("-o", "--output", metavar="FILE", help="the file to write (memory.html, or memory.json); - is standard output")
+    command.add_argument(
+        "-o", "--output", metavar="FILE", help="the file to write (memory.html, or memory.json); - is standard output"
+    )
     command.set_defaults(does=draw)
     about = "runs a program at the terminal"
     command = commands.add_parser(
-        "run", help=about, allow_abbrev=False,
-        description=f"Runs a program as `dm run` does, and {about}: keys arrive as they are pressed, output appears at once, and Ctrl-C ends it.",
+        "run",
+        help=about,
+        allow_abbrev=False,
+        description=(
+            f"Runs a program as `dm run` does, and {about}: keys arrive as they are pressed, output appears at once,"
+            " and Ctrl-C ends it."
+        ),
         epilog="example: python -m mezguld run game.com",
     )
     command.add_argument("--steps", type=number, metavar="N", help="stop after so many steps (no limit)")

@@ -24,22 +24,51 @@ __all__ = ["Options", "Program", "data", "page", "record", "write"]
 
 FORMAT = 2
 # The entries of the services: a program that calls one is there before the service acts.
-DIVIDE, TERMINATE, DOS, EXPANDED, EXTENDED = (0xF000, 0x0000), (0xF000, 0x0080), (0xF000, 0x0084), (0xF100, 0x0020), (0xF000, 0x0400)
+DIVIDE, TERMINATE, DOS, EXPANDED, EXTENDED = (
+    (0xF000, 0x0000),
+    (0xF000, 0x0080),
+    (0xF000, 0x0084),
+    (0xF100, 0x0020),
+    (0xF000, 0x0400),
+)
 ENTRIES = (DIVIDE, TERMINATE, DOS, EXPANDED, EXTENDED)
 NAMES = {
     DOS: {
-        0x00: "Terminate Program", 0x31: "Keep Program", 0x48: "Allocate Memory", 0x49: "Free Allocated Memory", 0x4A: "Set Memory Block Size",
-        0x4B: "Load Program", 0x4C: "End Program", 0x58: "Allocation Strategy, Upper-Memory Link",
+        0x00: "Terminate Program",
+        0x31: "Keep Program",
+        0x48: "Allocate Memory",
+        0x49: "Free Allocated Memory",
+        0x4A: "Set Memory Block Size",
+        0x4B: "Load Program",
+        0x4C: "End Program",
+        0x58: "Allocation Strategy, Upper-Memory Link",
     },
     EXPANDED: {
-        0x43: "Allocate Pages", 0x44: "Map/Unmap Handle Page", 0x45: "Deallocate Pages", 0x47: "Save Page Map", 0x48: "Restore Page Map",
-        0x4E: "Get/Set Page Map", 0x50: "Map/Unmap Multiple Handle Pages", 0x51: "Reallocate Pages", 0x53: "Get/Set Handle Name",
+        0x43: "Allocate Pages",
+        0x44: "Map/Unmap Handle Page",
+        0x45: "Deallocate Pages",
+        0x47: "Save Page Map",
+        0x48: "Restore Page Map",
+        0x4E: "Get/Set Page Map",
+        0x50: "Map/Unmap Multiple Handle Pages",
+        0x51: "Reallocate Pages",
+        0x53: "Get/Set Handle Name",
     },
     EXTENDED: {
-        0x01: "Request High Memory Area", 0x02: "Release High Memory Area", 0x03: "Global Enable A20", 0x04: "Global Disable A20",
-        0x05: "Local Enable A20", 0x06: "Local Disable A20", 0x09: "Allocate Extended Memory Block", 0x0A: "Free Extended Memory Block",
-        0x0C: "Lock Extended Memory Block", 0x0D: "Unlock Extended Memory Block", 0x0F: "Reallocate Extended Memory Block",
-        0x10: "Request Upper Memory Block", 0x11: "Release Upper Memory Block", 0x12: "Reallocate Upper Memory Block",
+        0x01: "Request High Memory Area",
+        0x02: "Release High Memory Area",
+        0x03: "Global Enable A20",
+        0x04: "Global Disable A20",
+        0x05: "Local Enable A20",
+        0x06: "Local Disable A20",
+        0x09: "Allocate Extended Memory Block",
+        0x0A: "Free Extended Memory Block",
+        0x0C: "Lock Extended Memory Block",
+        0x0D: "Unlock Extended Memory Block",
+        0x0F: "Reallocate Extended Memory Block",
+        0x10: "Request Upper Memory Block",
+        0x11: "Release Upper Memory Block",
+        0x12: "Reallocate Upper Memory Block",
     },
 }
 TITLES = {DOS: "INT 21h", EXPANDED: "INT 67h", EXTENDED: "XMS"}
@@ -182,29 +211,47 @@ Values = Tuple[int, ...]
 WHY, STEPS, AX, BX, CX, DX, SP, BP, SI, DI, CS, DS, ES, SS, IP, FLAGS = 0, 2, *range(3, 17)
 
 
-class Watched:
+class QuickMachine:
     """A machine, by calls of the library that take little time: what they are given is made once, and calls that
     follow one another are made together. Only one thread uses it."""
 
     def __init__(self, machine: Machine) -> None:
         self.machine, self._handle = machine, machine._handle  # pylint: disable=protected-access
         self._seen, self._limit, self._wanted = _Seen(), ctypes.c_uint64(), ctypes.c_size_t()
-        self._points, self._lines = (_Point * len(ENTRIES))(*ENTRIES), [ctypes.create_string_buffer(it.encode("ascii")) for it in LISTED]
+        self._points, self._lines = (_Point * len(ENTRIES))(*ENTRIES), [
+            ctypes.create_string_buffer(it.encode("ascii")) for it in LISTED
+        ]
         # (What is made here points to the objects above.)
         seen, count = self._seen, ctypes.c_size_t.from_param
         self._run = untyped("run", self._handle, ctypes.c_uint64.from_param(1), ctypes.byref(seen))
-        self._run_until = untyped("run_until", self._handle, self._limit, ctypes.byref(self._points), count(len(ENTRIES)), ctypes.byref(seen))
+        self._run_until = untyped(
+            "run_until", self._handle, self._limit, ctypes.byref(self._points), count(len(ENTRIES)), ctypes.byref(seen)
+        )
         self._ask_steps = untyped("steps", self._handle, ctypes.byref(seen, _Seen.steps.offset))
         self._ask_registers = untyped("registers", self._handle, ctypes.byref(seen, _Seen.registers.offset))
         lines = zip(LISTED, self._lines)
-        self._commands = {it: untyped("command", self._handle, ctypes.byref(line), count(1), ctypes.byref(self._wanted)) for it, line in lines}
+        self._commands = {
+            it: untyped("command", self._handle, ctypes.byref(line), count(1), ctypes.byref(self._wanted))
+            for it, line in lines
+        }
         self._few = ctypes.create_string_buffer(64)
-        self._read, self._to_few, self._sizes = untyped("read", self._handle), ctypes.byref(self._few), {it: count(it) for it in (1, 4, 64)}
+        self._read, self._to_few, self._sizes = (
+            untyped("read", self._handle),
+            ctypes.byref(self._few),
+            {it: count(it) for it in (1, 4, 64)},
+        )
         self._make_room(1 << 16)
+
     def _make_room(self, size: int) -> None:
         """Room for an answer."""
         self._room, self._size = ctypes.create_string_buffer(size), size
-        self._answer = untyped("answer", self._handle, ctypes.byref(self._room), ctypes.c_size_t.from_param(size), ctypes.byref(self._wanted))
+        self._answer = untyped(
+            "answer",
+            self._handle,
+            ctypes.byref(self._room),
+            ctypes.c_size_t.from_param(size),
+            ctypes.byref(self._wanted),
+        )
 
     def now(self) -> Values:
         """The steps so far, and the registers."""
@@ -403,10 +450,13 @@ Waiting = Tuple["Service", int, Values, Values, Back, Sequence[Tuple[int, bytes]
 class Recorder:
     """The moments of a run, the processes, and what programs did not free. `now` is how many steps were made."""
 
-    def __init__(self, watched: Watched, findings: list[dict[str, Any]], options: Options, first: bytes) -> None:
-        self.watched, self.options = watched, options
+    def __init__(self, machine: QuickMachine, findings: list[dict[str, Any]], options: Options, first: bytes) -> None:
+        self.machine, self.options = machine, options
         # (Behind them is a step that no run reaches.)
-        self.left = [NEVER, *sorted({step for it in findings for step in (it["step"], it["last"]) if step}, reverse=True)]
+        self.left = [
+            NEVER,
+            *sorted({step for it in findings for step in (it["step"], it["last"]) if step}, reverse=True),
+        ]
         self.acts = {it[key]: it for it in reversed(findings) for key in ("last", "step")}
         self.names: dict[str, int] = {}
         self.callers: dict[str, int] = {}
@@ -428,7 +478,7 @@ class Recorder:
         self.held: dict[int, tuple[Back, int, int, int]] = {}
         self.kept: dict[tuple[str, str, str], list[int]] = {}
         self.now = 0
-        self._start(shown(first), watched.now()[DS], 0)
+        self._start(shown(first), machine.now()[DS], 0)
         self.look("", "the program is loaded", "", must=True)
 
     # -- names and moments
@@ -438,8 +488,16 @@ class Recorder:
         self._settle()
         if must:
             self.must.add(len(self.moments))
-        changes = [listing.change(self.watched.listed(it)) for listing, it in zip(self.lists, LISTED)]
-        moment = [self.now, place_in(self.names, name), place_in(self.callers, caller), self.running(), text, 0, *changes]
+        changes = [listing.change(self.machine.listed(it)) for listing, it in zip(self.lists, LISTED)]
+        moment = [
+            self.now,
+            place_in(self.names, name),
+            place_in(self.callers, caller),
+            self.running(),
+            text,
+            0,
+            *changes,
+        ]
         self.moments.append(moment)
         self.size += size_of(moment)
         self._thin_enough()
@@ -521,21 +579,27 @@ class Recorder:
         parent = self.alive[-1] if self.alive else None
         self.alive.append(len(self.processes))
         self.size += PROCESS_SIZE
-        self.processes.append({"name": name, "psp": psp, "start": now, "end": None, "how": "runs at the end", "parent": parent})
+        self.processes.append(
+            {"name": name, "psp": psp, "start": now, "end": None, "how": "runs at the end", "parent": parent}
+        )
 
     def _end(self, how: str, is_resident: bool, now: int) -> None:
         if not self.alive:
             return
         number = self.alive.pop()
         self.processes[number].update(end=now, how=how)
-        self._keep([it for it, held in self.held.items() if held[3] == number], "resident" if is_resident else "process ended")
+        self._keep(
+            [it for it, held in self.held.items() if held[3] == number], "resident" if is_resident else "process ended"
+        )
 
     def _keep(self, segments: list[int], why: str) -> None:
         """Counts blocks that their program did not free."""
         for it in segments:
             back, step, size, process = self.held.pop(it)
             # (The same place of the same program, in whichever process.)
-            group = self.kept.setdefault((caller_of(back), self.processes[process]["name"], why), [0, 0, step, step, process])
+            group = self.kept.setdefault(
+                (caller_of(back), self.processes[process]["name"], why), [0, 0, step, step, process]
+            )
             group[0] += 1
             group[1] += size
             group[2], group[3] = min(group[2], step), max(group[3], step)
@@ -559,8 +623,8 @@ class Recorder:
 
     def run(self) -> None:
         """Runs the program to its end, to another stop or to the limit of steps."""
-        watched, left, most, why = self.watched, self.left, self.options.steps, Stop.STEPS.value
-        registers = watched.now()
+        machine, left, most, why = self.machine, self.left, self.options.steps, Stop.STEPS.value
+        registers = machine.now()
         while why in GOES_ON and self.now < most:
             services = SERVICES.get((registers[CS], registers[IP]))
             if services is not None:
@@ -573,7 +637,7 @@ class Recorder:
                 self.others += 1
             while left[-1] <= self.now:
                 left.pop()
-            registers = watched.run_until(min(left[-1], most) - self.now)
+            registers = machine.run_until(min(left[-1], most) - self.now)
             why, self.now = registers[WHY], registers[STEPS]
             if left[-1] == self.now:
                 self._found()
@@ -591,9 +655,13 @@ class Recorder:
         is_usual = not self.stale and self.left[-1] > self.now + 1
         # (Of a start or an end there is a moment until there are many.)
         is_wanted = is_kept or service.is_process and len(self.must) < MOST_PROCESSES
-        back = self.watched.back(before, service.is_interrupt) if is_wanted or service.is_followed or not is_usual else NOWHERE
-        program, overlay = self.watched.program(before) if service.is_load else ("", None)
-        after, text = self.watched.performed(service.list if is_usual and is_wanted else None)
+        back = (
+            self.machine.back(before, service.is_interrupt)
+            if is_wanted or service.is_followed or not is_usual
+            else NOWHERE
+        )
+        program, overlay = self.machine.program(before) if service.is_load else ("", None)
+        after, text = self.machine.performed(service.list if is_usual and is_wanted else None)
         # (A service that could not act is no step.)
         self.now += after[WHY] in ACTED
         call = None
@@ -620,9 +688,9 @@ class Recorder:
         if is_found or is_kept and self.stale:
             wanted = [it for it in LISTED if is_found or it in self.stale or it == service.list]
             self.stale.clear()
-            return [(PLACES[it], self.watched.listed(it)) for it in wanted]
+            return [(PLACES[it], self.machine.listed(it)) for it in wanted]
         if is_kept:
-            return ((service.place, self.watched.listed(service.list)),)
+            return ((service.place, self.machine.listed(service.list)),)
         self.stale.add(service.list)
         return ()
 
@@ -671,14 +739,18 @@ REFUSED = {DOS: dos_refused, EXPANDED: expanded_refused, EXTENDED: extended_refu
 # What a call was asked and gave, by the registers before it and after it, and whether it was refused.
 TEXTS: dict[tuple[int, int], dict[int, Callable[[Values, Values, int], str]]] = {
     DOS: {
-        0x48: lambda before, after, code: f"{before[BX]:X}h paragraphs" + ("" if code else f": block at {after[AX]:04X}"),
+        0x48: lambda before, after, code: f"{before[BX]:X}h paragraphs"
+        + ("" if code else f": block at {after[AX]:04X}"),
         0x49: lambda before, after, code: f"block at {before[ES]:04X}",
         0x4A: lambda before, after, code: f"block at {before[ES]:04X} to {before[BX]:X}h paragraphs",
-        0x58: lambda before, after, code: f"{'link of upper memory' if before[AX] & 2 else 'strategy'} {before[BX]:02X}h",
+        0x58: lambda before, after, code: (
+            f"{'link of upper memory' if before[AX] & 2 else 'strategy'} {before[BX]:02X}h"
+        ),
     },
     EXPANDED: {
         0x43: lambda before, after, code: f"{before[BX]} pages" + ("" if code else f": handle {after[DX]}"),
-        0x44: lambda before, after, code: f"window {before[AX] & 0xFF}: " + ("no page" if before[BX] == 0xFFFF else f"page {before[BX]} of handle {before[DX]}"),
+        0x44: lambda before, after, code: f"window {before[AX] & 0xFF}: "
+        + ("no page" if before[BX] == 0xFFFF else f"page {before[BX]} of handle {before[DX]}"),
         0x4E: lambda before, after, code: "page map",
         0x50: lambda before, after, code: f"{before[CX]} windows: handle {before[DX]}",
         0x51: lambda before, after, code: f"handle {before[DX]} to {before[BX]} pages",
@@ -687,7 +759,8 @@ TEXTS: dict[tuple[int, int], dict[int, Callable[[Values, Values, int], str]]] = 
         **dict.fromkeys(range(0x01, 0x07), lambda before, after, code: ""),
         0x09: lambda before, after, code: f"{before[DX]} KiB" + ("" if code else f": handle {after[DX]}"),
         0x0F: lambda before, after, code: f"handle {before[DX]} to {before[BX]} KiB",
-        0x10: lambda before, after, code: f"{before[DX]:X}h paragraphs" + ("" if code else f": block at {after[BX]:04X}"),
+        0x10: lambda before, after, code: f"{before[DX]:X}h paragraphs"
+        + ("" if code else f": block at {after[BX]:04X}"),
         0x11: lambda before, after, code: f"block at {before[DX]:04X}",
         0x12: lambda before, after, code: f"block at {before[DX]:04X} to {before[BX]:X}h paragraphs",
     },
@@ -705,7 +778,11 @@ class Service:
         else:
             self.name = "INT 20h" if entry is TERMINATE else "interrupt 0"
         number = function if entry is DOS else None
-        self.is_resident, self.is_load, self.is_ending = number == 0x31, number == 0x4B, entry not in NAMES or number in (0x00, 0x31, 0x4C)
+        self.is_resident, self.is_load, self.is_ending = (
+            number == 0x31,
+            number == 0x4B,
+            entry not in NAMES or number in (0x00, 0x31, 0x4C),
+        )
         self.is_process = self.is_load or self.is_ending
         # Whether only calls with an odd AL may change memory's division; whether the caller is wanted where nobody is
         # told of the call.
@@ -721,7 +798,9 @@ SERVICES = {entry: {number: Service(entry, number) for number in NAMES.get(entry
 
 def refusal(service: Service, after: Values, code: int) -> str:
     """That a call was refused."""
-    largest = f", largest {after[BX]:X}h" if code == 8 and service.entry is DOS and service.function in (0x48, 0x4A) else ""
+    largest = (
+        f", largest {after[BX]:X}h" if code == 8 and service.entry is DOS and service.function in (0x48, 0x4A) else ""
+    )
     return f"refused with code {code:02X}h{largest}"
 
 
@@ -768,11 +847,19 @@ class Progress:
         recorder = self.recorder
         if recorder is None:
             return "first run, under the checker"
-        return f"second run: {recorder.now:,} of at most {recorder.options.steps:,} steps, {recorder.seen:,} calls about memory"
+        return (
+            f"second run: {recorder.now:,} of at most {recorder.options.steps:,} steps, {recorder.seen:,} calls about"
+            " memory"
+        )
 
 
 def record(
-    programs: list[Program], options: Options = Options(), *, files: list[str] | None = None, input_file: str | None = None, progress: Progress | None = None
+    programs: list[Program],
+    options: Options = Options(),
+    *,
+    files: list[str] | None = None,
+    input_file: str | None = None,
+    progress: Progress | None = None,
 ) -> dict[str, Any]:
     """Runs the first program, which can start the others, and returns all that docs/picture.md describes. `progress`
     says meanwhile how far it is.
@@ -783,37 +870,95 @@ def record(
     # (The steps of what the checker finds are looked at too, so they are known before.)
     report = _checked(programs, options)
     with loaded(programs, options) as machine:
-        recorder = progress.recorder = Recorder(Watched(machine), report.findings, options, programs[0].name)
+        recorder = progress.recorder = Recorder(QuickMachine(machine), report.findings, options, programs[0].name)
         recorder.run()
-    return data(recorder, programs, options, report, command_of(options, files or [shown(it.name) for it in programs], input_file))
+    return data(
+        recorder,
+        programs,
+        options,
+        report,
+        command_of(options, files or [shown(it.name) for it in programs], input_file),
+    )
+
+
+# Why blocks are in the list of what was not freed.
+WHYS = {
+    "process ended": "freed by the end of the process",
+    "resident": "kept by a resident program",
+    "run stopped": "allocated when the run stopped",
+}
+
+
+def rule_of(recorder: Recorder) -> str | None:
+    """Which calls a thinned record leaves out; None if it has all."""
+    if recorder.every == 1:
+        return None
+    first = f" (of these the first {MOST_PROCESSES:,})" if len(recorder.must) >= MOST_PROCESSES else ""
+    return (
+        f"Of {recorder.seen:,} calls about memory, one in {recorder.every:,} is shown, and besides these each at which"
+        f" the checker found something or a program starts or ends{first}. What lived only between two of the shown"
+        " ones is left out, and so are processes that made none of them. The list of what was not freed counts all"
+        " calls."
+    )
+
+
+def not_freed(recorder: Recorder) -> list[dict[str, Any]]:
+    """The blocks that programs left or hold, by what allocated them; those of the most paragraphs are the first."""
+    return [
+        {
+            "caller": caller,
+            "process": process,
+            "why": WHYS[word],
+            "is_leak": word == "process ended",
+            "blocks": count,
+            "paragraphs": size,
+            "first": first,
+            "last": last,
+        }
+        for (caller, _, word), (count, size, first, last, process) in sorted(
+            recorder.kept.items(), key=lambda it: -it[1][1]
+        )
+    ]
 
 
 def data(recorder: Recorder, programs: list[Program], options: Options, report: Report, command: str) -> dict[str, Any]:
     """The data of a page, which docs/picture.md describes."""
-    every, kept = recorder.every, len(recorder.moments)
-    first = f" (of these the first {MOST_PROCESSES:,})" if len(recorder.must) >= MOST_PROCESSES else ""
-    rule = f"Of {recorder.seen:,} calls about memory, one in {every:,} is shown, and besides these each at which the checker found something or a program"
-    rule += f" starts or ends{first}. What lived only between two of the shown ones is left out, and so are processes that made none of them. The list of what was not freed"
-    rule += " counts all calls."
-    if every > 1:
+    rule = rule_of(recorder)
+    if rule:
         recorder.drop_processes()
-    why = {"process ended": "freed by the end of the process", "resident": "kept by a resident program", "run stopped": "allocated when the run stopped"}
     return {
-        "format": FORMAT, "version": __version__,
+        "format": FORMAT,
+        "version": __version__,
         "run": {
-            "command": command, "files": [{"name": shown(it.name), "bytes": len(it.content)} for it in programs],
-            "options": {"steps": options.steps, "ems": options.ems, "xms": options.xms, "upper": bool(options.upper), "tail": shown(options.tail)},
-            "input": len(options.input), "steps": recorder.now, "end": report.end,
+            "command": command,
+            "files": [{"name": shown(it.name), "bytes": len(it.content)} for it in programs],
+            "options": {
+                "steps": options.steps,
+                "ems": options.ems,
+                "xms": options.xms,
+                "upper": bool(options.upper),
+                "tail": shown(options.tail),
+            },
+            "input": len(options.input),
+            "steps": recorder.now,
+            "end": report.end,
         },
-        "report": report.lines, "findings": report.findings, "summary": report.summary,
-        "calls": {"seen": recorder.seen, "others": recorder.others, "shown": kept, "every": every, "rule": rule if every > 1 else None},
+        "report": report.lines,
+        "findings": report.findings,
+        "summary": report.summary,
+        "calls": {
+            "seen": recorder.seen,
+            "others": recorder.others,
+            "shown": len(recorder.moments),
+            "every": recorder.every,
+            "rule": rule,
+        },
         "processes": recorder.processes,
-        "kept": [
-            {"caller": caller, "process": process, "why": why[word], "is_leak": word == "process ended", "blocks": count, "paragraphs": size, "first": first, "last": last}
-            for (caller, _, word), (count, size, first, last, process) in sorted(recorder.kept.items(), key=lambda it: -it[1][1])
-        ],
-        "names": list(recorder.names), "callers": list(recorder.callers),
-        "columns": COLUMNS, "moments": [short(it) for it in recorder.moments],
+        "kept": not_freed(recorder),
+        "names": list(recorder.names),
+        "callers": list(recorder.callers),
+        "columns": COLUMNS,
+        "moments": [short(it) for it in recorder.moments],
     }
 
 

@@ -12,8 +12,23 @@ from typing import Any, Iterable
 from . import FindingKind, How
 
 __all__ = [
-    "Act", "Block", "Blocks", "Contents", "Details", "Expanded", "Extended", "ExtendedBlock", "Finding", "Findings", "Instruction", "Origin", "PageHandle", "Place",
-    "UpperBlock", "Window", "finding_of",
+    "Act",
+    "Block",
+    "Blocks",
+    "Contents",
+    "Details",
+    "Expanded",
+    "Extended",
+    "ExtendedBlock",
+    "Finding",
+    "Findings",
+    "Instruction",
+    "Origin",
+    "PageHandle",
+    "Place",
+    "UpperBlock",
+    "Window",
+    "finding_of",
 ]
 
 
@@ -22,9 +37,10 @@ __all__ = [
 
 @dataclass(frozen=True)
 class Block:
-    """A header of the DOS memory arena: its segment, whether it is signed `Z` as the last of its list, the owner (0:
-    free; 8: DOS; else the segment of a program's prefix), the size in paragraphs of 16 bytes, and its list: 0 for
-    the first one, 1 for that of upper memory where the first does not lead to it. Its segments print in hexadecimal."""
+    """A header of the DOS memory arena: its own segment (findings have that of its block, one above); whether it is
+    signed `Z` as the last of its list; the owner of the block (0: free; 8: DOS; else the segment of a program's
+    prefix); the size of the block in paragraphs of 16 bytes; and its list: 0 for the first one, 1 for that of upper
+    memory where the first does not lead to it. Its segments print in hexadecimal."""
 
     segment: int
     last: bool
@@ -33,12 +49,15 @@ class Block:
     list: int = 0
 
     def __repr__(self) -> str:
-        return f"Block(segment=0x{self.segment:04X}, last={self.last}, owner=0x{self.owner:04X}, size={self.size}, list={self.list})"
+        return (
+            f"Block(segment=0x{self.segment:04X}, last={self.last}, owner=0x{self.owner:04X}, size={self.size},"
+            f" list={self.list})"
+        )
 
 
 class Blocks(list):
-    """A list of blocks. `destroyed` is None, or the segment of the first bad header, at which the list breaks: the
-    blocks are those before it."""
+    """A list of headers. `destroyed` is None, or the segment of the first bad header, at which the list breaks: the
+    headers are those before it."""
 
     def __init__(self, blocks: Iterable[Block] = (), destroyed: int | None = None) -> None:
         super().__init__(blocks)
@@ -91,8 +110,8 @@ class ExtendedBlock:
 
 @dataclass(frozen=True)
 class UpperBlock:
-    """An upper memory block of the extended memory driver: its segment, and its size in paragraphs. Its segment
-    prints in hexadecimal."""
+    """An upper memory block of the extended memory driver: the segment of its first paragraph, as function 10h
+    returned it, and its size in paragraphs. Its segment prints in hexadecimal."""
 
     segment: int
     size: int
@@ -123,7 +142,10 @@ class Instruction:
     text: str
 
     def __repr__(self) -> str:
-        return f"Instruction(segment=0x{self.segment:04X}, offset=0x{self.offset:04X}, data={self.data!r}, text={self.text!r})"
+        return (
+            f"Instruction(segment=0x{self.segment:04X}, offset=0x{self.offset:04X}, data={self.data!r},"
+            f" text={self.text!r})"
+        )
 
 
 # ---- findings
@@ -164,7 +186,7 @@ class Origin:
 
 @dataclass(frozen=True)
 class Contents:
-    """Bytes 0 to 4 of a header of the arena: signature, owner, and size in paragraphs."""
+    """Bytes 0 to 4 of a header of the arena: signature, owner, and the size of its block in paragraphs."""
 
     signature: int
     owner: int
@@ -174,7 +196,18 @@ class Contents:
 @dataclass(frozen=True)
 class Details:
     """What a finding is about, by the names of `dm check --json` (`old` and `new` there are `old_contents` and
-    `new_contents` here). What its kind does not have is `None`, and is not printed."""
+    `new_contents` here). What its kind does not have is `None`, and is not printed.
+
+    - `header`: the segment of a header; `old_contents` and `new_contents`: what it held before the step and after it;
+      `byte`: which byte of it was written, 5 to 15.
+    - `block`: the segment of a block's first paragraph, as the call that allocated it returned it, one above that of
+      its header, if it has one; `owner`: the prefix of the process that owns it.
+    - `segment`, `offset`: the address of the first byte that an instruction touches there.
+    - `window`: a window of the page frame, 0 to 3.
+    - `handle`: a handle; `pages`: how many pages of 16 KiB it has; `saved`: whether the windows are saved under it;
+      `kib`: the size of its block in KiB; `locked`: whether that is locked.
+    - `code`: the error code of a call; `wanted`, `available`: the paragraphs that it wants, and those that there are.
+    """
 
     old_contents: Contents | None = None
     new_contents: Contents | None = None
@@ -220,16 +253,11 @@ class Finding:
 
 class Findings(list):
     """The findings that a report lists, in the order in which they happened; `errors` and `notes` count all, and
-    `not_listed` those that are left out."""
+    `not_listed` those beyond the first 100 errors and the first 100 notes, which it does not list."""
 
     def __init__(self, found: Iterable[Finding] = (), errors: int = 0, notes: int = 0, not_listed: int = 0) -> None:
         super().__init__(found)
         self.errors, self.notes, self.not_listed = errors, notes, not_listed
-
-    @property
-    def unlisted(self) -> int:
-        """The same as `not_listed`, for programs written before it had this name."""
-        return self.not_listed
 
     def __repr__(self) -> str:
         return f"Findings({super().__repr__()}, errors={self.errors}, notes={self.notes}, not_listed={self.not_listed})"
@@ -239,16 +267,34 @@ class Findings(list):
 
 # The details that a finding of each kind has.
 _DETAILS = {
-    FindingKind.OVERWRITTEN: "header old_contents new_contents", FindingKind.MAPPED_AWAY: "header", FindingKind.DESTROYED: "header",
-    FindingKind.FREED_TWICE: "block", FindingKind.REFUSED: "code", FindingKind.NOT_ALLOCATED: "code", FindingKind.SHORT: "code wanted available",
-    FindingKind.FREE_READ: "block segment offset", FindingKind.FREE_WRITTEN: "block segment offset", FindingKind.STACK_FREED: "block",
-    FindingKind.WINDOW_LOST: "window segment offset", FindingKind.ROM_WRITTEN: "segment offset", FindingKind.NOTHING_WRITTEN: "segment offset",
-    FindingKind.TAIL_WRITTEN: "header byte", FindingKind.OTHER_FREED: "block owner", FindingKind.NOT_RESIZED: "wanted",
-    FindingKind.HANDLE_KEPT: "handle pages saved", FindingKind.WINDOW_KEPT: "window", FindingKind.BLOCK_KEPT: "handle kib locked",
+    FindingKind.OVERWRITTEN: "header old_contents new_contents",
+    FindingKind.MAPPED_AWAY: "header",
+    FindingKind.DESTROYED: "header",
+    FindingKind.FREED_TWICE: "block",
+    FindingKind.REFUSED: "code",
+    FindingKind.NOT_ALLOCATED: "code",
+    FindingKind.SHORT: "code wanted available",
+    FindingKind.FREE_READ: "block segment offset",
+    FindingKind.FREE_WRITTEN: "block segment offset",
+    FindingKind.STACK_FREED: "block",
+    FindingKind.WINDOW_LOST: "window segment offset",
+    FindingKind.ROM_WRITTEN: "segment offset",
+    FindingKind.NOTHING_WRITTEN: "segment offset",
+    FindingKind.TAIL_WRITTEN: "header byte",
+    FindingKind.OTHER_FREED: "block owner",
+    FindingKind.NOT_RESIZED: "wanted",
+    FindingKind.HANDLE_KEPT: "handle pages saved",
+    FindingKind.WINDOW_KEPT: "window",
+    FindingKind.BLOCK_KEPT: "handle kib locked",
     FindingKind.UPPER_KEPT: "block",
 }
 # What an act has that was performed in each of these ways.
-_ACTS = {How.INSTRUCTION: "next", How.INTERRUPT: "interrupt", How.FUNCTION: "interrupt function", How.FAR_CALL: "function"}
+_ACTS = {
+    How.INSTRUCTION: "next",
+    How.INTERRUPT: "interrupt",
+    How.FUNCTION: "interrupt function",
+    How.FAR_CALL: "function",
+}
 
 
 def _detail(record: Any, name: str) -> Any:
@@ -265,8 +311,15 @@ def _place(record: Any) -> Place:
 def finding_of(record: Any, line: str) -> Finding:
     kind, how = FindingKind(record.kind), How(record.act.how)
     return Finding(
-        kind, bool(record.is_error), record.step, record.process, _place(record.at),
+        kind,
+        bool(record.is_error),
+        record.step,
+        record.process,
+        _place(record.at),
         Act(how, **{name: getattr(record.act, name) for name in _ACTS[how].split()}),
         Details(**{name: _detail(record.details, name) for name in _DETAILS.get(kind, "").split()}),
-        Origin(record.origin_step, _place(record.origin_at)) if record.origin_step else None, record.more, record.last, line,
+        Origin(record.origin_step, _place(record.origin_at)) if record.origin_step else None,
+        record.more,
+        record.last,
+        line,
     )

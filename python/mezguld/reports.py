@@ -20,7 +20,9 @@ FOUND = re.compile(f"step ([0-9]+), (before )?{ADDRESS} (.+?): (.+)", re.DOTALL)
 ORIGIN = re.compile(f"(.+), (allocated|turned on|freed) by step ([0-9]+), (before )?{ADDRESS}", re.DOTALL)
 AGAIN = re.compile(r"(.+): ([0-9]+) more, the last at step ([0-9]+)", re.DOTALL)
 STOPPED = re.compile(f"stopped: ([a-z ]+?) (at|before) {ADDRESS}(?:: (.+))?")
-PROCESS = re.compile(f"process {WORD} (.*): parent {WORD}, (?:steps ([0-9]+) to ([0-9]+)|from step ([0-9]+))", re.DOTALL)
+PROCESS = re.compile(
+    f"process {WORD} (.*): parent {WORD}, (?:steps ([0-9]+) to ([0-9]+)|from step ([0-9]+))", re.DOTALL
+)
 FUNCTION = re.compile(r"(?:INT ([0-9A-F]{2})h|(XMS)) function ([0-9A-F]{2})h(?: \(.*\))?")
 COUNTS = re.compile(r"([0-9]+), notes: ([0-9]+)")
 INTERRUPT = re.compile(r"INT ([0-9A-F]{2})h")
@@ -42,12 +44,23 @@ KINDS: list[tuple[str, str, list[Any]]] = [
     ("freed_twice", f"block at {WORD} freed twice", [("block", hexadecimal)]),
     ("division_error", "division error ended the process", []),
     ("not_served", "not served", []),
-    ("short", "refused with code ([0-9A-F]{2})h, not enough memory: ([0-9]+) paragraphs? wanted, ([0-9]+) available",
-     [("code", hexadecimal), ("wanted", int), ("available", int)]),
+    (
+        "short",
+        "refused with code ([0-9A-F]{2})h, not enough memory: ([0-9]+) paragraphs? wanted, ([0-9]+) available",
+        [("code", hexadecimal), ("wanted", int), ("available", int)],
+    ),
     ("refused", "refused with code ([0-9A-F]{2})h(?:, .+)?", [("code", hexadecimal)]),
-    ("handle_kept", "EMS handle ([0-9]+): ([0-9]+) pages? not freed(, map not restored)?", [("handle", int), ("pages", int), ("saved", flag)]),
+    (
+        "handle_kept",
+        "EMS handle ([0-9]+): ([0-9]+) pages? not freed(, map not restored)?",
+        [("handle", int), ("pages", int), ("saved", flag)],
+    ),
     ("window_kept", "window ([0-9]+) still mapped", [("window", int)]),
-    ("block_kept", "XMS handle ([0-9]+): ([0-9]+) KiB not freed(, locked)?", [("handle", int), ("kib", int), ("locked", flag)]),
+    (
+        "block_kept",
+        "XMS handle ([0-9]+): ([0-9]+) KiB not freed(, locked)?",
+        [("handle", int), ("kib", int), ("locked", flag)],
+    ),
     ("upper_kept", f"upper block at {WORD} not freed", [("block", hexadecimal)]),
     ("area_kept", "HMA not released", []),
     ("line_kept", "A20 left on", []),
@@ -63,8 +76,26 @@ KINDS: list[tuple[str, str, list[Any]]] = [
 ]
 
 # The order in which parts stand in an object.
-ORDER = ["header", "block", "handle", "window", "code", "old", "new", "byte", "owner", "wanted", "available", "pages", "saved", "kib", "locked",
-         "address", "segment", "offset"]
+ORDER = [
+    "header",
+    "block",
+    "handle",
+    "window",
+    "code",
+    "old",
+    "new",
+    "byte",
+    "owner",
+    "wanted",
+    "available",
+    "pages",
+    "saved",
+    "kib",
+    "locked",
+    "address",
+    "segment",
+    "offset",
+]
 
 
 def address(names: tuple[str, str, str], segment: str, offset: str) -> Members:
@@ -98,8 +129,12 @@ def about(text: str, is_error: bool) -> tuple[str, Members]:
     """The kind of a finding, and what it is about; `unknown` for words of another version."""
     found = re.fullmatch(f"header at {WORD} overwritten: {CONTENTS} became {CONTENTS}", text)
     if found:
-        return "overwritten", {"header": int(found[1], 16), "old": contents(*found.groups()[1:4]), "new": contents(*found.groups()[4:])}
-    rest = text[len(RESIDENT):] if text.startswith(RESIDENT) else text
+        return "overwritten", {
+            "header": int(found[1], 16),
+            "old": contents(*found.groups()[1:4]),
+            "new": contents(*found.groups()[4:]),
+        }
+    rest = text[len(RESIDENT) :] if text.startswith(RESIDENT) else text
     for kind, pattern, parts in KINDS:
         found = re.fullmatch(pattern, rest)
         if not found:
@@ -139,7 +174,15 @@ def finding(text: str, is_error: bool) -> Members:
     step, before, segment, offset, performed, what = groups(FOUND, text)
     words, by = origin(what)
     kind, members = about(words, is_error)
-    return {"kind": kind, "step": int(step), **site(segment, offset, bool(before)), **act(performed), **members, **by, "text": what}
+    return {
+        "kind": kind,
+        "step": int(step),
+        **site(segment, offset, bool(before)),
+        **act(performed),
+        **members,
+        **by,
+        "text": what,
+    }
 
 
 def stopped(line: str) -> Members:
@@ -157,7 +200,14 @@ def process(line: str) -> Members:
     """The object about a process."""
     prefix, name, parent, first, last, only = groups(PROCESS, line)
     ended: Members = {"last": int(last)} if last else {}
-    return {"type": "process", "process": int(prefix, 16), "name": name, "parent": int(parent, 16), "first": int(first or only), **ended}
+    return {
+        "type": "process",
+        "process": int(prefix, 16),
+        "name": name,
+        "parent": int(parent, 16),
+        "first": int(first or only),
+        **ended,
+    }
 
 
 def objects(lines: list[str], status: int | None) -> list[Any]:

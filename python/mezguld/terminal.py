@@ -48,9 +48,40 @@ ENTER, BACKSPACE, ESCAPE, BELL, TAB = 0x0D, 0x08, 0x1B, b"\a", 0x09
 ENDING = tuple(getattr(signal, name) for name in ("SIGINT", "SIGTERM", "SIGHUP", "SIGQUIT") if hasattr(signal, name))
 # What terminals send for keys without a character, and the scan codes that DOS has for them.
 SEQUENCES = {
-    "[A": 0x48, "OA": 0x48, "[B": 0x50, "OB": 0x50, "[C": 0x4D, "OC": 0x4D, "[D": 0x4B, "OD": 0x4B, "[H": 0x47, "OH": 0x47, "[1~": 0x47, "[7~": 0x47,
-    "[F": 0x4F, "OF": 0x4F, "[4~": 0x4F, "[8~": 0x4F, "[2~": 0x52, "[3~": 0x53, "[5~": 0x49, "[6~": 0x51, "OP": 0x3B, "OQ": 0x3C, "OR": 0x3D, "OS": 0x3E,
-    "[11~": 0x3B, "[12~": 0x3C, "[13~": 0x3D, "[14~": 0x3E, "[15~": 0x3F, "[17~": 0x40, "[18~": 0x41, "[19~": 0x42, "[20~": 0x43, "[21~": 0x44,
+    "[A": 0x48,
+    "OA": 0x48,
+    "[B": 0x50,
+    "OB": 0x50,
+    "[C": 0x4D,
+    "OC": 0x4D,
+    "[D": 0x4B,
+    "OD": 0x4B,
+    "[H": 0x47,
+    "OH": 0x47,
+    "[1~": 0x47,
+    "[7~": 0x47,
+    "[F": 0x4F,
+    "OF": 0x4F,
+    "[4~": 0x4F,
+    "[8~": 0x4F,
+    "[2~": 0x52,
+    "[3~": 0x53,
+    "[5~": 0x49,
+    "[6~": 0x51,
+    "OP": 0x3B,
+    "OQ": 0x3C,
+    "OR": 0x3D,
+    "OS": 0x3E,
+    "[11~": 0x3B,
+    "[12~": 0x3C,
+    "[13~": 0x3D,
+    "[14~": 0x3E,
+    "[15~": 0x3F,
+    "[17~": 0x40,
+    "[18~": 0x41,
+    "[19~": 0x42,
+    "[20~": 0x43,
+    "[21~": 0x44,
 }
 KEY = re.compile("\x1b(" + "|".join(re.escape(it) for it in sorted(SEQUENCES, key=len, reverse=True)) + ")|.", re.S)
 
@@ -132,7 +163,15 @@ class Terminal:
 
     def make_raw(self) -> None:
         mode = termios.tcgetattr(self.file)
-        mode[0] &= ~(termios.BRKINT | termios.ICRNL | termios.INLCR | termios.IGNCR | termios.INPCK | termios.ISTRIP | termios.IXON)
+        mode[0] &= ~(
+            termios.BRKINT
+            | termios.ICRNL
+            | termios.INLCR
+            | termios.IGNCR
+            | termios.INPCK
+            | termios.ISTRIP
+            | termios.IXON
+        )
         mode[1] &= ~termios.OPOST
         mode[3] &= ~(termios.ECHO | termios.ICANON | termios.IEXTEN)
         mode[3] |= termios.ISIG
@@ -153,7 +192,9 @@ class Keyboard:
     """The keys of a terminal, each as the bytes that DOS has for it."""
 
     def __init__(self, terminal: Terminal, is_utf8: bool) -> None:
-        self._terminal, self._decoder = terminal, codecs.getincrementaldecoder("utf-8" if is_utf8 else "latin-1")("replace")
+        self._terminal, self._decoder = terminal, codecs.getincrementaldecoder("utf-8" if is_utf8 else "latin-1")(
+            "replace"
+        )
         self._encoding = "cp437" if is_utf8 else "latin-1"
 
     def keys_of(self, data: bytes) -> Iterator[bytes]:
@@ -389,7 +430,9 @@ class Run:
         if function == READ_LINE or (function == READ_HANDLE and registers.bx <= 2 and registers.cx):
             if not (left and self._is_line):
                 self._read_line()
-        elif left == 0 and (function in READ_KEY or function == STATUS or (function == POLL and registers.dx & 0xFF == 0xFF)):
+        elif left == 0 and (
+            function in READ_KEY or function == STATUS or (function == POLL and registers.dx & 0xFF == 0xFF)
+        ):
             self._feed()
 
     def _feed(self) -> None:
@@ -399,7 +442,8 @@ class Run:
             self._machine.supply(self._fed)
 
     def _read_line(self) -> None:
-        """Has a line typed, and supplies it. Function 0Ah shows 0Dh at its end, 3Fh 0Dh and 0Ah, which it reads, too."""
+        """Has a line typed, and supplies it. Function 0Ah shows 0Dh at its end, 3Fh 0Dh and 0Ah, which it reads,
+        too."""
         registers, of_handle = self._machine.registers, self._function() == READ_HANDLE
         end = b"\r\n" if of_handle else b"\r"
         room = MOST_LINE if of_handle else self._machine.read(registers.ds, registers.dx, 1)[0] - 1

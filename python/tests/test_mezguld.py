@@ -19,7 +19,24 @@ ROOT = os.path.dirname(os.path.dirname(os.path.dirname(os.path.abspath(__file__)
 sys.path.insert(0, os.path.join(ROOT, "python"))
 import mezguld  # noqa: E402
 from mezguld import (  # noqa: E402
-    Act, Block, Contents, Details, Ended, Event, Expanded, Extended, FindingKind, How, Machine, Origin, PageHandle, Place, Stop, Stopped, UpperBlock, Window,
+    Act,
+    Block,
+    Contents,
+    Details,
+    Ended,
+    Event,
+    Expanded,
+    Extended,
+    FindingKind,
+    How,
+    Machine,
+    Origin,
+    PageHandle,
+    Place,
+    Stop,
+    Stopped,
+    UpperBlock,
+    Window,
 )
 
 # Prints what it reads until there is no input.
@@ -92,9 +109,14 @@ class Events(unittest.TestCase):
 
     def test_a_call(self) -> None:
         with started("MOV AH,2\nMOV DL,41h\nINT 21h\nMOV AH,30h\nINT 21h\n" + END) as machine:
-            self.assertEqual(machine.run_to(100, [Event.at_function(0x21, 0x30), Event.at_call(0x21)]).event, Event.at_call(0x21))
+            self.assertEqual(
+                machine.run_to(100, [Event.at_function(0x21, 0x30), Event.at_call(0x21)]).event, Event.at_call(0x21)
+            )
             self.assertEqual((machine.steps, machine.output()), (2, b""))
-            self.assertEqual(machine.run_to(100, [Event.at_function(0x21, 0x30), Event.at_call(0x21)]).event, Event.at_function(0x21, 0x30))
+            self.assertEqual(
+                machine.run_to(100, [Event.at_function(0x21, 0x30), Event.at_call(0x21)]).event,
+                Event.at_function(0x21, 0x30),
+            )
             self.assertEqual(machine.output(), b"A")
             self.assertEqual(machine.run_to(100, [Event.at_call(0x20)]), Ended(Stop.EXITED, 7, None))
             self.assertEqual(machine.run_to(0, [Event.at_call(0x20)]), Ended(Stop.EXITED, 7, None))
@@ -159,7 +181,10 @@ class Input(unittest.TestCase):
                     for at in range(0, len(data), size):
                         machine.supply(data[at : at + size])
                         machine.run(10_000)
-                    self.assertEqual((machine.output(), machine.registers, machine.steps), (whole.output(), whole.registers, whole.steps))
+                    self.assertEqual(
+                        (machine.output(), machine.registers, machine.steps),
+                        (whole.output(), whole.registers, whole.steps),
+                    )
 
     def test_function_3fh_waits_while_the_input_is_open(self) -> None:
         # Reads up to eight bytes, and ends with their count.
@@ -189,7 +214,13 @@ class Input(unittest.TestCase):
 
     def test_nothing_is_loaded(self) -> None:
         with Machine() as machine:
-            for call in (machine.open_input, machine.close_input, lambda: machine.supply(b""), lambda: machine.input_left, lambda: machine.output_count):
+            for call in (
+                machine.open_input,
+                machine.close_input,
+                lambda: machine.supply(b""),
+                lambda: machine.input_left,
+                lambda: machine.output_count,
+            ):
                 self.assertRaises(mezguld.NotLoaded, call)
             self.assertRaises(mezguld.NotLoaded, setattr, machine, "registers", (0,) * 14)
 
@@ -276,7 +307,9 @@ class Memory(unittest.TestCase):
 
     def test_segments_print_in_hexadecimal(self) -> None:
         with started(END) as machine:
-            self.assertEqual(repr(machine.blocks()[0]), "Block(segment=0x0100, last=False, owner=0x0103, size=1, list=0)")
+            self.assertEqual(
+                repr(machine.blocks()[0]), "Block(segment=0x0100, last=False, owner=0x0103, size=1, list=0)"
+            )
             self.assertEqual(str(machine.registers)[:31], "Registers(ax=0x0000, bx=0x0000,")
             self.assertIn("sp=0xFFFE", f"{machine.registers}")
 
@@ -293,7 +326,16 @@ class Records(unittest.TestCase):
         with started(DRIVERS) as machine:
             machine.run(1000)
             expanded, extended = machine.expanded(), machine.extended()
-            told = [*machine.blocks(), *expanded.handles, expanded.windows[1], expanded, *extended.blocks, *extended.upper, extended, *machine.code(0x0103, 0x0100, 2)]
+            told = [
+                *machine.blocks(),
+                *expanded.handles,
+                expanded.windows[1],
+                expanded,
+                *extended.blocks,
+                *extended.upper,
+                extended,
+                *machine.code(0x0103, 0x0100, 2),
+            ]
             machine.check(1)
         for it in told:
             with self.subTest(type(it).__name__):
@@ -309,8 +351,10 @@ class Records(unittest.TestCase):
     def test_what_is_given_wrong_is_named(self) -> None:
         with started(END) as machine:
             for word, call in (
-                ("breakpoints are a list", lambda: machine.run_until(5, (0x0103, 0x0100))), ("events are a list", lambda: machine.run_to(5, Event.at_call(0x21))),
-                ("steps is '5'", lambda: machine.run("5")), ("bytes are wanted", lambda: machine.write(0, 0, "text")),
+                ("breakpoints are a list", lambda: machine.run_until(5, (0x0103, 0x0100))),
+                ("events are a list", lambda: machine.run_to(5, Event.at_call(0x21))),
+                ("steps is '5'", lambda: machine.run("5")),
+                ("bytes are wanted", lambda: machine.write(0, 0, "text")),
                 ("all registers are wanted", lambda: setattr(machine, "registers", {"ax": 1})),
             ):
                 self.assertRaisesRegex(TypeError, word, call)
@@ -321,9 +365,14 @@ class Records(unittest.TestCase):
             self.assertIsNotNone(getattr(mezguld, name))
         self.assertRaises(AttributeError, getattr, mezguld, "Nothing")
         self.assertIs(mezguld.Block, mezguld.records.Block)
-        program = "import sys, mezguld; before = 'mezguld.records' in sys.modules; mezguld.Block; print(before, 'mezguld.records' in sys.modules)"
+        program = (
+            "import sys, mezguld; before = 'mezguld.records' in sys.modules; mezguld.Block; print(before,"
+            " 'mezguld.records' in sys.modules)"
+        )
         environment = {**os.environ, "PYTHONPATH": os.path.join(ROOT, "python")}
-        said = subprocess.run([sys.executable, "-c", program], env=environment, stdout=subprocess.PIPE, check=True).stdout
+        said = subprocess.run(
+            [sys.executable, "-c", program], env=environment, stdout=subprocess.PIPE, check=True
+        ).stdout
         self.assertEqual(said.split(), [b"False", b"True"])
 
 
@@ -332,7 +381,9 @@ class Reports(unittest.TestCase):
 
     def test_of_a_run(self) -> None:
         # Writes over the header at 0102h, calls 48h three times at one place, and ends.
-        text = "MOV AX,102h\nMOV ES,AX\nES MOV BYTE [0],0\nMOV CX,3\nnext: MOV AH,48h\nMOV BX,1\nINT 21h\nLOOP next\nHLT\n"
+        text = (
+            "MOV AX,102h\nMOV ES,AX\nES MOV BYTE [0],0\nMOV CX,3\nnext: MOV AH,48h\nMOV BX,1\nINT 21h\nLOOP next\nHLT\n"
+        )
         with started(text) as machine:
             self.assertEqual((machine.findings(), machine.findings().errors), ([], 0))
             stopped, report = machine.check(1000)
@@ -346,10 +397,19 @@ class Reports(unittest.TestCase):
         self.assertEqual((found.errors, found.notes, found.not_listed, len(found)), (2, 3, 0, 3))
         place, act = Place(0x0103, 0x0105), Act(How.INSTRUCTION, next=0x010B)
         old, new = Contents(0x5A, 0x0103, 0x9EFD), Contents(0, 0x0103, 0x9EFD)
-        self.assertEqual(fields(found[0])[:10], (FindingKind.OVERWRITTEN, True, 3, 0x0103, place, act, Details(old, new, header=0x0102), None, 0, 3))
-        self.assertEqual(fields(found[1])[:10], (FindingKind.DESTROYED, True, 3, 0x0103, place, act, Details(header=0x0102), None, 0, 3))
+        self.assertEqual(
+            fields(found[0])[:10],
+            (FindingKind.OVERWRITTEN, True, 3, 0x0103, place, act, Details(old, new, header=0x0102), None, 0, 3),
+        )
+        self.assertEqual(
+            fields(found[1])[:10],
+            (FindingKind.DESTROYED, True, 3, 0x0103, place, act, Details(header=0x0102), None, 0, 3),
+        )
         act = Act(How.FUNCTION, interrupt=0x21, function=0x48)
-        self.assertEqual(fields(found[2])[:10], (FindingKind.REFUSED, False, 8, 0x0103, Place(0x0103, 0x0113), act, Details(code=7), None, 2, 18))
+        self.assertEqual(
+            fields(found[2])[:10],
+            (FindingKind.REFUSED, False, 8, 0x0103, Place(0x0103, 0x0113), act, Details(code=7), None, 2, 18),
+        )
         self.assertEqual([it.line for it in found], report.splitlines()[:3])
         self.assertEqual(found[1].line, "error: step 3, 0103:0105 ES MOV BYTE [00000h],000h: arena destroyed at 0102")
         self.assertEqual(f"{found[0].details}", f"Details(old_contents={old}, new_contents={new}, header=258)")
@@ -358,15 +418,23 @@ class Reports(unittest.TestCase):
     def test_who_freed_and_who_allocated(self) -> None:
         # Keeps 512 bytes with its stack, allocates a paragraph and frees it, reads it, and ends with a page of expanded
         # memory.
-        text = """MOV SP,200h\nMOV BX,20h\nMOV AH,4Ah\nINT 21h\nMOV BX,1\nMOV AH,48h\nINT 21h\nMOV ES,AX\nMOV AH,49h\nINT 21h\nES MOV AL,[0]
-            MOV BX,1\nMOV AH,43h\nINT 67h\nMOV AX,4C00h\nINT 21h\n"""
+        text = (
+            "MOV SP,200h\nMOV BX,20h\nMOV AH,4Ah\nINT 21h\nMOV BX,1\nMOV AH,48h\nINT 21h\n"
+            "MOV ES,AX\nMOV AH,49h\nINT 21h\nES MOV AL,[0]\n"
+            "MOV BX,1\nMOV AH,43h\nINT 67h\nMOV AX,4C00h\nINT 21h\n"
+        )
         with started(text) as machine:
             machine.check(1000)
             read, kept = machine.findings()
         self.assertEqual((read.kind, read.step, read.at), (FindingKind.FREE_READ, 14, Place(0x0103, 0x0117)))
-        self.assertEqual((read.details, read.origin), (Details(block=0x0124, segment=0x0124, offset=0), Origin(13, Place(0x0103, 0x0115))))
+        self.assertEqual(
+            (read.details, read.origin),
+            (Details(block=0x0124, segment=0x0124, offset=0), Origin(13, Place(0x0103, 0x0115))),
+        )
         # (The call of 43h is step 18: MOV, MOV and INT are before it.)
-        self.assertEqual((kept.kind, kept.is_error, kept.origin), (FindingKind.HANDLE_KEPT, True, Origin(18, Place(0x0103, 0x0120))))
+        self.assertEqual(
+            (kept.kind, kept.is_error, kept.origin), (FindingKind.HANDLE_KEPT, True, Origin(18, Place(0x0103, 0x0120)))
+        )
         self.assertEqual(kept.details, Details(handle=1, pages=1, saved=False))
 
     def test_of_many(self) -> None:
@@ -374,9 +442,12 @@ class Reports(unittest.TestCase):
         with started("MOV AH,0EEh\nINT 21h\n" * 120 + END) as machine:
             machine.check(1000)
             found = machine.findings()
-        self.assertEqual((len(found), found.errors, found.notes, found.not_listed, found.unlisted), (100, 0, 120, 20, 20))
+        self.assertEqual((len(found), found.errors, found.notes, found.not_listed), (100, 0, 120, 20))
         self.assertEqual([(it.step, it.at.ip) for it in found], [(3 + 3 * at, 0x0102 + 4 * at) for at in range(100)])
-        self.assertEqual({(it.kind, it.act, it.details) for it in found}, {(FindingKind.REFUSED, Act(How.FUNCTION, None, 0x21, 0xEE), Details(code=1))})
+        self.assertEqual(
+            {(it.kind, it.act, it.details) for it in found},
+            {(FindingKind.REFUSED, Act(How.FUNCTION, None, 0x21, 0xEE), Details(code=1))},
+        )
 
 
 # Allocates two pages, names their handle and maps the second one into window 1; allocates 16 KiB and 8 paragraphs by
@@ -447,7 +518,10 @@ class Drivers(unittest.TestCase):
             nobody = PageHandle(0, 0, bytes(8))
             self.assertEqual(machine.expanded(), Expanded([nobody], [None] * 4))
             self.assertEqual(machine.run(1000).why, Stop.HALTED)
-            self.assertEqual(machine.expanded(), Expanded([nobody, PageHandle(1, 2, b"EIGHT<<<", False)], [None, Window(1, 1), None, None]))
+            self.assertEqual(
+                machine.expanded(),
+                Expanded([nobody, PageHandle(1, 2, b"EIGHT<<<", False)], [None, Window(1, 1), None, None]),
+            )
 
     def test_extended_memory(self) -> None:
         with started(DRIVERS) as machine:
@@ -471,15 +545,25 @@ class Drivers(unittest.TestCase):
             self.assertEqual((machine.read_page(1, 1, 5, 4), machine.read_page(1, 0)), (b"\0AB\0", bytes(0x4000)))
             page = bytearray(0x4000)
             page[6:8] = b"AB"
-            self.assertEqual((machine.read_page(1, 1), machine.read_page(1, 1, 0x3FFF), machine.read_page(1, 1, 0x4000)), (page, b"\0", b""))
+            self.assertEqual(
+                (machine.read_page(1, 1), machine.read_page(1, 1, 0x3FFF), machine.read_page(1, 1, 0x4000)),
+                (page, b"\0", b""),
+            )
             # What is written by linear addresses is seen.
             machine.write(0xE000, 0x3FFF, b"x")
             self.assertEqual((machine.read_page(1, 0, 0x3FFE), machine.read_page(1, 0, 0, 0)), (b"\0x", b""))
-            self.assertEqual((machine.read_block(1, 6, 10), len(machine.read_block(1)), machine.read_block(1, 2048)), (b"\0\0string\0\0", 2048, b""))
+            self.assertEqual(
+                (machine.read_block(1, 6, 10), len(machine.read_block(1)), machine.read_block(1, 2048)),
+                (b"\0\0string\0\0", 2048, b""),
+            )
             self.assertEqual(machine.read_block(1), bytes(8) + b"string" + bytes(2034))
             for call, arguments in (
-                (machine.read_page, (1, 1, 0x4001)), (machine.read_page, (1, 1, 1, 0x4000)), (machine.read_page, (1, 0, 2**64 - 1, 1)),
-                (machine.read_block, (1, 2049)), (machine.read_block, (1, 2047, 2)), (machine.read_block, (1, 2**64 - 1, 1)),
+                (machine.read_page, (1, 1, 0x4001)),
+                (machine.read_page, (1, 1, 1, 0x4000)),
+                (machine.read_page, (1, 0, 2**64 - 1, 1)),
+                (machine.read_block, (1, 2049)),
+                (machine.read_block, (1, 2047, 2)),
+                (machine.read_block, (1, 2**64 - 1, 1)),
             ):
                 self.assertRaises(mezguld.PastEnd, call, *arguments)
             self.assertRaises(mezguld.NoPage, machine.read_page, 1, 2)
@@ -495,7 +579,9 @@ class Drivers(unittest.TestCase):
             machine.load("MAIN.COM")
             blocks = machine.blocks()
             self.assertEqual([it.segment for it in blocks if it.list == 1], [0x9FFF, 0xD000])
-            self.assertEqual([fields(it)[1:4] for it in blocks if it.list == 1], [(False, 8, 0x3000), (True, 0, 0x0FFF)])
+            self.assertEqual(
+                [fields(it)[1:4] for it in blocks if it.list == 1], [(False, 8, 0x3000), (True, 0, 0x0FFF)]
+            )
             self.assertEqual([it.list for it in blocks if it.last], [0, 1])
             machine.write(0xD000, 0, b"?")
             self.assertEqual((machine.blocks(), machine.blocks().destroyed), (blocks[:-1], 0xD000))
@@ -518,9 +604,14 @@ class Drivers(unittest.TestCase):
     def test_code(self) -> None:
         with started("MOV AX,4C07h\nINT 21h\nDB 0Fh\n") as machine:
             found = machine.code(0x0103, 0x0100, 3)
-            self.assertEqual([(it.offset, it.data) for it in found], [(0x0100, b"\xb8\x07\x4c"), (0x0103, b"\xcd\x21"), (0x0105, b"\x0f")])
+            self.assertEqual(
+                [(it.offset, it.data) for it in found],
+                [(0x0100, b"\xb8\x07\x4c"), (0x0103, b"\xcd\x21"), (0x0105, b"\x0f")],
+            )
             self.assertEqual([it.text for it in found], ["MOV AX,04C07h", "INT 021h", "DB"])
-            self.assertEqual(repr(found[1]), "Instruction(segment=0x0103, offset=0x0103, data=b'\\xcd!', text='INT 021h')")
+            self.assertEqual(
+                repr(found[1]), "Instruction(segment=0x0103, offset=0x0103, data=b'\\xcd!', text='INT 021h')"
+            )
             self.assertEqual((machine.code(0, 0, 0), len(machine.code(0x0103, 0xFFFE))), ([], 8))
             self.assertRaises(ValueError, machine.code, 0, 0, 0x1001)
             self.assertRaises(ValueError, machine.code, 0x10000, 0)
@@ -671,7 +762,9 @@ class Errors(unittest.TestCase):
         self.assertEqual((caught.exception.status, str(caught.exception)), (14, "no program is loaded"))
         with self.assertRaises(mezguld.LineRefused) as caught:
             mezguld.assemble("NOP\nJMP away\n")
-        self.assertEqual((caught.exception.status, str(caught.exception)), (18, "line 2: it names a label that no line has"))
+        self.assertEqual(
+            (caught.exception.status, str(caught.exception)), (18, "line 2: it names a label that no line has")
+        )
 
 
 class NoCalls:
@@ -718,7 +811,12 @@ class WrongArguments(unittest.TestCase):
 
     def test_steps(self) -> None:
         with started(END) as machine:
-            for call in (machine.run, machine.check, lambda steps: machine.run_until(steps, []), lambda steps: machine.run_to(steps, [])):
+            for call in (
+                machine.run,
+                machine.check,
+                lambda steps: machine.run_until(steps, []),
+                lambda steps: machine.run_to(steps, []),
+            ):
                 for number in self.NUMBERS:
                     self.refuses(ValueError, call, number)
                 for other in self.NO_NUMBERS:
@@ -755,8 +853,14 @@ class WrongArguments(unittest.TestCase):
         with started(END) as machine:
             for number in (-1, 2**32, 2**64, -(2**64)):
                 for event in (
-                    Event.at(number, 0), Event.at(0, number), Event.at_address(number), Event.at_change(number), Event.at_change(0, number),
-                    Event.at_call(number), Event.at_function(number, 0), Event.at_function(0, number),
+                    Event.at(number, 0),
+                    Event.at(0, number),
+                    Event.at_address(number),
+                    Event.at_change(number),
+                    Event.at_change(0, number),
+                    Event.at_call(number),
+                    Event.at_function(number, 0),
+                    Event.at_function(0, number),
                 ):
                     self.refuses(ValueError, machine.run_to, 5, [Event.at(0, 0), event])
             self.refuses(ValueError, machine.run_to, 5, [Event.at_call(256)])
@@ -849,13 +953,23 @@ class WrongArguments(unittest.TestCase):
             self.refuses(TypeError, machine.load, "MAIN.COM", other)
             self.refuses(TypeError, machine.command, other)
             self.refuses(TypeError, mezguld.assemble, other)
-        for call in (lambda text: machine.add(text, b""), machine.load, lambda text: machine.load("MAIN.COM", text), machine.command):
+        for call in (
+            lambda text: machine.add(text, b""),
+            machine.load,
+            lambda text: machine.load("MAIN.COM", text),
+            machine.command,
+        ):
             self.refuses(ValueError, call, "\u1234")
         machine.load("MAIN.COM")
 
     def test_what_has_a_buffer_is_bytes(self) -> None:
         with started(END) as machine:
-            for data in (b"\x90\x91", bytearray(b"\x90\x91"), memoryview(b"\x90?\x91?")[::2], (ctypes.c_ubyte * 2)(0x90, 0x91)):
+            for data in (
+                b"\x90\x91",
+                bytearray(b"\x90\x91"),
+                memoryview(b"\x90?\x91?")[::2],
+                (ctypes.c_ubyte * 2)(0x90, 0x91),
+            ):
                 machine.write(0x3000, 0, bytes(2))
                 machine.write(0x3000, 0, data)
                 self.assertEqual(machine.read(0x3000, 0, 3), b"\x90\x91\x00")
@@ -873,7 +987,10 @@ class Copies(unittest.TestCase):
                 machine.run(steps)
                 for call in (copy.copy, copy.deepcopy):
                     with call(machine) as other:
-                        self.assertEqual((other.registers, other.steps, other.output()), (machine.registers, machine.steps, machine.output()))
+                        self.assertEqual(
+                            (other.registers, other.steps, other.output()),
+                            (machine.registers, machine.steps, machine.output()),
+                        )
                         self.assertEqual(other.run(10_000).why, Stop.INPUT_ENDED)
                         self.assertEqual(other.output(), b"abcdef")
             self.assertEqual(machine.run(10_000).why, Stop.INPUT_ENDED)
@@ -978,13 +1095,18 @@ class Threads(unittest.TestCase):
             with self.subTest(name), started(LOOP) as machine:
 
                 def often() -> list:
-                    return [in_threads(lambda: call(machine))[0] if turn == 0 else self.tried(call, machine) for turn in range(100)]
+                    return [
+                        in_threads(lambda: call(machine))[0] if turn == 0 else self.tried(call, machine)
+                        for turn in range(100)
+                    ]
 
                 for results in in_threads(often, often, often, often):
                     self.assertIsInstance(results, list)
                     for result in results:
                         self.assertNotIsInstance(result, mezguld.NoMachine)
-                        self.assertTrue(not isinstance(result, BaseException) or isinstance(result, mezguld.Started), repr(result))
+                        self.assertTrue(
+                            not isinstance(result, BaseException) or isinstance(result, mezguld.Started), repr(result)
+                        )
                 if name in ("run", "run_until", "check", "command G"):
                     self.assertEqual(machine.steps, 4 * 100 * 3)
 
@@ -1012,14 +1134,19 @@ class Threads(unittest.TestCase):
             def asked(line: str) -> set:
                 return {machine.command(line) for _ in range(300)}
 
-            self.assertEqual(in_threads(*(lambda line=line: asked(line) for line in answers)), [{answer} for answer in answers.values()])
+            self.assertEqual(
+                in_threads(*(lambda line=line: asked(line) for line in answers)),
+                [{answer} for answer in answers.values()],
+            )
 
     def test_close_waits(self) -> None:
         for name in ("run", "run_until", "check", "command G"):
             machine = started(LOOP)
             calls = {
-                "run": lambda: machine.run(self.STEPS).why, "run_until": lambda: machine.run_until(self.STEPS, []).why,
-                "check": lambda: machine.check(1_000_000)[0].why, "command G": lambda: machine.command("G 1000000")[:5],
+                "run": lambda: machine.run(self.STEPS).why,
+                "run_until": lambda: machine.run_until(self.STEPS, []).why,
+                "check": lambda: machine.check(1_000_000)[0].why,
+                "command G": lambda: machine.command("G 1000000")[:5],
             }
             begun = threading.Event()
 
@@ -1060,7 +1187,11 @@ class Threads(unittest.TestCase):
         gc.collect()
         gc.disable()
         try:
-            for call in (lambda machine: machine.run(1_000_000), lambda machine: machine.command("G 1000000"), lambda machine: machine.check(1_000_000)):
+            for call in (
+                lambda machine: machine.run(1_000_000),
+                lambda machine: machine.command("G 1000000"),
+                lambda machine: machine.check(1_000_000),
+            ):
                 machine = Machine()
                 self.assertRaises(mezguld.NotLoaded, call, machine)
                 lost = weakref.ref(machine)
@@ -1102,31 +1233,52 @@ class Slices(unittest.TestCase):
                 with started(text, input=b"ab") as whole:
                     wanted = whole.run(steps), self.seen(whole)
                 for size in self.SIZES:
-                    with self.subTest(text=text, steps=steps, size=size), self.sliced(size), started(text, input=b"ab") as machine:
+                    with self.subTest(text=text, steps=steps, size=size), self.sliced(size), started(
+                        text, input=b"ab"
+                    ) as machine:
                         self.assertEqual((machine.run(steps), self.seen(machine)), wanted)
 
     def test_runs_to_breakpoints(self) -> None:
         offsets = [*range(0x100, 0x11C)]
-        sets = [[(0x0103, offset)] for offset in offsets] + [[(0xF000, 0x84)], [(0x0103, offset) for offset in offsets], [(0x0104, 0xF0)], []]
+        sets = [[(0x0103, offset)] for offset in offsets] + [
+            [(0xF000, 0x84)],
+            [(0x0103, offset) for offset in offsets],
+            [(0x0104, 0xF0)],
+            [],
+        ]
         for points in sets:
             for turns in (1, 3):
                 for steps in (0, 1, 2, 5, 23, 40):
                     with started(TURNS) as whole:
                         wanted = [whole.run_until(steps, points) for _ in range(turns)], self.seen(whole)
                     for size in (1, 2, 5):
-                        with self.subTest(points=points, steps=steps, size=size), self.sliced(size), started(TURNS) as machine:
-                            self.assertEqual(([machine.run_until(steps, points) for _ in range(turns)], self.seen(machine)), wanted)
+                        with self.subTest(points=points, steps=steps, size=size), self.sliced(size), started(
+                            TURNS
+                        ) as machine:
+                            self.assertEqual(
+                                ([machine.run_until(steps, points) for _ in range(turns)], self.seen(machine)), wanted
+                            )
 
     def test_the_command_g(self) -> None:
         odd = ["G 00000001", "G FFFFFFFFF", "G 5 5", "G x", " G 2"]
-        for lines in (["G"], ["g 5", "G 0"], ["B 0103:010A", "G", "G 3", "G"], ["B 0103:0100", "G 1", "G 64", "G"], odd):
+        for lines in (
+            ["G"],
+            ["g 5", "G 0"],
+            ["B 0103:010A", "G", "G 3", "G"],
+            ["B 0103:0100", "G 1", "G 64", "G"],
+            odd,
+        ):
             for text in (TURNS, END):
                 answers = []
                 for size in (1 << 30, 1, 2, 5, 1000):
                     with self.sliced(size), mock.patch.object(mezguld, "_GO_STEPS", "200"), started(text) as machine:
                         # (The first goes to the library whole.)
                         call = machine._answered if size == 1 << 30 else machine.command
-                        shown = [line.replace("G", "G 200") if line == "G" else line for line in lines] if size == 1 << 30 else lines
+                        shown = (
+                            [line.replace("G", "G 200") if line == "G" else line for line in lines]
+                            if size == 1 << 30
+                            else lines
+                        )
                         answers.append(([self.answered(call, line) for line in shown], self.seen(machine)))
                 self.assertEqual(answers[1:], answers[:1] * 4)
 
@@ -1197,7 +1349,11 @@ class Interrupts(unittest.TestCase):
             self.assertEqual(machine.check(5)[0], Stopped(Stop.STEPS, 0))
 
     def test_the_end_of_a_with_block(self) -> None:
-        for call in (lambda machine: machine.run(MOST), lambda machine: machine.check(self.CHECKED), lambda machine: machine.command("G FFFFFFFF")):
+        for call in (
+            lambda machine: machine.run(MOST),
+            lambda machine: machine.check(self.CHECKED),
+            lambda machine: machine.command("G FFFFFFFF"),
+        ):
             machines = []
 
             def whole() -> None:

@@ -30,9 +30,19 @@ class Found(unittest.TestCase):
     def imported(self, **environment: str) -> Tuple[int, str]:
         """The status of a program that imports the package and assembles a line, and its last line."""
         code = "import mezguld; print(mezguld.assemble('NOP\\n'), mezguld._library._name)"
-        given: Dict[str, str] = {name: value for name, value in os.environ.items() if name not in ("MEZGULD_LIBRARY", "LD_LIBRARY_PATH")}
+        given: Dict[str, str] = {
+            name: value for name, value in os.environ.items() if name not in ("MEZGULD_LIBRARY", "LD_LIBRARY_PATH")
+        }
         given.update(environment, PYTHONPATH=self.folder)
-        ran = subprocess.run([sys.executable, "-c", code], cwd=self.folder, env=given, capture_output=True, text=True, timeout=60, check=False)
+        ran = subprocess.run(
+            [sys.executable, "-c", code],
+            cwd=self.folder,
+            env=given,
+            capture_output=True,
+            text=True,
+            timeout=60,
+            check=False,
+        )
         return ran.returncode, (ran.stdout + ran.stderr).strip().split("\n")[-1]
 
     def test_beside_the_package(self) -> None:
@@ -42,7 +52,9 @@ class Found(unittest.TestCase):
     def test_the_variable_comes_first(self) -> None:
         shutil.copy(LIBRARY, f"{self.folder}/mezguld/libmezguld.so")
         shutil.copy(LIBRARY, f"{self.folder}/another")
-        self.assertEqual(self.imported(MEZGULD_LIBRARY=f"{self.folder}/another"), (0, f"b'\\x90' {self.folder}/another"))
+        self.assertEqual(
+            self.imported(MEZGULD_LIBRARY=f"{self.folder}/another"), (0, f"b'\\x90' {self.folder}/another")
+        )
 
     def test_by_the_loader(self) -> None:
         shutil.copy(LIBRARY, f"{self.folder}/{SONAME}")
@@ -57,7 +69,9 @@ class Found(unittest.TestCase):
     def test_another_library(self) -> None:
         status, told = self.imported(MEZGULD_LIBRARY="libc.so.6")
         self.assertEqual(status, 1)
-        self.assertRegex(told, "^ImportError: the library libc.so.6 is not that of Mezguld .*: it has no mezguld_version$")
+        self.assertRegex(
+            told, "^ImportError: the library libc.so.6 is not that of Mezguld .*: it has no mezguld_version$"
+        )
 
 
 class Told(unittest.TestCase):
@@ -78,7 +92,9 @@ class Told(unittest.TestCase):
         self.assertIsNotNone(example)
         code = "\n".join(line[4:] for line in example[1].split("\n")) if example else ""
         environment = {**os.environ, "PYTHONPATH": os.path.dirname(PACKAGE)}
-        ran = subprocess.run([sys.executable, "-c", code], env=environment, capture_output=True, timeout=60, check=False)
+        ran = subprocess.run(
+            [sys.executable, "-c", code], env=environment, capture_output=True, timeout=60, check=False
+        )
         self.assertEqual((ran.returncode, ran.stdout), (0, b"b'!'\n"))
 
 

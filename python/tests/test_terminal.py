@@ -57,9 +57,16 @@ CMP DL,'q'
 JNE next
 MOV AH,4Ch
 INT 21h
-""".replace("'>'", "62").replace("'q'", "113")
+""".replace(
+    "'>'", "62"
+).replace(
+    "'q'", "113"
+)
 # The same by function 06h, without a poll before.
-DIRECT = "next: MOV DL,0FFh\nMOV AH,6\nINT 21h\nJE next\nMOV DL,AL\nMOV AH,2\nINT 21h\nCMP DL,113\nJNE next\nMOV AH,4Ch\nINT 21h\n"
+DIRECT = (
+    "next: MOV DL,0FFh\nMOV AH,6\nINT 21h\nJE next\nMOV DL,AL\nMOV AH,2\nINT 21h\nCMP DL,113\nJNE next\n"
+    "MOV AH,4Ch\nINT 21h\n"
+)
 # Reads by 3Fh and writes what it got in brackets, up to the end of the file; its exit code is the number of reads.
 READ = """next: MOV BX,0
 MOV CX,64
@@ -110,7 +117,11 @@ while True:
 
 
 def environment() -> Dict[str, str]:
-    return {**os.environ, "PYTHONPATH": PACKAGE, "MEZGULD_LIBRARY": os.path.abspath(mezguld._library._name)}  # pylint: disable=protected-access
+    return {
+        **os.environ,
+        "PYTHONPATH": PACKAGE,
+        "MEZGULD_LIBRARY": os.path.abspath(mezguld._library._name),
+    }  # pylint: disable=protected-access
 
 
 class Programs(unittest.TestCase):
@@ -249,7 +260,13 @@ class AtTerminal(Programs):
     def test_keys_without_a_character(self) -> None:
         self.start(POLL)
         self.wait_raw(True)
-        for sent, shown in ((b"\x1b[A", b"\0H"), (b"\x1bOP", b"\0;"), (b"\x1b[6~", b"\0Q"), (b"\x1b", b"\x1b"), (b"\x7f", b"\b")):
+        for sent, shown in (
+            (b"\x1b[A", b"\0H"),
+            (b"\x1bOP", b"\0;"),
+            (b"\x1b[6~", b"\0Q"),
+            (b"\x1b", b"\x1b"),
+            (b"\x7f", b"\b"),
+        ):
             self.type(sent)
             self.until(shown)
         self.type(b"q")
@@ -337,7 +354,15 @@ class WithoutTerminal(Programs):
     """A program with pipes and files."""
 
     def ran(self, text: str, *options: str, **more: object) -> Tuple[int, bytes, bytes]:
-        done = subprocess.run(self.words(text, *options), env=environment(), stdout=subprocess.PIPE, stderr=subprocess.PIPE, timeout=SECONDS, check=False, **more)
+        done = subprocess.run(
+            self.words(text, *options),
+            env=environment(),
+            stdout=subprocess.PIPE,
+            stderr=subprocess.PIPE,
+            timeout=SECONDS,
+            check=False,
+            **more,
+        )
         return done.returncode, done.stdout, done.stderr
 
     def test_a_pipe(self) -> None:
@@ -360,19 +385,33 @@ class WithoutTerminal(Programs):
 
     def test_standard_input_is_closed(self) -> None:
         words = ["sh", "-c", 'exec "$@" <&-', "sh", *self.words(ASK)]
-        done = subprocess.run(words, env=environment(), stdout=subprocess.PIPE, stderr=subprocess.PIPE, timeout=SECONDS, check=False)
+        done = subprocess.run(
+            words, env=environment(), stdout=subprocess.PIPE, stderr=subprocess.PIPE, timeout=SECONDS, check=False
+        )
         self.assertEqual((done.returncode, done.stdout, done.stderr), (125, b"Name? ", b"stopped: input ended\n"))
 
     def test_standard_output_is_full_or_closed(self) -> None:
         with open("/dev/full", "wb") as full:
-            done = subprocess.run(self.words(ASK), env=environment(), stdin=subprocess.DEVNULL, stdout=full, stderr=subprocess.PIPE, timeout=SECONDS, check=False)
+            done = subprocess.run(
+                self.words(ASK),
+                env=environment(),
+                stdin=subprocess.DEVNULL,
+                stdout=full,
+                stderr=subprocess.PIPE,
+                timeout=SECONDS,
+                check=False,
+            )
         self.assertEqual((done.returncode, done.stderr), (126, b"mezguld: cannot write standard output\n"))
         words = ["sh", "-c", 'exec "$@" >&-', "sh", *self.words(ASK)]
-        done = subprocess.run(words, env=environment(), stdin=subprocess.DEVNULL, stderr=subprocess.PIPE, timeout=SECONDS, check=False)
+        done = subprocess.run(
+            words, env=environment(), stdin=subprocess.DEVNULL, stderr=subprocess.PIPE, timeout=SECONDS, check=False
+        )
         self.assertEqual((done.returncode, done.stderr), (126, b"mezguld: cannot write standard output\n"))
 
     def test_a_conversation_over_pipes(self) -> None:
-        with subprocess.Popen(self.words(READ), env=environment(), stdin=subprocess.PIPE, stdout=subprocess.PIPE, bufsize=0) as process:
+        with subprocess.Popen(
+            self.words(READ), env=environment(), stdin=subprocess.PIPE, stdout=subprocess.PIPE, bufsize=0
+        ) as process:
             for line in (b"one\n", b"two\n"):
                 process.stdin.write(line)
                 got = b""
@@ -385,14 +424,26 @@ class WithoutTerminal(Programs):
     def test_signals(self) -> None:
         for number, status in ((signal.SIGINT, 130), (signal.SIGTERM, -signal.SIGTERM)):
             with self.subTest(number=number):
-                with subprocess.Popen(self.words(LOOP), env=environment(), stdin=subprocess.PIPE, stdout=subprocess.PIPE, stderr=subprocess.DEVNULL) as process:
+                with subprocess.Popen(
+                    self.words(LOOP),
+                    env=environment(),
+                    stdin=subprocess.PIPE,
+                    stdout=subprocess.PIPE,
+                    stderr=subprocess.DEVNULL,
+                ) as process:
                     self.assertEqual(process.stdout.read(1), b".")
                     process.send_signal(number)
                     self.assertEqual(process.wait(SECONDS), status)
 
     def test_a_signal_while_nobody_reads(self) -> None:
         text = "MOV DL,46\nMOV AH,2\nnext: INT 21h\nJMP next\n"
-        with subprocess.Popen(self.words(text), env=environment(), stdin=subprocess.PIPE, stdout=subprocess.PIPE, stderr=subprocess.DEVNULL) as process:
+        with subprocess.Popen(
+            self.words(text),
+            env=environment(),
+            stdin=subprocess.PIPE,
+            stdout=subprocess.PIPE,
+            stderr=subprocess.DEVNULL,
+        ) as process:
             self.assertEqual(process.stdout.read(1), b".")
             time.sleep(1)
             process.send_signal(signal.SIGINT)

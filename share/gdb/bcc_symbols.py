@@ -14,7 +14,11 @@ import tempfile
 
 # A line of the source in bcc's output; a line of as86's listing with an address in the code; a symbol with its segment
 # and address in ld86's map.
-SOURCE, LISTED, MAPPED = re.compile(r"! (\d+) (?!# \d)"), re.compile(r"\d+ ([0-9A-F]{4}) {11}[0-9A-F]{2}"), re.compile(r" *(\S+) +(\S+) +([0-3]) +([0-9a-f]{8}) ")
+SOURCE, LISTED, MAPPED = (
+    re.compile(r"! (\d+) (?!# \d)"),
+    re.compile(r"\d+ ([0-9A-F]{4}) {11}[0-9A-F]{2}"),
+    re.compile(r" *(\S+) +(\S+) +([0-3]) +([0-9a-f]{8}) "),
+)
 LABEL = re.compile(r"\d+ +([0-9A-F]{8})> +(_\w+):")
 PROLOGUE = re.compile(r"push\s+(bp|di|si)|mov\s+bp,sp|dec\s+sp|(add|sub)\s+sp,")
 INCLUDED = re.compile(r'! \d+ # \d+ "(.*)"')
@@ -56,7 +60,9 @@ def lines_of(source, listing):
 def assembly(first, last, names, lines=()):
     """A text for NASM of the bytes from one address up to another, with names at theirs and the source's lines, and
     no code."""
-    marks = [(address, f"global {it}:function\n{it}:") for it, address in names if first <= address < last] + list(lines)
+    marks = [(address, f"global {it}:function\n{it}:") for it, address in names if first <= address < last] + list(
+        lines
+    )
     told = ["bits 16", "section .text align=1"]
     for address, text in sorted(marks):
         told += [f"times {address - first} db 0"] if address > first else []
@@ -79,8 +85,30 @@ def linked(source, listing, names, name, folder):
     for part, (first, last) in enumerate(zip(spans, spans[1:])):
         with open(f"{folder}/{part}.asm", "w", encoding="utf-8") as file:
             file.write(assembly(first, last, names, numbered if part == 1 else ()))
-        run(["nasm", "-f", "elf32", *(["-g", "-F", "dwarf"] if part == 1 else []), "-o", f"{folder}/{part}.o", f"{folder}/{part}.asm"])
-    run(["ld", "-m", "elf_i386", "-e", hex(FIRST), f"-Ttext={FIRST:#x}", "-o", f"{name}.elf", *(f"{folder}/{it}.o" for it in range(3))])
+        run(
+            [
+                "nasm",
+                "-f",
+                "elf32",
+                *(["-g", "-F", "dwarf"] if part == 1 else []),
+                "-o",
+                f"{folder}/{part}.o",
+                f"{folder}/{part}.asm",
+            ]
+        )
+    run(
+        [
+            "ld",
+            "-m",
+            "elf_i386",
+            "-e",
+            hex(FIRST),
+            f"-Ttext={FIRST:#x}",
+            "-o",
+            f"{name}.elf",
+            *(f"{folder}/{it}.o" for it in range(3)),
+        ]
+    )
 
 
 def main():
@@ -94,7 +122,11 @@ def main():
         run(["as86", "-u", "-0", "-O", "-l", f"{folder}/it.lst", "-o", f"{folder}/it.o86", f"{folder}/it.s"])
         with open(f"{folder}/it.lst", encoding="latin-1") as file:
             listing = file.read()
-        names = [(it[2], int(it[4], 16)) for it in mapped if it and it[3] == CODE and it[2].startswith("_") and int(it[4], 16) >= FIRST]
+        names = [
+            (it[2], int(it[4], 16))
+            for it in mapped
+            if it and it[3] == CODE and it[2].startswith("_") and int(it[4], 16) >= FIRST
+        ]
         linked(source, listing, names, name, folder)
 
 

@@ -54,7 +54,8 @@ define dm go
   frame
 end
 document dm go
-dm go N: goes to the state after N steps from the start, forwards or back, without stopping at breakpoints; N in hexadecimal.
+dm go N: goes to the state after N steps from the start, forwards or back; N in hexadecimal.
+It does not stop at breakpoints.
 end
 
 define dm check

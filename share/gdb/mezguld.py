@@ -29,9 +29,30 @@ sys.path.remove(HERE)
 # The machine is an 8086. GDB would choose otherwise for an ELF file with the program's symbols. It goes on where `dm
 # gdb` tells, by the signal SIGALRM, that a `continue` made its most steps.
 SETTINGS = ("set osabi none", "set architecture i8086", "set remotetimeout 30", "handle SIGALRM nostop noprint pass")
-REGISTERS = {"ax": "ax", "bx": "bx", "cx": "cx", "dx": "dx", "sp": "sp", "bp": "bp", "si": "si", "di": "di", "ds": "ds", "es": "es", "ss": "ss", "cs": "cs", "ip": "ip"}
+REGISTERS = {
+    "ax": "ax",
+    "bx": "bx",
+    "cx": "cx",
+    "dx": "dx",
+    "sp": "sp",
+    "bp": "bp",
+    "si": "si",
+    "di": "di",
+    "ds": "ds",
+    "es": "es",
+    "ss": "ss",
+    "cs": "cs",
+    "ip": "ip",
+}
 # The instructions behind which `dm over` goes on, and those that return from what they call.
-GOES_OVER, RETURNS = ("call", "lcall", "int", "into", "rep", "repz", "repnz", "loop", "loope", "loopne"), ("ret", "lret", "iret", "retw", "lretw", "iretw")
+GOES_OVER, RETURNS = ("call", "lcall", "int", "into", "rep", "repz", "repnz", "loop", "loope", "loopne"), (
+    "ret",
+    "lret",
+    "iret",
+    "retw",
+    "lretw",
+    "iretw",
+)
 # The most steps of `dm out`.
 MOST = 100_000
 
@@ -131,7 +152,9 @@ def connect(*words):
     """dm connect [OPTIONS] FILES: starts dm gdb with these words and connects to it.
     The environment variable DM names the program that is started in place of dm."""
     try:
-        gdb.execute(f"target extended-remote | {program()} gdb {' '.join(shlex.quote(it) for it in words)}", to_string=True)
+        gdb.execute(
+            f"target extended-remote | {program()} gdb {' '.join(shlex.quote(it) for it in words)}", to_string=True
+        )
     except gdb.error as error:
         raise gdb.GdbError(refusal(words) or str(error)) from error
     show()
@@ -145,7 +168,9 @@ def program():
 def refusal(words):
     """What dm gdb says of words with which it does not start; GDB does not show it."""
     try:
-        return subprocess.run([program(), "gdb", *words], stdin=subprocess.DEVNULL, capture_output=True, text=True, check=False).stderr.strip()
+        return subprocess.run(
+            [program(), "gdb", *words], stdin=subprocess.DEVNULL, capture_output=True, text=True, check=False
+        ).stderr.strip()
     except OSError as error:
         return f"{program()}: {error.strerror}"
 
@@ -214,7 +239,9 @@ def stop_at_interrupt(number, function=""):
     """dm int NN [AH]: sets a breakpoint where interrupt NN leads now, for function AH alone if it is given.
     Both numbers are hexadecimal."""
     offset, segment = struct.unpack("<HH", memory(4 * word(number), 4))
-    gdb.execute(f"break *{segment * 16 + offset:#x}" + (f" if ($ax >> 8 & 0xff) == {word(function):#x}" if function else ""))
+    gdb.execute(
+        f"break *{segment * 16 + offset:#x}" + (f" if ($ax >> 8 & 0xff) == {word(function):#x}" if function else "")
+    )
 
 
 def text_at(address="ds:dx"):
@@ -228,7 +255,8 @@ def dump(address, count="80"):
 
 
 def disassemble(address="cs:ip", count="8"):
-    """dm list [SEGMENT:OFFSET [COUNT]]: prints instructions, at CS:IP unless an address is given; COUNT in hexadecimal."""
+    """dm list [SEGMENT:OFFSET [COUNT]]: prints instructions, at CS:IP unless an address is given.
+    COUNT is in hexadecimal."""
     print(monitor("U {:04X}:{:04X} {:X}".format(*place(address), word(count))), end="")
 
 
@@ -253,8 +281,18 @@ mezguld_frames.install()
 Linear()
 Group()
 for title, called, fewest, highest in (
-    ("connect", connect, 1, 70), ("over", over, 0, 0), ("out", out, 0, 0), ("go", go, 1, 1), ("check", check, 0, 0), ("break", stop_at, 1, 70), ("int", stop_at_interrupt, 1, 2), ("watch", watch, 1, 70),
-    ("text", text_at, 0, 1), ("dump", dump, 1, 2), ("list", disassemble, 0, 2), ("symbols", symbols, 1, 2),
+    ("connect", connect, 1, 70),
+    ("over", over, 0, 0),
+    ("out", out, 0, 0),
+    ("go", go, 1, 1),
+    ("check", check, 0, 0),
+    ("break", stop_at, 1, 70),
+    ("int", stop_at_interrupt, 1, 2),
+    ("watch", watch, 1, 70),
+    ("text", text_at, 0, 1),
+    ("dump", dump, 1, 2),
+    ("list", disassemble, 0, 2),
+    ("symbols", symbols, 1, 2),
     ("registers", printed("R", "dm registers: prints the registers and the next instruction."), 0, 0),
     ("blocks", printed("M", "dm blocks: lists the blocks of memory of DOS."), 0, 0),
     ("pages", printed("P", "dm pages: lists the handles and windows of expanded memory."), 0, 0),

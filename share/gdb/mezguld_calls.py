@@ -21,11 +21,18 @@ BELOW = 0x1000
 LONGEST = 8
 PREFIXES = frozenset((0x26, 0x2E, 0x36, 0x3E, 0xF0, 0xF2, 0xF3))
 UNLISTED = frozenset((0x0F, *range(0x60, 0x70), 0xC0, 0xC1, 0xC8, 0xC9, 0xD6, 0xF1))
-WITH_MODES = frozenset([it for it in range(0x40) if it & 7 < 4] + [*range(0x80, 0x90), *range(0xC4, 0xC8), *range(0xD0, 0xD4), *range(0xD8, 0xE0), 0xF6, 0xF7, 0xFE, 0xFF])
+WITH_MODES = frozenset(
+    [it for it in range(0x40) if it & 7 < 4]
+    + [*range(0x80, 0x90), *range(0xC4, 0xC8), *range(0xD0, 0xD4), *range(0xD8, 0xE0), 0xF6, 0xF7, 0xFE, 0xFF]
+)
 IMMEDIATE = {
-    **{it: 1 for it in range(0x40) if it & 7 == 4}, **{it: 2 for it in range(0x40) if it & 7 == 5}, **{it: 1 for it in (0x80, 0x82, 0x83, 0xA8, 0xC6, 0xCD, 0xD4, 0xD5, 0xEB)},
-    **{it: 1 for it in (*range(0x70, 0x80), *range(0xB0, 0xB8), *range(0xE0, 0xE8))}, **{it: 2 for it in (0x81, *range(0xA0, 0xA4), 0xA9, *range(0xB8, 0xC0), 0xC2, 0xC7, 0xCA, 0xE8, 0xE9)},
-    0x9A: 4, 0xEA: 4,
+    **{it: 1 for it in range(0x40) if it & 7 == 4},
+    **{it: 2 for it in range(0x40) if it & 7 == 5},
+    **{it: 1 for it in (0x80, 0x82, 0x83, 0xA8, 0xC6, 0xCD, 0xD4, 0xD5, 0xEB)},
+    **{it: 1 for it in (*range(0x70, 0x80), *range(0xB0, 0xB8), *range(0xE0, 0xE8))},
+    **{it: 2 for it in (0x81, *range(0xA0, 0xA4), 0xA9, *range(0xB8, 0xC0), 0xC2, 0xC7, 0xCA, 0xE8, 0xE9)},
+    0x9A: 4,
+    0xEA: 4,
 }
 SIZES = {0xC2: 2, 0xC3: 2, 0xCA: 4, 0xCB: 4, 0xCF: 6}
 # Bytes of which one stands in each call but INT, and in each division.
@@ -74,12 +81,17 @@ def word_changed(it):
     code, family = it.code, it.code & 7
     rm = (it.rm,) if it.mode == 3 else ()
     if code < 0x40:
-        return () if code >= 0x38 and family < 6 else (halves(rm), rm, halves((it.reg,)), (it.reg,), (AX,), (AX,), (), (AX,))[family]
+        return (
+            ()
+            if code >= 0x38 and family < 6
+            else (halves(rm), rm, halves((it.reg,)), (it.reg,), (AX,), (AX,), (), (AX,))[family]
+        )
     if code < 0x50:
         return (code & 7,)
-    fixed = {0x98: (AX,), 0x99: (DX,), 0x9F: (AX,), 0xA0: (AX,), 0xA1: (AX,), 0xD4: (AX,), 0xD5: (AX,), 0xD7: (AX,), 0xE4: (AX,), 0xE5: (AX,), 0xEC: (AX,), 0xED: (AX,)}
-    if code in fixed:
-        return fixed[code]
+    if code in (0x98, 0x9F, 0xA0, 0xA1, 0xD4, 0xD5, 0xD7, 0xE4, 0xE5, 0xEC, 0xED):
+        return (AX,)
+    if code == 0x99:
+        return (DX,)
     if 0x90 <= code < 0x98:
         return () if code == 0x90 else (AX, code & 7)
     if 0xA4 <= code < 0xB0:
@@ -95,8 +107,17 @@ def word_changed(it):
     if code in (0xFE, 0xFF):
         return (rm if code & 1 else halves(rm)) if it.reg < 2 else ()
     return {
-        0x86: halves((*rm, it.reg)), 0x87: (*rm, it.reg), 0x88: halves(rm), 0x89: rm, 0x8A: halves((it.reg,)), 0x8B: (it.reg,), 0x8C: rm, 0x8D: (it.reg,),
-        0x8E: (8 + it.reg % 4,), 0xC4: (it.reg, ES), 0xC5: (it.reg, DS),
+        0x86: halves((*rm, it.reg)),
+        0x87: (*rm, it.reg),
+        0x88: halves(rm),
+        0x89: rm,
+        0x8A: halves((it.reg,)),
+        0x8B: (it.reg,),
+        0x8C: rm,
+        0x8D: (it.reg,),
+        0x8E: (8 + it.reg % 4,),
+        0xC4: (it.reg, ES),
+        0xC5: (it.reg, DS),
     }.get(code, ())
 
 
@@ -112,7 +133,13 @@ class State:
     __slots__ = ("cs", "ip", "registers", "function", "pushed")
 
     def __init__(self, cs, ip, registers, function=None, pushed=None):
-        self.cs, self.ip, self.registers, self.function, self.pushed = cs, ip, list(registers), function, dict(pushed or {})
+        self.cs, self.ip, self.registers, self.function, self.pushed = (
+            cs,
+            ip,
+            list(registers),
+            function,
+            dict(pushed or {}),
+        )
 
     def at(self, cs, ip):
         """The same at another place."""
@@ -211,7 +238,11 @@ class Finder:
         walk, ss = Walk(self, start), start.registers[SS]
         for state, size, removed in walk.returns():
             # RETF 2 is IRET that keeps the flags.
-            size, removed = (6, 0) if (size, removed) == (4, 2) and self.calls(state.cs, ss, state.registers[SP], 6) else (size, removed)
+            size, removed = (
+                (6, 0)
+                if (size, removed) == (4, 2) and self.calls(state.cs, ss, state.registers[SP], 6)
+                else (size, removed)
+            )
             for call in self.calls(state.cs, ss, state.registers[SP], size) if state.registers[SP] >= goal[2] else ():
                 # (A vector may lead elsewhere by now.)
                 if size == 6 or self.comes(call, goal) is not False:
@@ -239,7 +270,11 @@ class Finder:
         registers = [None] * 12
         registers[SP] = call.slot
         walk = Walk(self, State(*call.target, registers))
-        return True if any((it.cs, it.ip, it.registers[SP]) == goal for it in walk.states()) else (None if walk.is_cut else False)
+        return (
+            True
+            if any((it.cs, it.ip, it.registers[SP]) == goal for it in walk.states())
+            else (None if walk.is_cut else False)
+        )
 
     def removes(self, cs, ip, depth):
         """How many bytes the code at a place takes from the stack when it returns; `None` if that cannot be seen."""
@@ -248,7 +283,14 @@ class Finder:
             registers = [None] * 12
             registers[SP] = 0x8000
             if depth:
-                self.cleaned[cs, ip] = next((size + removed for state, size, removed in Walk(self, State(cs, ip, registers), depth - 1).returns() if state.registers[SP] == 0x8000), None)
+                self.cleaned[cs, ip] = next(
+                    (
+                        size + removed
+                        for state, size, removed in Walk(self, State(cs, ip, registers), depth - 1).returns()
+                        if state.registers[SP] == 0x8000
+                    ),
+                    None,
+                )
         return self.cleaned[cs, ip]
 
     def calls(self, cs, ss, slot, size):
@@ -260,7 +302,11 @@ class Finder:
         found = [(4, at, target) for at, target in self.behind(cs, ip, True)]
         if size == 4:
             # PUSH CS before a near call makes a far one of it.
-            found += [(2, at, target) for at, target in self.behind(cs, ip, False) if target and self.memory.byte(cs, at - 1) == 0x0E]
+            found += [
+                (2, at, target)
+                for at, target in self.behind(cs, ip, False)
+                if target and self.memory.byte(cs, at - 1) == 0x0E
+            ]
         else:
             # PUSHF before a far call makes an interrupt of it.
             found = [it for it in found if self.memory.byte(cs, it[1] - 1) == 0x9C]
@@ -271,14 +317,21 @@ class Finder:
         """The near or far calls that end at CS:IP, and where they lead."""
         key = cs, ip, is_far
         if key not in self.ends:
-            self.ends[key] = list(self.calls_before(cs, ip, is_far)) if MAY_CALL.intersection(self.memory.bytes(cs, ip - 5, 5)) else []
+            self.ends[key] = (
+                list(self.calls_before(cs, ip, is_far))
+                if MAY_CALL.intersection(self.memory.bytes(cs, ip - 5, 5))
+                else []
+            )
         return self.ends[key]
 
     def calls_before(self, cs, ip, is_far):
         length, code = (5, 0x9A) if is_far else (3, 0xE8)
         if self.memory.byte(cs, ip - length) == code:
             spelled = self.memory.word(cs, ip - length + 1)
-            yield ip - length & 0xFFFF, (self.memory.word(cs, ip - 2), spelled) if is_far else (cs, ip + spelled & 0xFFFF)
+            yield ip - length & 0xFFFF, (self.memory.word(cs, ip - 2), spelled) if is_far else (
+                cs,
+                ip + spelled & 0xFFFF,
+            )
         for at, it in self.ending(cs, ip):
             if it.code == 0xFF and it.reg == (3 if is_far else 2):
                 yield at, None
@@ -298,7 +351,11 @@ class Finder:
         if before[4] in (0xCC, 0xCE):
             found.append((ip - 1 & 0xFFFF, self.memory.vector(3 if before[4] == 0xCC else 4)))
         if MAY_DIVIDE.intersection(before):
-            divisions = (at for at, it in self.ending(cs, ip) if (it.code in (0xF6, 0xF7) and it.reg > 5) or (it.code == 0xD4 and not it.operand))
+            divisions = (
+                at
+                for at, it in self.ending(cs, ip)
+                if (it.code in (0xF6, 0xF7) and it.reg > 5) or (it.code == 0xD4 and not it.operand)
+            )
             found += [(at, self.memory.vector(0)) for at in divisions]
         return found
 
@@ -466,7 +523,9 @@ class Walk:
     def pop(self, state, register):
         """POP into a register, or elsewhere."""
         stack, ss = state.registers[SP], state.registers[SS]
-        value = state.pushed[stack] if stack in state.pushed else None if ss is None else self.finder.memory.word(ss, stack)
+        value = (
+            state.pushed[stack] if stack in state.pushed else None if ss is None else self.finder.memory.word(ss, stack)
+        )
         state.registers[SP] = stack + 2 & 0xFFFF
         if register is not None:
             state.forget(register)

@@ -110,10 +110,17 @@ class Frames(Unwinder):
             call, after, flags = found
             code = linear_of(*call.target) if call.target and call.size < 6 else 0
             info = pending.create_unwind_info(FrameId(linear_of(int(now["ss"]) & 0xFFFF, call.slot), code))
-            saved = dict(zip(SEEN, after), eip=linear_of(after[SEEN.index("cs")], after[SEEN.index("ip")]), esp=linear_of(after[SEEN.index("ss")], after[SEEN.index("sp")]))
+            saved = dict(
+                zip(SEEN, after),
+                eip=linear_of(after[SEEN.index("cs")], after[SEEN.index("ip")]),
+                esp=linear_of(after[SEEN.index("ss")], after[SEEN.index("sp")]),
+            )
             saved.update({} if flags is None else {"eflags": flags})
         for name, value in now.items():
-            info.add_saved_register(name, gdb.Value(saved[name].to_bytes(value.type.sizeof, "little"), value.type) if name in saved else value)
+            info.add_saved_register(
+                name,
+                gdb.Value(saved[name].to_bytes(value.type.sizeof, "little"), value.type) if name in saved else value,
+            )
         for name, (whole, at, size) in PARTS.items():
             part = saved.get(whole, int(now[whole])).to_bytes(4, "little")[at : at + size]
             info.add_saved_register(name, gdb.Value(part, pending.read_register(name).type))
@@ -186,7 +193,8 @@ def current():
 
 
 def back_to(call, stack_segment):
-    """Goes back to the instruction that made a call, or to what stops before. Returns whether it is that instruction."""
+    """Goes back to the instruction that made a call, or to what stops before. Returns whether it is that
+    instruction."""
     address, slot = linear_of(*call.at), linear_of(stack_segment, call.slot)
     # Nothing but the call writes its return address, as a rule: not the same procedure further down the stack, either.
     point = gdb.Breakpoint(f"*(unsigned short *){slot}", gdb.BP_WATCHPOINT, gdb.WP_ACCESS, internal=True)
@@ -307,5 +315,13 @@ def install():
     register_unwinder(None, Frames(), True)
     Whole()
     BackOut()
-    Back("reverse-next", back_over_line, "Step program backward, proceeding through subroutine calls.\nUsage: reverse-next [N]")
-    Back("reverse-nexti", step_back, "Step backward one instruction, but proceed through called subroutines.\nUsage: reverse-nexti [N]")
+    Back(
+        "reverse-next",
+        back_over_line,
+        "Step program backward, proceeding through subroutine calls.\nUsage: reverse-next [N]",
+    )
+    Back(
+        "reverse-nexti",
+        step_back,
+        "Step backward one instruction, but proceed through called subroutines.\nUsage: reverse-nexti [N]",
+    )

@@ -1,4 +1,5 @@
-/* Packs its own tables by run lengths and by a bit stream, unpacks them, and compares: a compressor's way with memory. For `bcc`. */
+/* Packs its own tables by run lengths and by a bit stream, unpacks them, and compares: a compressor's way with memory.
+   For `bcc`. */
 
 #include <stdio.h>
 #include <stdlib.h>

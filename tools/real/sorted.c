@@ -1,5 +1,5 @@
-/* Reads words from standard input into lists of malloc, sorts them by a tree and by qsort of its own, prints them, and frees all. Debian's
-   `bcc` compiles it; it reads K&R's C. */
+/* Reads words from standard input into lists of malloc, sorts them by a tree and by qsort of its own, prints them, and
+   frees all. Debian's `bcc` compiles it; it reads K&R's C. */
 
 #include <stdio.h>
 #include <stdlib.h>

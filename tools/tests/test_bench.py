@@ -22,11 +22,15 @@ def fault_of(sample, with_body):
     with tempfile.TemporaryDirectory() as folder:
         with open(f"{folder}/a.asm", "w", encoding="ascii") as file:
             file.write(sample.text(with_body))
-        ran = subprocess.run([DM, "asm", f"{folder}/a.asm", f"{folder}/a.com"], capture_output=True, text=True, check=False)
+        ran = subprocess.run(
+            [DM, "asm", f"{folder}/a.asm", f"{folder}/a.com"], capture_output=True, text=True, check=False
+        )
         if ran.returncode:
             return f"{sample.name}: {ran.stderr}"
         commands = f"G {WARM:X}\nG {sample.turn(with_body):X}\n"
-        said = subprocess.run([DM, "debug", f"{folder}/a.com"], input=commands, capture_output=True, text=True, check=False).stdout
+        said = subprocess.run(
+            [DM, "debug", f"{folder}/a.com"], input=commands, capture_output=True, text=True, check=False
+        ).stdout
     places = re.findall(r"CS=(\w{4}) IP=(\w{4})", said)
     if said.count("steps\n") != 2 or places[0] != places[1]:
         return f"{sample.name}, {'whole' if with_body else 'without its body'}: {places}, {said.splitlines()[:1]}"
@@ -47,7 +51,11 @@ class Samples(unittest.TestCase):
     def test_turns_have_the_steps_that_are_reckoned(self):
         samples = [*instructions.samples(), *(sample for _, sample in instructions.elsewhere())]
         with ThreadPoolExecutor(os.cpu_count()) as pool:
-            found = [*pool.map(lambda it: fault_of(*it), [(sample, with_body) for sample in samples for with_body in (True, False)])]
+            found = [
+                *pool.map(
+                    lambda it: fault_of(*it), [(sample, with_body) for sample in samples for with_body in (True, False)]
+                )
+            ]
         self.assertEqual([it for it in found if it], [])
 
 

@@ -13,7 +13,9 @@ class Made(unittest.TestCase):
     @classmethod
     def setUpClass(cls):
         with tempfile.TemporaryDirectory() as holder:
-            cls.told = subprocess.run([f"{ROOT}/tools/book", f"{holder}/made"], capture_output=True, text=True, check=True).stdout
+            cls.told = subprocess.run(
+                [f"{ROOT}/tools/book", f"{holder}/made"], capture_output=True, text=True, check=True
+            ).stdout
             cls.texts = {}
             for name in sorted(os.listdir(f"{holder}/made")):
                 with open(f"{holder}/made/{name}", encoding="utf-8") as file:

@@ -39,8 +39,10 @@ class Text:
         near, far = [f"CALL p{number}"], [f"CALL FAR [t{number}]"]
         by_register = [f"MOV BX,p{number}", "CALL BX"]
         ways = {
-            "near": (near, near, by_register, [f"CALL NEAR [t{number}]"]), "takes": (["PUSH AX", *near], ["PUSH AX", *by_register]),
-            "far": (["PUSH CS", *near], far), "handler": ([f"INT {0x60 + number:x}h"], ["PUSHF", *far]),
+            "near": (near, near, by_register, [f"CALL NEAR [t{number}]"]),
+            "takes": (["PUSH AX", *near], ["PUSH AX", *by_register]),
+            "far": (["PUSH CS", *near], far),
+            "handler": ([f"INT {0x60 + number:x}h"], ["PUSHF", *far]),
         }
         self.behind.append(self.label())
         return [*self.random.choice(ways[self.kinds[number]]), f"{self.behind[-1]}:"]
@@ -48,13 +50,31 @@ class Text:
     def counted(self):
         """Words pushed in a loop, and popped in another."""
         count, first, second = self.random.randrange(1, 5), self.label(), self.label()
-        return [f"MOV CX,{count}", f"{first}:", "PUSH CX", "NOP", f"LOOP {first}", f"MOV CX,{count}", f"{second}:", "POP DX", "NOP", f"LOOP {second}"]
+        return [
+            f"MOV CX,{count}",
+            f"{first}:",
+            "PUSH CX",
+            "NOP",
+            f"LOOP {first}",
+            f"MOV CX,{count}",
+            f"{second}:",
+            "POP DX",
+            "NOP",
+            f"LOOP {second}",
+        ]
 
     def around(self, number, depth):
         """Something that the stack holds for a while."""
         size, register = self.random.randrange(2, 30), self.random.choice(("AX", "BX", "SI", "DI", "DX", "DS", "ES"))
         looks_like = [f"MOV AX,{self.random.choice(self.behind)}", "PUSH AX"] if self.behind else ["PUSH AX"]
-        before, after = self.random.choice(((["DEC SP"], "INC SP"), ([f"SUB SP,{size}"], f"ADD SP,{size}"), ([f"PUSH {register}"], f"POP {register}"), (looks_like, "POP AX")))
+        before, after = self.random.choice(
+            (
+                (["DEC SP"], "INC SP"),
+                ([f"SUB SP,{size}"], f"ADD SP,{size}"),
+                ([f"PUSH {register}"], f"POP {register}"),
+                (looks_like, "POP AX"),
+            )
+        )
         return [*before, *self.body(number, depth + 1), after]
 
     def body(self, number, depth=0):
@@ -79,7 +99,12 @@ class Text:
         told = ["XOR AX,AX", "MOV ES,AX"]
         for it in numbers:
             vector = 4 * (0x60 + it)
-            told += [f"MOV WORD [t{it}+2],CS", f"MOV AX,p{it}", f"ES MOV [0{vector:x}h],AX", f"ES MOV WORD [0{vector + 2:x}h],CS"]
+            told += [
+                f"MOV WORD [t{it}+2],CS",
+                f"MOV AX,p{it}",
+                f"ES MOV [0{vector:x}h],AX",
+                f"ES MOV WORD [0{vector + 2:x}h],CS",
+            ]
         for it in numbers:
             told += self.call(it)
         told += ["MOV AX,4C00h", "INT 21h"]
@@ -113,7 +138,9 @@ class Run:
 
     def found(self):
         """The places of the return addresses that are found, the innermost last."""
-        finder = mezguld_calls.Finder(mezguld_calls.Memory(lambda address, count: self.machine.read_linear(address, min(count, END - address))))
+        finder = mezguld_calls.Finder(
+            mezguld_calls.Memory(lambda address, count: self.machine.read_linear(address, min(count, END - address)))
+        )
         places, now = [], self.registers()
         while found := finder.caller(now, not places):
             places.insert(0, found[0].slot)

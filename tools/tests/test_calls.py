@@ -40,7 +40,9 @@ class Callers(unittest.TestCase):
     def test_near(self):
         """call 4; hlt; 4: nop; ret"""
         call, behind = found(bytes.fromhex("E80100 F4 90 C3"), [3], 4)
-        self.assertEqual((call.at, call.target, call.size, behind[SP], behind[12]), ((CODE, 0), (CODE, 4), 2, 0xFF02, 3))
+        self.assertEqual(
+            (call.at, call.target, call.size, behind[SP], behind[12]), ((CODE, 0), (CODE, 4), 2, 0xFF02, 3)
+        )
 
     def test_what_looks_like_a_return_address_below_the_true_one(self):
         """call 8; nop; call 8; hlt; 8: push ax; nop; pop ax; ret: the word pushed is 3, behind the first call."""
@@ -59,7 +61,13 @@ class Callers(unittest.TestCase):
 
     def test_large_locals(self):
         """call 4; hlt; 4: push bp; mov bp,sp; sub sp,10000; nop; mov sp,bp; pop bp; ret"""
-        call, behind = found(bytes.fromhex("E80100 F4 55 89E5 81EC1027 90 89EC 5D C3"), [0] * 5000 + [0x1234, 3], 11, stack=0x8000, bp=0xA710)
+        call, behind = found(
+            bytes.fromhex("E80100 F4 55 89E5 81EC1027 90 89EC 5D C3"),
+            [0] * 5000 + [0x1234, 3],
+            11,
+            stack=0x8000,
+            bp=0xA710,
+        )
         self.assertEqual((call.slot, behind[BP]), (0xA712, 0x1234))
 
     def test_code_that_never_returns(self):
@@ -101,10 +109,20 @@ class Callers(unittest.TestCase):
         """Whatever memory holds, there is an answer, and soon."""
         source = random.Random(56)
         for _ in range(16):
-            memory = source.choice((source.randbytes(0x110000), source.randbytes(0x1100) * 256, bytes(source.choices(bytes.fromhex("E8FFC3CB50585D55CD9A74EB00"), k=0x110000))))
-            finder = mezguld_calls.Finder(mezguld_calls.Memory(lambda address, count: memory[address : min(address + count, 0x10FFF0)]))
+            memory = source.choice(
+                (
+                    source.randbytes(0x110000),
+                    source.randbytes(0x1100) * 256,
+                    bytes(source.choices(bytes.fromhex("E8FFC3CB50585D55CD9A74EB00"), k=0x110000)),
+                )
+            )
+            finder = mezguld_calls.Finder(
+                mezguld_calls.Memory(lambda address, count: memory[address : min(address + count, 0x10FFF0)])
+            )
             began = time.process_time()
-            finder.caller(tuple(source.choice((0, 0xFFFF, source.randrange(0x10000))) for _ in range(13)), source.random() < 0.5)
+            finder.caller(
+                tuple(source.choice((0, 0xFFFF, source.randrange(0x10000))) for _ in range(13)), source.random() < 0.5
+            )
             self.assertLess(time.process_time() - began, SECONDS)
 
     def test_bytes_that_are_cut(self):

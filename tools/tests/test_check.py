@@ -17,32 +17,80 @@ import kit  # noqa: E402
 PROGRAM = "crates/dm/out/dm"
 # A file, a text in it, another one in its place, and words of the fault.
 PLANTED = (
-    ("docs/proved.md", "| `libc::chdir` | sets the working directory: for a path of 4,096 bytes that ends in 0 it returns 0 or -1 | - | - |\n", "", "38"),
+    (
+        "docs/proved.md",
+        (
+            "| `libc::chdir` | sets the working directory: for a path of 4,096 bytes that ends in 0 it returns 0 or -1"
+            " | - | - |\n"
+        ),
+        "",
+        "38",
+    ),
     ("docs/proved.md", "`axioms=39`", "`axioms=40`", "axioms=39"),
-    ("docs/proved.md", "it changes the buffer alone | yes | - |", "it changes the buffer alone | - | - |", "calls `os::c::rattle_arg`"),
-    ("bench/README.md", " million steps a second of processor time", " million steps a minute of processor time", "README.md: not once"),
+    (
+        "docs/proved.md",
+        "it changes the buffer alone | yes | - |",
+        "it changes the buffer alone | - | - |",
+        "calls `os::c::rattle_arg`",
+    ),
+    (
+        "bench/README.md",
+        " million steps a second of processor time",
+        " million steps a minute of processor time",
+        "README.md: not once",
+    ),
     ("docs/architecture.md", "- **`dm_views`**", "- **`dm_spans`**", "no item for dm_views"),
     ("README.md", "## What it is not", f"## What it is not{' word' * 400}", "words, and not at most 700"),
     ("docs/install.md", "## From a package", f"## From a package\n\n{'more ' * 33}", "165 characters"),
-    ("docs/testing.md", "edits in the `must-fail` directories", "edits of the gate", "docs/testing.md: not once, but 0 times"),
+    (
+        "docs/testing.md",
+        "edits in the `must-fail` directories",
+        "edits of the gate",
+        "docs/testing.md: not once, but 0 times",
+    ),
     ("bench/README.md", "| `CRC.COM` | CRC-16", "| `CRC.COM` | CRC-32", "run bench/tables"),
     ("bench/figures.json", '"CRC.COM run": ', '"CRC.COM run": 9', "run bench/tables"),
-    ("python/mezguld/__init__.py", "3: OutOfMemory, 5: TooLarge", "13: OutOfMemory, 5: TooLarge", "MEZGULD_OUT_OF_MEMORY"),
+    (
+        "python/mezguld/__init__.py",
+        "3: OutOfMemory, 5: TooLarge",
+        "13: OutOfMemory, 5: TooLarge",
+        "MEZGULD_OUT_OF_MEMORY",
+    ),
     ("include/mezguld.h", "MEZGULD_SHORT = 13", "MEZGULD_SHORT = 3", "MEZGULD_SHORT"),
     ("include/mezguld.h", '#define MEZGULD_VERSION "', '#define MEZGULD_VERSION "9', "the version is 9"),
-    ("docs/names.md", "| `total` | how many there are in all: bytes of statements, pages |\n", "", "does not have `total`"),
-    ("docs/manual.md", "| `--ems` | pages of 16 KiB | 64 |", "| `--ems` | pages of 16 KiB | 65 |", "the default of --ems is 65, and 64"),
+    (
+        "docs/names.md",
+        "| `total` | how many there are in all: bytes of statements, pages |\n",
+        "",
+        "does not have `total`",
+    ),
+    (
+        "docs/manual.md",
+        "| `--ems` | pages of 16 KiB | 64 |",
+        "| `--ems` | pages of 16 KiB | 65 |",
+        "the default of --ems is 65, and 64",
+    ),
     ("docs/proved.md", "`put_not_listed`", "`put_told`, `put_pages`", "dm_reports has no public `put_pages`"),
     ("docs/manual.md", "| 51h, 62h | gets", "| 51h | gets", "the table of INT 21h lacks one of"),
     ("docs/manual.md", "| `tail too long` |", "| `tail is too long` |", "no table under Faults has `tail too long`"),
     ("docs/manual.md", "| `tail_written` |", "| `tail_wrote` |", "no table under A report in JSON has `tail_written`"),
-    ("docs/recipes.md", "        parts.cpu.bx = 0;\n", "        parts.cpu.bx = 1;\n", "no file of a crate has the code"),
+    (
+        "docs/recipes.md",
+        "        parts.cpu.bx = 0;\n",
+        "        parts.cpu.bx = 1;\n",
+        "no file of a crate has the code",
+    ),
 )
 # The same, of what stands in the kit's files.
 OF_KIT = (
     ("docs/proved.md", "| `libc::chdir` | sets", "| `libc::chroot` | sets", "`libc::chroot`"),
     ("docs/proved.md", "`std` 2,366", "`std` 2,400", "`std` 2,366"),
-    ("docs/proved.md", "is known to compile some correct code wrongly", "is known to compile all code correctly", "of the kit does not say, or is not quoted"),
+    (
+        "docs/proved.md",
+        "is known to compile some correct code wrongly",
+        "is known to compile all code correctly",
+        "of the kit does not say, or is not quoted",
+    ),
 )
 # The lists of sentences with figures: those of the tree and those of the kit.
 OF_TREE, OF_KIT_ALONE = 0, 1
@@ -66,7 +114,9 @@ class Planted(unittest.TestCase):
     def setUpClass(cls):
         cls.holder = tempfile.TemporaryDirectory()
         cls.copy = f"{cls.holder.name}/copy"
-        listed = subprocess.run(["git", "ls-files", "-z"], cwd=ROOT, capture_output=True, text=True, check=True).stdout.split("\0")
+        listed = subprocess.run(
+            ["git", "ls-files", "-z"], cwd=ROOT, capture_output=True, text=True, check=True
+        ).stdout.split("\0")
         for path in [*listed, PROGRAM]:
             if path and os.path.isfile(f"{ROOT}/{path}"):
                 os.makedirs(os.path.dirname(f"{cls.copy}/{path}"), exist_ok=True)

@@ -13,27 +13,62 @@ HEADER, EXPORTS, MODULE = "include/mezguld.h", "lib/exports.h", "python/mezguld/
 PLANTED = (
     (HEADER, "MEZGULD_SHORT = 13", "MEZGULD_SHORT = 23", "MEZGULD_SHORT"),
     (HEADER, "MEZGULD_MEMORY = 6", "MEZGULD_MEMORY = 5", "MEZGULD_MEMORY"),
-    (HEADER, "void mezguld_free(mezguld *machine)", "mezguld_status mezguld_free(mezguld *machine)", "mezguld_free returns"),
+    (
+        HEADER,
+        "void mezguld_free(mezguld *machine)",
+        "mezguld_status mezguld_free(mezguld *machine)",
+        "mezguld_free returns",
+    ),
     (HEADER, "void mezguld_free(mezguld *machine)", "void mezguld_drop(mezguld *machine)", "mezguld_free"),
     (HEADER, "mezguld_new(mezguld **machine,", "mezguld_new(mezguld *machine,", "mezguld_new"),
     (HEADER, "MEZGULD_NULL_POINTER = 24,", "MEZGULD_NULL_POINTER = 23,", "MEZGULD_NULL_POINTER"),
     (EXPORTS, "dm_c_free(mezguld *machine)", "dm_c_free(mezguld **machine)", "dm_c_free"),
-    (EXPORTS, "mezguld_status dm_c_supply(mezguld *machine, const void *bytes", "mezguld_status dm_c_supply(mezguld *machine, void *bytes", "dm_c_supply"),
+    (
+        EXPORTS,
+        "mezguld_status dm_c_supply(mezguld *machine, const void *bytes",
+        "mezguld_status dm_c_supply(mezguld *machine, void *bytes",
+        "dm_c_supply",
+    ),
     (EXPORTS, "    void *inside;\n    uint64_t tag;", "    uint64_t tag;\n    void *inside;", "struct mezguld"),
     (HEADER, "uint32_t mezguld_version(void)", "mezguld_status mezguld_version(void)", "mezguld_version returns"),
     (HEADER, "    case MEZGULD_SHORT: return", "    case MEZGULD_NO_SHORT: return", "MEZGULD_SHORT has no text"),
     (HEADER, "} mezguld_status;", "} mezguld_state;", "MEZGULD_SHORT"),
-    (HEADER, "mezguld_set_registers(mezguld *machine, const mezguld_cpu *", "mezguld_set_registers(mezguld *machine, mezguld_cpu *", "mezguld_set_registers"),
-    (HEADER, "mezguld_steps(const mezguld *machine, uint64_t *steps)", "mezguld_steps(const mezguld *machine, uint32_t *steps)", "mezguld_steps"),
+    (
+        HEADER,
+        "mezguld_set_registers(mezguld *machine, const mezguld_cpu *",
+        "mezguld_set_registers(mezguld *machine, mezguld_cpu *",
+        "mezguld_set_registers",
+    ),
+    (
+        HEADER,
+        "mezguld_steps(const mezguld *machine, uint64_t *steps)",
+        "mezguld_steps(const mezguld *machine, uint32_t *steps)",
+        "mezguld_steps",
+    ),
     (HEADER, "uint16_t offset, void *buffer,", "uint16_t offset, const void *buffer,", "mezguld_read"),
-    (HEADER, "uint16_t segment, uint16_t offset, void *buffer", "uint16_t offset, uint16_t segment, void *buffer", "mezguld_read"),
+    (
+        HEADER,
+        "uint16_t segment, uint16_t offset, void *buffer",
+        "uint16_t offset, uint16_t segment, void *buffer",
+        "mezguld_read",
+    ),
     (HEADER, "ax, bx, cx, dx, sp, bp", "ax, cx, bx, dx, sp, bp", "mezguld_cpu"),
-    (HEADER, "    uint16_t segment;\n    uint16_t offset;", "    uint16_t offset;\n    uint16_t segment;", "mezguld_point"),
+    (
+        HEADER,
+        "    uint16_t segment;\n    uint16_t offset;",
+        "    uint16_t offset;\n    uint16_t segment;",
+        "mezguld_point",
+    ),
     (HEADER, "    mezguld_stop why;", "    uint16_t why;", "mezguld_stopped"),
     (HEADER, "MEZGULD_AT_CALL = 3", "MEZGULD_AT_CALL = 5", "kinds of events"),
     (HEADER, "MEZGULD_EVENT = 8", "MEZGULD_EVENT = 9", "MEZGULD_EVENT"),
     (HEADER, "    uint8_t number, ah;", "    uint8_t ah, number;", "mezguld_event"),
-    (HEADER, "size_t events_count, mezguld_stopped *stopped, size_t *index", "size_t events_count, size_t *index, mezguld_stopped *stopped", "mezguld_run_to"),
+    (
+        HEADER,
+        "size_t events_count, mezguld_stopped *stopped, size_t *index",
+        "size_t events_count, size_t *index, mezguld_stopped *stopped",
+        "mezguld_run_to",
+    ),
     (HEADER, "MEZGULD_PAST_END = 28", "MEZGULD_PAST_END = 30", "MEZGULD_PAST_END"),
     (HEADER, "MEZGULD_FOUND_SHORT = 8,", "MEZGULD_FOUND_SHORT = 9,", "kinds of findings"),
     (HEADER, "MEZGULD_FAR_CALL = 3", "MEZGULD_FAR_CALL = 4", "kinds of acts"),
@@ -42,20 +77,30 @@ PLANTED = (
     (HEADER, "    mezguld_place at, origin_at;", "    mezguld_place origin_at, at;", "mezguld_finding"),
     (HEADER, "    mezguld_finding_kind kind;", "    uint32_t kind;", "mezguld_finding"),
     (HEADER, "uint32_t *a20, uint32_t *used", "uint32_t *used, uint32_t *a20", "mezguld_high_memory"),
-    (HEADER, "mezguld_windows(const mezguld *machine, mezguld_window *", "mezguld_windows(mezguld *machine, mezguld_window *", "mezguld_windows"),
-    (MODULE, "H segment, H owner, H size, B signature, B list", "H segment, H size, H owner, B signature, B list", "mezguld_block"),
+    (
+        HEADER,
+        "mezguld_windows(const mezguld *machine, mezguld_window *",
+        "mezguld_windows(mezguld *machine, mezguld_window *",
+        "mezguld_windows",
+    ),
+    (
+        MODULE,
+        "H segment, H owner, H size, B signature, B list",
+        "H segment, H size, H owner, B signature, B list",
+        "mezguld_block",
+    ),
     (MODULE, "I saved, 8B name", "I saved, 4B name", "mezguld_page_handle"),
     (MODULE, "    SHORT = 8", "    SHORT = 9", "kinds of findings"),
-    (MODULE, "26: NoHandle, ", "", "MEZGULD_NO_HANDLE"),
+    (MODULE, "    26: NoHandle,\n", "", "MEZGULD_NO_HANDLE"),
     (MODULE, '"mezguld_read_block": "m H n pn"', '"mezguld_read_block": "m H I pn"', "mezguld_read_block"),
     (MODULE, "3: OutOfMemory", "13: OutOfMemory", "MEZGULD_OUT_OF_MEMORY"),
     (MODULE, "13: Short", "3: Short", "MEZGULD_SHORT"),
-    (MODULE, "14: NotLoaded, ", "", "MEZGULD_NOT_LOADED"),
+    (MODULE, "    14: NotLoaded,\n", "", "MEZGULD_NOT_LOADED"),
     (MODULE, "21: TooLong,", "21: TooLarge,", "MEZGULD_TOO_LONG"),
     (MODULE, "17: LineSyntax, 18: LineUnknown", "18: LineSyntax, 17: LineUnknown", "MEZGULD_LINE_SYNTAX"),
     (MODULE, "20: LineTwice", "22: LineTwice", "MEZGULD_LINE_TWICE"),
     (MODULE, "_OK, _TOO_SMALL = 0, 4", "_OK, _TOO_SMALL = 0, 5", "MEZGULD_TOO_SMALL"),
-    (MODULE, "1: NoMachine, 3:", "1: NoMachine, 2: NoMachine, 3:", "two statuses"),
+    (MODULE, "    1: NoMachine,\n", "    1: NoMachine,\n    2: NoMachine,\n", "two statuses"),
     (MODULE, "    MEMORY = 6", "    MEMORY = 7", "stops"),
     (MODULE, "    ax: int\n    bx: int", "    bx: int\n    ax: int", "registers"),
     (MODULE, '"m Q s w"', '"m I s w"', "mezguld_check"),
@@ -83,7 +128,12 @@ class Planted(unittest.TestCase):
 
     def test_exchanged_statuses(self):
         real = header.text_of
-        text = real(MODULE).replace("3: OutOfMemory", "00: OutOfMemory").replace("13: Short", "3: Short").replace("00: OutOfMemory", "13: OutOfMemory")
+        text = (
+            real(MODULE)
+            .replace("3: OutOfMemory", "00: OutOfMemory")
+            .replace("13: Short", "3: Short")
+            .replace("00: OutOfMemory", "13: OutOfMemory")
+        )
         with mock.patch.object(header, "text_of", lambda name: text if name == MODULE else real(name)):
             found = " ".join(header.faults())
         self.assertIn("MEZGULD_OUT_OF_MEMORY is 3 in the header and 13 in the Python module", found)

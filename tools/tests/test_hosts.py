@@ -11,7 +11,10 @@ ROOT = os.path.dirname(os.path.dirname(os.path.dirname(os.path.abspath(__file__)
 LIBRARY = f"{ROOT}/build/libmezguld.a"
 WARNINGS = ["-Wall", "-Wextra", "-Wconversion", "-Wcast-qual", "-pedantic", "-Werror", f"-I{ROOT}/include"]
 SANITIZERS = ["-g", "-fsanitize=address,undefined", "-fno-sanitize-recover=all"]
-TALK = b"Who? [it waits: yes]\n[the line comes: yes]\nHello, Ada\n[the line comes: yes]\nHello, Charles\n[exit codes 3 and 7]\n"
+TALK = (
+    b"Who? [it waits: yes]\n[the line comes: yes]\nHello, Ada\n[the line comes: yes]\nHello, Charles\n"
+    b"[exit codes 3 and 7]\n"
+)
 # The free block goes from 0129h up to segment A000h, where conventional memory ends.
 HOLDINGS = b"""block 0101: owner 0103, 1 paragraphs
 block 0103: owner 0103, 32 paragraphs
@@ -36,19 +39,28 @@ class Compiled(unittest.TestCase):
         self.assertEqual((ran.returncode, ran.stderr), (0, ""), " ".join(words))
 
     def test_the_header_by_itself(self):
-        for compiler, ending, standards in (("cc", "c", ("c99", "c11", "c17", "c2x")), ("c++", "cc", ("c++98", "c++11", "c++17", "c++20"))):
+        for compiler, ending, standards in (
+            ("cc", "c", ("c99", "c11", "c17", "c2x")),
+            ("c++", "cc", ("c++98", "c++11", "c++17", "c++20")),
+        ):
             if shutil.which(compiler) is None:
                 continue
             path = f"{self.folder}/header.{ending}"
             with open(path, "w", encoding="utf-8") as file:
-                file.write('#include "mezguld.h"\nint main(void) { mezguld *machine = NULL; return machine != NULL; }\n')
+                file.write(
+                    '#include "mezguld.h"\nint main(void) { mezguld *machine = NULL; return machine != NULL; }\n'
+                )
             for standard in standards:
                 with self.subTest(standard):
                     self.compile([compiler, f"-std={standard}", *WARNINGS, "-c", "-o", "header.o", path])
 
     @unittest.skipUnless(os.path.exists(LIBRARY), "tools/library builds the library")
     def test_programs_under_sanitizers(self):
-        for path, wanted in ((f"{ROOT}/tools/tests/statuses.c", b"as expected\n"), (f"{ROOT}/examples/hosts/talk.c", TALK), (f"{ROOT}/examples/hosts/holdings.c", HOLDINGS)):
+        for path, wanted in (
+            (f"{ROOT}/tools/tests/statuses.c", b"as expected\n"),
+            (f"{ROOT}/examples/hosts/talk.c", TALK),
+            (f"{ROOT}/examples/hosts/holdings.c", HOLDINGS),
+        ):
             with self.subTest(path):
                 self.compile(["cc", *WARNINGS, *SANITIZERS, "-o", "program", path, LIBRARY])
                 ran = subprocess.run([f"{self.folder}/program"], capture_output=True, timeout=120, check=False)
@@ -57,7 +69,13 @@ class Compiled(unittest.TestCase):
     @unittest.skipUnless(os.path.exists(LIBRARY), "tools/library builds the library")
     def test_the_same_from_python(self):
         environment = {**os.environ, "PYTHONPATH": f"{ROOT}/python"}
-        ran = subprocess.run([sys.executable, f"{ROOT}/examples/hosts/holdings.py"], capture_output=True, env=environment, timeout=120, check=False)
+        ran = subprocess.run(
+            [sys.executable, f"{ROOT}/examples/hosts/holdings.py"],
+            capture_output=True,
+            env=environment,
+            timeout=120,
+            check=False,
+        )
         self.assertEqual((ran.returncode, ran.stdout, ran.stderr), (0, HOLDINGS, b""))
 
 

@@ -24,8 +24,18 @@ CHANGELOG, HEADER, PYTHON = "CHANGELOG.md", "include/mezguld.h", "python/mezguld
 VERSIONS = (
     (HEADER, '#define MEZGULD_VERSION "', '#define MEZGULD_VERSION "9', "include/mezguld.h: the version is 9"),
     (HEADER, "#define MEZGULD_VERSION_MINOR ", "#define MEZGULD_VERSION_MINOR 9", "MEZGULD_VERSION_MINOR is not"),
-    (HEADER, "#define MEZGULD_VERSION_NUMBER ", "#define MEZGULD_VERSION_NUMBER 9", "include/mezguld.h: the version's number is not"),
-    ("crates/dm_c/src/exports.rt", "const VERSION: u32 = ", "const VERSION: u32 = 9", "exports.rt: the version's number is not"),
+    (
+        HEADER,
+        "#define MEZGULD_VERSION_NUMBER ",
+        "#define MEZGULD_VERSION_NUMBER 9",
+        "include/mezguld.h: the version's number is not",
+    ),
+    (
+        "crates/dm_c/src/exports.rt",
+        "const VERSION: u32 = ",
+        "const VERSION: u32 = 9",
+        "exports.rt: the version's number is not",
+    ),
     (PYTHON, '__version__ = "', '__version__ = "9', "__init__.py: the version is 9"),
     (PYTHON, '__version__ = "', "__version__ = '", "states 0 versions"),
     (CHANGELOG, "\n## ", "\n## 9", "CHANGELOG.md: the version is 9"),
@@ -94,7 +104,11 @@ HELPS = (
 MANUALS = (
     ("| 13 | `SHORT` |", "| 12 | `SHORT` |", "the status SHORT is 12, and 13"),
     ("| 1 | `NO_MACHINE` |", "| 1 | `NO_HOST` |", "the status NO_MACHINE is missing"),
-    ("| 17 to 20 | `LINE_SYNTAX`, `LINE_UNKNOWN`", "| 17 to 20 | `LINE_UNKNOWN`, `LINE_SYNTAX`", "the status LINE_SYNTAX is 18"),
+    (
+        "| 17 to 20 | `LINE_SYNTAX`, `LINE_UNKNOWN`",
+        "| 17 to 20 | `LINE_UNKNOWN`, `LINE_SYNTAX`",
+        "the status LINE_SYNTAX is 18",
+    ),
     ("| 7 | `BREAKPOINT` |", "| 8 | `BREAKPOINT` |", "the stop BREAKPOINT is 8"),
     ("| `--ems` | pages of 16 KiB | 64 |", "| `--ems` | pages of 16 KiB | 63 |", "the default of --ems is 63"),
     ("    dm run [--steps N] ", "    dm run ", "the usage of dm run"),
@@ -106,7 +120,9 @@ def module(script):
     """A script as a module."""
     loader = importlib.machinery.SourceFileLoader(f"script_{script}", f"{ROOT}/tools/{script}")
     made = importlib.util.module_from_spec(importlib.util.spec_from_loader(loader.name, loader))
-    with mock.patch.object(sys, "argv", [script, "--help"]), contextlib.redirect_stdout(io.StringIO()), contextlib.suppress(SystemExit):
+    with mock.patch.object(sys, "argv", [script, "--help"]), contextlib.redirect_stdout(
+        io.StringIO()
+    ), contextlib.suppress(SystemExit):
         loader.exec_module(made)
     return made
 
@@ -120,9 +136,13 @@ def headings(text):
 def dead_links(installed):
     """The links of installed pages, as path and target, that lead to no installed file, or to no heading of it."""
     for path, data in installed.items():
-        for target, heading in re.findall(r"\]\(([^)#\s]*)(?:#([^)\s]*))?\)", data.decode()) if path.endswith(".md") else ():
+        for target, heading in (
+            re.findall(r"\]\(([^)#\s]*)(?:#([^)\s]*))?\)", data.decode()) if path.endswith(".md") else ()
+        ):
             there = os.path.normpath(f"{os.path.dirname(path)}/{target}") if target else path
-            if "://" not in target and (there not in installed or heading and heading not in headings(installed[there].decode())):
+            if "://" not in target and (
+                there not in installed or heading and heading not in headings(installed[there].decode())
+            ):
                 yield f"{path}: {target}#{heading}"
 
 
@@ -132,8 +152,13 @@ def faults_of_help(text):
     texts = {
         (): TOP,
         ("run",): text,
-        ("debug",): text.replace("Options:\n", "Options:\n      --input <FILE>  The input\n").replace("\nExample: ", f"{SESSION}Example: "),
-        ("check",): text.replace("  -h, --help", "      --no-free       Leave out free memory\n      --json          Report in JSON\n  -h, --help"),
+        ("debug",): text.replace("Options:\n", "Options:\n      --input <FILE>  The input\n").replace(
+            "\nExample: ", f"{SESSION}Example: "
+        ),
+        ("check",): text.replace(
+            "  -h, --help",
+            "      --no-free       Leave out free memory\n      --json          Report in JSON\n  -h, --help",
+        ),
     }
     with mock.patch.object(usage, "help_of", lambda _, *words: texts[words]):
         return " ".join(usage.faults("dm"))
@@ -149,7 +174,9 @@ class Versions(unittest.TestCase):
             with self.subTest(path=path, new=new):
                 text = real(path).replace(old, new, 1)
                 self.assertNotEqual(text, real(path))
-                with mock.patch.object(versions, "text_of", lambda name, path=path, text=text: text if name == path else real(name)):
+                with mock.patch.object(
+                    versions, "text_of", lambda name, path=path, text=text: text if name == path else real(name)
+                ):
                     self.assertIn(words, " ".join(versions.faults()))
 
     def test_of_a_program(self):
@@ -203,18 +230,33 @@ class Documents(unittest.TestCase):
                 self.assertEqual([*dead_links(installed)], [])
 
     def test_dead_links_are_found(self):
-        pages_there = {"a/b.md": b"# One two\n\n[x](c.md#three), [x](c.md#four), [x](../d.md), [x](#one-two), [x](#two) [x](http://e)", "a/c.md": b"## Three"}
+        pages_there = {
+            "a/b.md": (
+                b"# One two\n\n[x](c.md#three), [x](c.md#four), [x](../d.md), [x](#one-two), [x](#two) [x](http://e)"
+            ),
+            "a/c.md": b"## Three",
+        }
         self.assertEqual([*dead_links(pages_there)], ["a/b.md: c.md#four", "a/b.md: ../d.md#", "a/b.md: #two"])
 
     def test_a_link_to_what_is_not_installed_is_its_text(self):
-        with mock.patch.object(tree, "bytes_of", lambda _: b"[a](testing.md#rows), [b](manual.md), [c\nd](../CHANGELOG.md), [e](no-file)"):
+        with mock.patch.object(
+            tree, "bytes_of", lambda _: b"[a](testing.md#rows), [b](manual.md), [c\nd](../CHANGELOG.md), [e](no-file)"
+        ):
             self.assertEqual(tree.page("docs/proved.md", ["docs/manual.md"]), b"a, [b](manual.md), c\nd, [e](no-file)")
 
 
 class Lists(unittest.TestCase):
     def test_what_is_no_list_is_refused(self):
         install = module("install")
-        for text in ("word ../x\n", "word  ../x\n", "word  /etc/passwd\n", "word  a/../../x\n", "word  a//b\n", "word\n", "\n"):
+        for text in (
+            "word ../x\n",
+            "word  ../x\n",
+            "word  /etc/passwd\n",
+            "word  a/../../x\n",
+            "word  a//b\n",
+            "word\n",
+            "\n",
+        ):
             with self.subTest(text=text), tempfile.TemporaryDirectory() as prefix:
                 os.makedirs(f"{prefix}/share/mezguld")
                 with open(f"{prefix}/{install.LIST}", "w", encoding="utf-8") as file:

@@ -23,7 +23,17 @@ class Table(unittest.TestCase):
 
     def test_instructions_have_their_lengths(self):
         numbers = random.Random(1)
-        lengths = {"8B": {2, 3, 4}, "81/0": {4, 5, 6}, "83/0": {3, 4, 5}, "EA": {5}, "D4": {2}, "F6/0": {3, 4, 5}, "F7/0": {4, 5, 6}, "F7/2": {2, 3, 4}, "8D": {2, 3, 4}}
+        lengths = {
+            "8B": {2, 3, 4},
+            "81/0": {4, 5, 6},
+            "83/0": {3, 4, 5},
+            "EA": {5},
+            "D4": {2},
+            "F6/0": {3, 4, 5},
+            "F7/0": {4, 5, 6},
+            "F7/2": {2, 3, 4},
+            "8D": {2, 3, 4},
+        }
         for entry in opcodes.ENTRIES:
             name = entry.name.split()[0]
             if name in lengths:
@@ -55,9 +65,14 @@ class Vectors(unittest.TestCase):
         for name, bad in (("tests.json.gz", data), ("tests.json.gz", gzip.compress(data)[:-20])):
             self.assertRaises(peer_vectors.Bad, peer_vectors.tests_of, self.write(bad, name))
         for change in (
-            lambda test: test.pop("final"), lambda test: test["initial"]["regs"].pop("flags"), lambda test: test["initial"]["regs"].update(ax=0x10000),
-            lambda test: test["initial"]["regs"].update(ax="5"), lambda test: test.update(bytes=[256]), lambda test: test.update(bytes=[]),
-            lambda test: test["initial"]["ram"].append([0x100000, 0]), lambda test: test["final"]["ram"].append([0, 256]),
+            lambda test: test.pop("final"),
+            lambda test: test["initial"]["regs"].pop("flags"),
+            lambda test: test["initial"]["regs"].update(ax=0x10000),
+            lambda test: test["initial"]["regs"].update(ax="5"),
+            lambda test: test.update(bytes=[256]),
+            lambda test: test.update(bytes=[]),
+            lambda test: test["initial"]["ram"].append([0x100000, 0]),
+            lambda test: test["final"]["ram"].append([0, 256]),
             lambda test: test["final"]["ram"].append([0]),
         ):
             tests = json.loads(data)
@@ -66,7 +81,10 @@ class Vectors(unittest.TestCase):
 
     def test_entries_of_instructions(self):
         for code, name, is_repeated in (
-            ([0x00, 0xD8], "00 ADD", False), ([0x26, 0xF3, 0xA4], "A4 MOVSB", True), ([0xF6, 0xF3], "F6/6 DIV", False), ([0xF3, 0x90], "90 XCHG", False),
+            ([0x00, 0xD8], "00 ADD", False),
+            ([0x26, 0xF3, 0xA4], "A4 MOVSB", True),
+            ([0xF6, 0xF3], "F6/6 DIV", False),
+            ([0xF3, 0x90], "90 XCHG", False),
         ):
             entry, repeated = peer_vectors.entry_of(code)
             self.assertEqual((entry.name, repeated), (name, is_repeated))

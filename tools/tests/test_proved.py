@@ -65,7 +65,13 @@ class Names(unittest.TestCase):
     def test_each_other_of_the_first_table_is_reported(self):
         for calls, says, words in MAIN_LINES:
             with self.subTest(calls=calls, says=says):
-                found = faults_in(proved.PAGE, f"## Main contracts\n\n| What | The contract of | Says |\n|---|---|---|\n| runs | {calls} | {says} |\n\n## By crate\n")
+                found = faults_in(
+                    proved.PAGE,
+                    (
+                        f"## Main contracts\n\n| What | The contract of | Says |\n|---|---|---|\n| runs | {calls} |"
+                        f" {says} |\n\n## By crate\n"
+                    ),
+                )
                 self.assertEqual(len(found), 0 if words is None else 1, found)
                 self.assertIn(words or "", " ".join(found))
 
