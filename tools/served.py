@@ -1,5 +1,5 @@
 """The functions that are served, by their numbers, as the tables of definitions have them: `function_of` of INT 21h
-and of each driver."""
+and of each driver; and their names in reports."""
 import re
 
 import specs
@@ -22,6 +22,21 @@ def numbers(folder):
     if len(set(those)) < len(those):
         raise Unread(f"{path} has a number twice")
     return those
+
+
+def named(folder):
+    """The words by which reports name each function that is served, by its number."""
+    table = specs.text_of(f"crates/{folder}/Functions.antt")
+    names = specs.text_of("crates/dm_reports/specs/Names.antt")
+    head = {DOS: "dos_name", EXPANDED: "expanded_name", EXTENDED: "extended_name"}[folder]
+    other = {new: old for old, new in re.findall(r"\b(\w+) as (\w+)", names)}
+    words = {}
+    for name, text in re.findall(rf'^{head} (?:\w+\.)?(\w+) = codes " \((.*)\)"$', names, re.M):
+        words[other.get(name, name)] = text
+    functions = dict(re.findall(r"\bif number == 0x(\w+) then (\w+)", table))
+    if set(functions.values()) != set(words):
+        raise Unread(f"crates/dm_reports/specs/Names.antt has no name, or one too many, for a function of {folder}")
+    return {int(number, 16): words[name] for number, name in functions.items()}
 
 
 def spelled(folder):
