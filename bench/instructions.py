@@ -376,6 +376,10 @@ def elsewhere():
     yield "far CALL and RETF, each, with the function in another segment", Sample(
         "CALL FAR", "far", ("DB 9Ah", "DW 2,1200h"), setup=there, steps=2, parts=2
     )
+    pointer = ("MOV WORD [2400h],2", "MOV WORD [2402h],1200h")
+    yield "far CALL of memory and RETF, each, with the function in another segment", Sample(
+        "CALL FAR", "far, of memory", "CALL FAR [2400h]", setup=(*there, *pointer), steps=2, parts=2
+    )
     yield "INT 10h (not served) and its IRET, each", Sample("INT", "10h", "INT 10h", steps=2, parts=2)
     for function, what in (("30h", "version"), ("0Bh", "input status"), ("2Ah", "no function")):
         yield f"INT 21h function {function} ({what}), with its INT", Sample(
