@@ -36,9 +36,8 @@ pub data IsAsmFault (known : Option (List ℕ)) (path : List ℕ) : Fault → Ty
   text_no_memory : IsAsmFault known path OutOfMemory
 
 -- `dm asm`: the bytes of the text are written to a file; or that failed, and the count of failed saves is one higher;
--- or
--- the file is the one of the text, by the same path, which is not written over; or a fault came before. `before` and
--- `after` are the files written, which change in the first case alone
+-- or the file is the one of the text, by the same path, which is not written over; or a fault came before. `before`
+-- and `after` are the files written, which change in the first case alone
 pub data AssemblesFile (files : List ℕ → Option (List ℕ)) (o : AsmOptions) (before after : Option (List (List ℕ ×
     List ℕ))) (failed_before failed_after : ℕ) : Option Fault → Type 0 where
   saved : (bytes : List ℕ) → IsAssembled (files o.input.now) bytes → bytes_eq o.output.now o.input.now ≡ false →
