@@ -52,9 +52,15 @@ PLANTED = (
     ("bench/figures.json", '"CRC.COM run": ', '"CRC.COM run": 9', "run bench/tables"),
     (
         "python/mezguld/__init__.py",
-        "3: OutOfMemory, 5: TooLarge",
-        "13: OutOfMemory, 5: TooLarge",
+        "    3: OutOfMemory,",
+        "    13: OutOfMemory,",
         "MEZGULD_OUT_OF_MEMORY",
+    ),
+    (
+        "python/mezguld/picture.py",
+        '0x49: "Free Allocated Memory"',
+        '0x49: "Free Memory"',
+        "function 49h of DOS is `Free Allocated Memory` in reports",
     ),
     ("include/mezguld.h", "MEZGULD_SHORT = 13", "MEZGULD_SHORT = 3", "MEZGULD_SHORT"),
     ("include/mezguld.h", '#define MEZGULD_VERSION "', '#define MEZGULD_VERSION "9', "the version is 9"),
