@@ -2,6 +2,7 @@
 //! any places where it has them. Which instruction does which of them, `dm_exec` says.
 #![tactic(auto)]
 
+mod above;
 pub mod adjustments;
 pub mod arithmetic;
 mod bits;
