@@ -124,7 +124,7 @@ impl CheckedRun {
         let most = self.left;
         let mut left = most;
         for _ in 0..most {
-            self.kept.look_at_home(machine);
+            self.kept.look_at_segments(machine);
             left -= pass(machine, &self.kept, left);
             if left == 0 {
                 return Ok(Some(Stop::Steps));

@@ -210,12 +210,15 @@ fn are_same_windows(first: &[Option<Block>; 4], second: &[Option<Block>; 4]) -> 
 }
 
 impl Watch {
-    /// Finds out whether the segments of the machine's data and stack have marks. What is known of the arena stays.
-    pub(crate) fn look_at_home(&mut self, machine: &Machine)
+    /// Finds out whether the segments of the machine's data and stack, and its extra segment, have marks. What is known
+    /// of the arena stays.
+    pub(crate) fn look_at_segments(&mut self, machine: &Machine)
         ensures { self.new ≡ self.old }
     {
         let cpu = machine.cpu();
-        self.marks.look_at_home(cpu.ds, cpu.ss);
+        self.marks.look_at(cpu.ds);
+        self.marks.look_at(cpu.ss);
+        self.marks.look_at(cpu.es);
     }
 
     /// Whether the machine's windows, all bytes that were read and whether upper memory belongs to the arena are still

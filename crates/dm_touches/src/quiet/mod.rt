@@ -4,5 +4,5 @@
 mod marks;
 mod touch;
 
-pub use marks::{Marks, home_of, is_unmarked};
-pub use touch::{Touch, is_at_home, touch_of};
+pub use marks::{Marks, home_number, is_unmarked};
+pub use touch::{Touch, stays_home, touch_of};
