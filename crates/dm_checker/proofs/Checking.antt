@@ -16,7 +16,7 @@ use Rattle.dm_checker.specs.declared.watch.Watch.{Watch}
 use Rattle.dm_checker.specs.Checks.{FindsIn, Checks, IsReport, RunsPart, reported}
 use Rattle.dm_checker.specs.Checks as checks
 use Rattle.dm_checker.specs.Findings.{none}
-use Rattle.dm_checker.specs.inner.Steps.{ChecksOne, IsPart, IsPassing, PassesIn}
+use Rattle.dm_checker.specs.inner.Steps.{ChecksOne, IsPart, IsUnfound, GoesUnfound}
 use Rattle.dm_checker.specs.inner.Steps as steps
 use Rattle.dm_checker.proofs.OneCheck.{finds_goes, checked_run}
 
@@ -82,16 +82,16 @@ checked_more free s t u n w k l old new h x = record {
 }
 
 -- steps of which nothing is found, and that allocate and free nothing
-record Passed (s : State) (n : ℕ) (u : State) (k : Known) (fs : List Found) : Type 0 where
+record Unfound (s : State) (n : ℕ) (u : State) (k : Known) (fs : List Found) : Type 0 where
   finds : FindsIn s n u fs
   knows : OriginsIn s n u k
 
-passed_by : (s u : State) (n m : ℕ) (k : Known) (fs : List Found) → n ≡ m → Passed s n u k fs → Passed s m u k fs
-passed_by s u n m k fs e x = (let F : ℕ → Type 0 = λ i. Passed s i u k fs in subst F e x)
+unfound_by : (s u : State) (n m : ℕ) (k : Known) (fs : List Found) → n ≡ m → Unfound s n u k fs → Unfound s m u k fs
+unfound_by s u n m k fs e x = (let F : ℕ → Type 0 = λ i. Unfound s i u k fs in subst F e x)
 
-finds_on : (s t u : State) (n m : ℕ) (k : Known) (fs : List Found) → Passed s n t k fs → PassesIn t m u →
-    Passed s (n + m) u k fs
-finds_on s t _ n _ k fs x steps.here = passed_by s t n (n + 0) k fs (omega arith) x
+finds_on : (s t u : State) (n m : ℕ) (k : Known) (fs : List Found) → Unfound s n t k fs → GoesUnfound t m u →
+    Unfound s (n + m) u k fs
+finds_on s t _ n _ k fs x steps.here = unfound_by s t n (n + 0) k fs (omega arith) x
 finds_on s t _ n _ k fs x (steps.further m u v g step p) =
     let before = finds_on s t u n m k fs x g in
     let knows = p.knows k in
@@ -102,13 +102,13 @@ finds_on s t _ n _ k fs x (steps.further m u v g step p) =
       told = none refl refl;
     }) in
     let G : List Found → Type 0 = λ l. FindsIn s (n + m + 1) v l in
-    passed_by s v (n + m + 1) (n + (m + 1)) k fs (omega arith) (record {
+    unfound_by s v (n + m + 1) (n + (m + 1)) k fs (omega arith) (record {
       finds = subst G (append-nil fs) done;
       knows = origins.further (n + m) u v k k before.knows step knows;
     })
 
 pub checked_on : (free : Bool) (s t u : State) (n m : ℕ) (k : Known) (r : Reported) → HasChecked free s n t k r →
-    PassesIn t m u → HasChecked free s (n + m) u k r
+    GoesUnfound t m u → HasChecked free s (n + m) u k r
 checked_on free s t u n m k r h f =
     let x = finds_on s t u n m k h.found (record { finds = h.finds; knows = h.knows }) f in
     record { running = h.running; found = h.found; finds = x.finds; knows = x.knows; is = h.is }

@@ -10,7 +10,7 @@ use Rattle.dm_machine.specs.Step.{MakesStep}
 use Rattle.dm_machine.specs.Run.{Answers}
 use Rattle.dm_machine.specs.Unmarked.{IsUnmarked, GoesUnmarked}
 use Rattle.dm_machine.specs.Unmarked as unmarked
-use Rattle.dm_touches.specs.quiet.Marks.{lies_below, passes_if, pass}
+use Rattle.dm_touches.specs.quiet.Marks.{lies_below, satisfies, satisfy}
 use Rattle.dm_findings.specs.declared.calls.Call.{Call}
 use Rattle.dm_findings.specs.declared.finding.Act.TheVariants as act
 use Rattle.dm_findings.specs.declared.finding.Finding.{Finding}
@@ -40,8 +40,8 @@ use Rattle.dm_checker.specs.Processes.{KnowsAtStop}
 use Rattle.dm_checker.specs.Watching.{header_of, broken_at, IsWatch}
 use Rattle.dm_checker.specs.inner.Watching.{shown_of, IsSeen}
 use Rattle.dm_checker.specs.Clear.{is_read_clear, is_write_clear}
-use Rattle.dm_checker.specs.inner.Clear.{IsPassed}
-use Rattle.dm_checker.specs.inner.Steps.{IsBefore, found_by, ReportsMore, Touches, Looks, ChecksOne, IsPassing, PassesIn}
+use Rattle.dm_checker.specs.inner.Clear.{IsClearAt}
+use Rattle.dm_checker.specs.inner.Steps.{IsBefore, found_by, ReportsMore, Touches, Looks, ChecksOne, IsUnfound, GoesUnfound}
 use Rattle.dm_checker.specs.inner.Steps as steps
 use Rattle.dm_checker.proofs.Acting.{some_none, call_acts, had_ended, exit_changes_nothing}
 use Rattle.dm_checker.proofs.Seen.{seen_watch}
@@ -270,7 +270,7 @@ stops free s t stop w k r a other = record {
 -- ---- a step of an instruction that touches nothing that matters
 
 -- nothing is found of what it touches
-clear_touched : (s t : State) (w : Watch) → (p : IsPassed s w) → Answers s None t → FindsTouched s (shown_of w) []
+clear_touched : (s t : State) (w : Watch) → (p : IsClearAt s w) → Answers s None t → FindsTouched s (shown_of w) []
 unfolding touch_findings
 clear_touched s t w p a =
     let rs = bytes_of (reads (guest s.cpu s.memory) p.ins p.length) in
@@ -294,7 +294,7 @@ abbrev pub HasPages : State → Type 0
 HasPages s = (k : ℕ) → IfSome (slice_index_or s.memory.windows k None) (IsPage s.memory)
 
 -- memory still shows what was kept
-clear_seen : (s t : State) (w : Watch) → IsPassed s w → HasPages s → Answers s None t → IsWatch s.upper s.memory w →
+clear_seen : (s t : State) (w : Watch) → IsClearAt s w → HasPages s → Answers s None t → IsWatch s.upper s.memory w →
     IsSeen t.upper t.memory w
 clear_seen s t w p pages a x =
     let g = guest s.cpu s.memory in
@@ -308,22 +308,22 @@ clear_seen s t w p pages a x =
 
 -- ---- steps of instructions that touch nothing that is marked
 
-pass_more : (p q : ℕ → Bool) → ((a : ℕ) → p a ≡ true → q a ≡ true) → (a20 : Bool) (e : Elements) → pass p a20 e ≡ true →
-    pass q a20 e ≡ true
+pass_more : (p q : ℕ → Bool) → ((a : ℕ) → p a ≡ true → q a ≡ true) → (a20 : Bool) (e : Elements) → satisfy p a20 e ≡ true →
+    satisfy q a20 e ≡ true
 pass_more p q h a20 e t =
-    let a = passes_if p a20 e.first in
-    let b = passes_if p a20 e.second in
-    let c = passes_if p a20 e.third in
+    let a = satisfies p a20 e.first in
+    let b = satisfies p a20 e.second in
+    let c = satisfies p a20 e.third in
     let both = and_left (a && b) c t in
-    and_both (passes_if q a20 e.first && passes_if q a20 e.second) (passes_if q a20 e.third)
-    (and_both (passes_if q a20 e.first) (passes_if q a20 e.second) (element_more p q h a20 e.first (and_left a b both))
+    and_both (satisfies q a20 e.first && satisfies q a20 e.second) (satisfies q a20 e.third)
+    (and_both (satisfies q a20 e.first) (satisfies q a20 e.second) (element_more p q h a20 e.first (and_left a b both))
     (element_more p q h a20 e.second (and_right a b both)))
     (element_more p q h a20 e.third (and_right (a && b) c t))
 
 -- nothing is found of a step that touches nothing that is marked
-unmarked_passes : (s : State) (w : Watch) → w.broken ≡ None → IsWatch s.upper s.memory w → IsUnmarked w.marks s →
-    Begins s → IsPassed s w
-unmarked_passes s w whole x u b =
+unmarked_is_clear : (s : State) (w : Watch) → w.broken ≡ None → IsWatch s.upper s.memory w → IsUnmarked w.marks s →
+    Begins s → IsClearAt s w
+unmarked_is_clear s w whole x u b =
     let g = guest s.cpu s.memory in
     let quiet = u.quiet b.ins b.length b.begins in
     record {
@@ -341,34 +341,34 @@ unmarked_passes s w whole x u b =
     }
 
 -- so many such steps lead from s to t
-pub record Passes (s t : State) (w : Watch) (n : ℕ) : Type 0 where
-  pub passes : PassesIn s n t
+pub record StaysUnfound (s t : State) (w : Watch) (n : ℕ) : Type 0 where
+  pub unfound : GoesUnfound s n t
   pub watch : IsWatch t.upper t.memory w
   pub pages : HasPages t
 
-passes_more : (s t u : State) (w : Watch) (n : ℕ) → w.broken ≡ None → Passes s t w n → IsUnmarked w.marks t →
-    MakesStep t (record { stop = None; state = u }) → Passes s u w (n + 1)
-passes_more s t u w n whole p x step =
-    let passed = unmarked_passes t w whole p.watch x (begins_of t u x.below step) in
+unfound_more : (s t u : State) (w : Watch) (n : ℕ) → w.broken ≡ None → StaysUnfound s t w n → IsUnmarked w.marks t →
+    MakesStep t (record { stop = None; state = u }) → StaysUnfound s u w (n + 1)
+unfound_more s t u w n whole p x step =
+    let passed = unmarked_is_clear t w whole p.watch x (begins_of t u x.below step) in
     let seen = clear_seen t u w passed p.pages step p.watch in
     let uncalled = no_call t.cpu passed.below in
     let watch = seen_watch t.upper u.upper t.memory u.memory w p.watch seen in
-    let passing : IsPassing t u = record {
+    let passing : IsUnfound t u = record {
       finds = nothing_by t u w uncalled p.watch seen (clear_touched t u w passed
           step);
       knows = λ k. known_still t u w w k uncalled p.watch watch;
     } in
-    record { passes = steps.further n t u p.passes step passing; watch = watch; pages = seen.pages }
+    record { unfound = steps.further n t u p.unfound step passing; watch = watch; pages = seen.pages }
 
-passes_all : (s : State) (w : Watch) (t : State) (n : ℕ) → w.broken ≡ None → IsWatch s.upper s.memory w → HasPages s →
-    GoesUnmarked w.marks s n t → Passes s t w n
-passes_all s w _ _ whole x pages unmarked.here = record { passes = steps.here; watch = x; pages = pages }
-passes_all s w _ _ whole x pages (unmarked.further n t u g i h) =
-    passes_more s t u w n whole (passes_all s w t n whole x pages g) i h
+unfound_all : (s : State) (w : Watch) (t : State) (n : ℕ) → w.broken ≡ None → IsWatch s.upper s.memory w → HasPages s →
+    GoesUnmarked w.marks s n t → StaysUnfound s t w n
+unfound_all s w _ _ whole x pages unmarked.here = record { unfound = steps.here; watch = x; pages = pages }
+unfound_all s w _ _ whole x pages (unmarked.further n t u g i h) =
+    unfound_more s t u w n whole (unfound_all s w t n whole x pages g) i h
 
-pub passes : (s t : State) (w : Watch) (n : ℕ) → w.broken ≡ None → IsWatch s.upper s.memory w → AreConsistent s →
-    GoesUnmarked w.marks s n t → Passes s t w n
-passes s t w n whole x linked g = passes_all s w t n whole x (pages_there s linked) g
+pub unfound : (s t : State) (w : Watch) (n : ℕ) → w.broken ≡ None → IsWatch s.upper s.memory w → AreConsistent s →
+    GoesUnmarked w.marks s n t → StaysUnfound s t w n
+unfound s t w n whole x linked g = unfound_all s w t n whole x (pages_there s linked) g
 
 pub not_broken : {T : Type 0} (o : Option T) → is_some o ≡ false → o ≡ None
 not_broken None e = refl

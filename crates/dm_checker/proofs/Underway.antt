@@ -16,7 +16,7 @@ use Rattle.dm_checker.specs.Checks.{FindsIn, IsReport, RunsPart, reported}
 use Rattle.dm_checker.specs.Checks as checks
 use Rattle.dm_checker.specs.Checking.{UnderWay, HasMade, IsLonger, IsUnderWay, going, had_ended, founds, ListsSame, GoesToFirst, lists_more}
 use Rattle.dm_checker.specs.Checking as checking
-use Rattle.dm_checker.specs.inner.Steps.{ChecksOne, IsPart, PassesIn}
+use Rattle.dm_checker.specs.inner.Steps.{ChecksOne, IsPart, GoesUnfound}
 use Rattle.dm_checker.specs.Watching.{IsWatch}
 use Rattle.dm_checker.proofs.Checking.{HasChecked, checked_none, checked_on, checked_all, checked_cut, checked_more, part_next}
 use Rattle.dm_checker.proofs.Longer.{longer_by, listed_same}
@@ -75,7 +75,7 @@ begins s t n c e same left empty first watch = by s.exited refl
 -- ---- one more step
 
 module _ (free : Bool) (s t u : State) (n left passed : ℕ) (k : Known) (r : Reported) (few : left
-    ≤ n) (h : HasChecked free s (n - left) t k r) (f : PassesIn t passed u) where
+    ≤ n) (h : HasChecked free s (n - left) t k r) (f : GoesUnfound t passed u) where
   on : HasChecked free s (n - left + passed) u k r
   on = checked_on free s t u (n - left) passed k r h f
 

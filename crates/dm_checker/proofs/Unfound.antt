@@ -17,7 +17,7 @@ use Rattle.dm_touches.specs.declared.elements.Element.{Element}
 use Rattle.dm_touches.specs.declared.elements.Element.TheVariants as element
 use Rattle.dm_touches.specs.declared.elements.Elements.{Elements}
 use Rattle.dm_findings.specs.declared.finding.Finding.TheVariants.{RomWritten, NothingWritten}
-use Rattle.dm_touches.specs.quiet.Marks.{passes_if, pass}
+use Rattle.dm_touches.specs.quiet.Marks.{satisfies, satisfy}
 use Rattle.dm_checker.specs.Clear.{is_free_of, is_at, is_high, keeps_writes, is_write_clear}
 
 -- ---- tests
@@ -43,7 +43,7 @@ neither false b e = (refl, e)
 
 -- ---- tests of all bytes
 
--- whether the linear addresses of all these bytes pass the test
+-- whether the linear addresses of all these bytes satisfy the test
 abbrev pub are_all : (ℕ → Bool) → Bool → List FarAddress → Bool
 are_all is a20 [] = true
 are_all is a20 (f ∷ fs) = is (linear_of a20 f) && are_all is a20 fs
@@ -55,7 +55,7 @@ all_append is a20 (f ∷ fs) gs e h = and_both (is (linear_of a20 f)) (are_all i
     ++ gs)) (and_left (is (linear_of a20 f)) (are_all is a20 fs) e) (all_append is a20 fs gs
     (and_right (is (linear_of a20 f)) (are_all is a20 fs) e) h)
 
-element_all : (is : ℕ → Bool) (a20 : Bool) (o : Option Element) → passes_if is a20 o ≡ true →
+element_all : (is : ℕ → Bool) (a20 : Bool) (o : Option Element) → satisfies is a20 o ≡ true →
     are_all is a20 (bytes_if o) ≡ true
 element_all is a20 None e = refl
 element_all is a20 (Some (element.Byte s o)) e = and_both (is (linear_of a20 (far s o))) true e refl
@@ -65,7 +65,7 @@ element_all is a20 (Some (element.Word s o)) e =
     and_both first (second && true) (and_left first second e) (and_both second true (and_right first second e) refl)
 
 pub element_more : (p q : ℕ → Bool) → ((a : ℕ) → p a ≡ true → q a ≡ true) → (a20 : Bool) (o : Option Element) →
-    passes_if p a20 o ≡ true → passes_if q a20 o ≡ true
+    satisfies p a20 o ≡ true → satisfies q a20 o ≡ true
 element_more p q h a20 None t = refl
 element_more p q h a20 (Some (element.Byte s o)) t = h _ t
 element_more p q h a20 (Some (element.Word s o)) t =
@@ -74,12 +74,12 @@ element_more p q h a20 (Some (element.Word s o)) t =
     and_both (q first) (q second) (h first (and_left (p first) (p second) t))
     (h second (and_right (p first) (p second) t))
 
-pub elements_all : (is : ℕ → Bool) (a20 : Bool) (e : Elements) → pass is a20 e ≡ true →
+pub elements_all : (is : ℕ → Bool) (a20 : Bool) (e : Elements) → satisfy is a20 e ≡ true →
     are_all is a20 (bytes_of e) ≡ true
 elements_all is a20 e t =
-    let a = passes_if is a20 e.first in
-    let b = passes_if is a20 e.second in
-    let c = passes_if is a20 e.third in
+    let a = satisfies is a20 e.first in
+    let b = satisfies is a20 e.second in
+    let c = satisfies is a20 e.third in
     let both = and_left (a && b) c t in
     all_append is a20 (bytes_if e.first ++ bytes_if e.second) (bytes_if e.third)
     (all_append is a20 (bytes_if e.first) (bytes_if e.second) (element_all is a20 e.first (and_left a b both))
@@ -93,7 +93,7 @@ all_weaker p q w a20 (f ∷ fs) e = and_both (q (linear_of a20 f)) (are_all q a2
     (w (linear_of a20 f) (and_left (p (linear_of a20 f)) (are_all p a20 fs) e)) (all_weaker p q w a20 fs
     (and_right (p (linear_of a20 f)) (are_all p a20 fs) e))
 
--- no byte passes a test that each fails
+-- no byte satisfies a test that each fails
 none_that : (is : ℕ → Bool) (a20 : Bool) (fs : List FarAddress) → are_all (λ a. not (is a)) a20 fs ≡ true →
     first_that a20 is fs ≡ None
 none_that is a20 [] e = refl

@@ -7,7 +7,7 @@ ghost use Rattle.dm_findings.specs.Report.{report_of};
 ghost use Rattle.dm_checker.specs.Checks.{IsReport, RunsPart};
 ghost use Rattle.dm_checker.specs.Checking.{RunGoesOn, GoesToFirst, HasProcesses, IsLonger, IsUnderWay};
 
-use crate::steps::{look_at_step, pass};
+use crate::steps::{look_at_step, run_unmarked};
 use crate::watch::{Watch, read_arena};
 use dm_findings::Report;
 use dm_findings::processes::Process;
@@ -125,7 +125,7 @@ impl CheckedRun {
         let mut left = most;
         for _ in 0..most {
             self.kept.look_at_segments(machine);
-            left -= pass(machine, &self.kept, left);
+            left -= run_unmarked(machine, &self.kept, left);
             if left == 0 {
                 return Ok(Some(Stop::Steps));
             }

@@ -14,7 +14,7 @@ ghost use Rattle.dm_checker.specs.Origins.{IsKnownAfter};
 ghost use Rattle.dm_checker.specs.Checks.{FindsAtEnd};
 ghost use Rattle.dm_checker.specs.Watching.{IsWatch, broken_at};
 ghost use Rattle.dm_checker.specs.inner.Watching.{shown_of};
-ghost use Rattle.dm_checker.specs.inner.Steps.{IsBefore, IsPart, Looks, ReportsMore, found_by, ChecksOne, PassesIn};
+ghost use Rattle.dm_checker.specs.inner.Steps.{IsBefore, IsPart, Looks, ReportsMore, found_by, ChecksOne, GoesUnfound};
 
 use crate::acts::Before;
 use crate::arranged::put_arranged;
@@ -276,15 +276,15 @@ pub(crate) fn look_at_step(
     }
 }
 
-/// The most steps that are passed before DS and SS are looked at again: the program may have set them.
+/// The most steps that are made before DS and SS are looked at again: the program may have set them.
 const BEFORE_A_LOOK: u64 = 0x1_0000;
 
 /// Makes at most `most` steps of instructions of which nothing is found, by the bytes that they touch, and that
 /// allocate and free nothing, and returns how many. `kept` is the arena before them, and after them.
-pub(crate) fn pass(machine: &mut Machine, kept: &Watch, most: u64) -> u64
+pub(crate) fn run_unmarked(machine: &mut Machine, kept: &Watch, most: u64) -> u64
     requires program { HasProgram machine.old }
     requires watch { IsWatch machine.old.upper machine.old.memory kept.now }
-    ensures passes { PassesIn machine.old result machine.new }
+    ensures unfound { GoesUnfound machine.old result machine.new }
     ensures most { result ≤ most }
     ensures watch { IsWatch machine.new.upper machine.new.memory kept.now }
     ensures program { HasProgram machine.new }

@@ -6,7 +6,7 @@ mod each;
 mod effect;
 mod element;
 mod far;
-mod far_above;
+mod far_outside;
 mod jumps;
 mod laws;
 mod moves;
@@ -23,7 +23,7 @@ pub use effect::{Next, exec, execute};
 pub use far::{
     call_to_pointer, jump_to_pointer, load_far_low, load_far_shown, push_far_low, return_far_low,
 };
-pub use far_above::{call_by_pointer, jump_by_pointer, push_return, return_far_anywhere};
+pub use far_outside::{call_by_pointer, far_return_target, jump_by_pointer, push_return};
 pub use jumps::{
     call_by, call_memory, call_register, is_taken, jump_memory, jump_register, return_near,
     target_after, target_by_count, transfer,

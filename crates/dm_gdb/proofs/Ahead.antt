@@ -16,7 +16,7 @@ use Rattle.dm_checker.specs.Checks.{FindsIn, reported}
 use Rattle.dm_checker.specs.Checking.{UnderWay, GoesToFirst, ListsSame, founds, lists_more}
 use Rattle.dm_checker.specs.Checking as first
 use Rattle.dm_checker.proofs.OneCheck.{finds_goes}
-use Rattle.dm_history.specs.Pasts.{Past}
+use Rattle.dm_history.specs.Timelines.{Timeline}
 use Rattle.dm_requests.specs.declared.request.Request.TheVariants as request
 use Rattle.dm_gdb.specs.declared.replies.Reply.{Reply}
 use Rattle.dm_gdb.specs.declared.replies.Reply.TheVariants as reply
@@ -175,17 +175,17 @@ told_stopped s t old new o why steps text r e able empty free goes same made tol
 -- ---- the session
 
 -- a reply to the command, where what changed is known
-checks_as : (a s : Served) (x : Past) (most : ℕ) (line : List ℕ) (told : Reply) → a ≡ s → is_check line ≡ true →
+checks_as : (a s : Served) (x : Timeline) (most : ℕ) (line : List ℕ) (told : Reply) → a ≡ s → is_check line ≡ true →
     x ≡ record a.history { machine = x.machine } → ChecksFrom a.history.machine told x.machine
     → Replies s most (request.Command line) told (record a { history = x })
 checks_as a s x most line told e is f h =
     subst (λ (y : Served). Replies y most (request.Command line) told (record a { history = x })) e
     (replies_as a (record a { history = x }) (at_state a x.machine) most (request.Command line)
     (request.Command line) told told (checks line told x.machine is h) refl refl
-    (ap (λ (p : Past). record a { history = p }) f))
+    (ap (λ (p : Timeline). record a { history = p }) f))
 
 -- memory for the output was wanted on the way
-pub short_as : (a s : Served) (x : Past) (most : ℕ) (line : List ℕ) (steps : ℕ) (text : List ℕ) (why : Stop) → a ≡ s →
+pub short_as : (a s : Served) (x : Timeline) (most : ℕ) (line : List ℕ) (steps : ℕ) (text : List ℕ) (why : Stop) → a ≡ s →
     is_check line ≡ true → x ≡ record a.history { machine = x.machine }
     → LeadsAhead a.history.machine steps text → IsRun a.history.machine steps why x.machine → why ≡ NoMemory →
     Replies s most (request.Command line) reply.StoppedBefore (record a { history = x })
@@ -194,7 +194,7 @@ short_as a s x most line steps text why e is f ahead went wanted =
     (subst (λ (z : Stop). IsRun a.history.machine steps z x.machine) wanted went))
 
 -- the steps were made
-pub checked_as : (a s : Served) (x : Past) (most : ℕ) (line : List ℕ) (steps : ℕ) (text : List ℕ) (why : Stop)
+pub checked_as : (a s : Served) (x : Timeline) (most : ℕ) (line : List ℕ) (steps : ℕ) (text : List ℕ) (why : Stop)
     (told : Reply) → a ≡ s → is_check line ≡ true → x ≡ record a.history { machine = x.machine }
     → LeadsAhead a.history.machine steps text → IsRun a.history.machine steps why x.machine → why ≢ NoMemory →
     told ≡ reply.Bytes text → Replies s most (request.Command line) told (record a { history = x })

@@ -12,7 +12,7 @@ use Rattle.dm_gdb.specs.declared.replies.Reply.{Reply}
 use Rattle.dm_target.specs.Going.{Continues}
 use Rattle.dm_requests.specs.declared.commands.command.Command.{Command}
 use Rattle.dm_debug.specs.Debugged.{Debugged}
-use Rattle.dm_history.specs.Pasts.{Past, new_past}
+use Rattle.dm_history.specs.Timelines.{Timeline, new_timeline}
 use Rattle.dm_debug.specs.Sessions.{Displays, Does, DoesPart, shows, goes, traces, sets, clears, enters, nothing, ran, traced}
 use Rattle.dm_gdb.specs.Monitor.{is_shown, step_asked, stepped_reply}
 use Rattle.dm_machine.specs.Run.{IsRun}
@@ -108,7 +108,7 @@ cut_only _ s t h (ran n why u r) = absurd cc
 cut_only _ s t h (traced n u r) = absurd cc
 
 -- steps up to one that is wanted, where what is known is of the session as it was read
-pub goes_to_as : (a s : Served) (x : Past) (most : ℕ) (line : List ℕ) (n here : ℕ) (why : Stop) (told : Reply) → a ≡ s →
+pub goes_to_as : (a s : Served) (x : Timeline) (most : ℕ) (line : List ℕ) (n here : ℕ) (why : Stop) (told : Reply) → a ≡ s →
     step_asked line ≡ Some n → here ≡ a.history.machine.steps → here ≤ n
     → IsRun a.history.machine (n - here) why x.machine → x ≡ record a.history { machine = x.machine } →
     told ≡ stepped_reply why
@@ -119,14 +119,14 @@ goes_to_as a s x most line n here why told e is at le went f g =
     (request.Command line) told (stepped_reply why)
     (goes_to line n why x.machine is (subst (λ (k : ℕ). k ≤ n) at le)
     (subst (λ (k : ℕ). IsRun a.history.machine (n - k) why x.machine) at went)) refl g
-    (ap (λ (h : Past). record a { history = h }) f))
+    (ap (λ (h : Timeline). record a { history = h }) f))
 
 -- a result that is a value, which is true
 pub is_ok_true : {E : Type 0} → (r : Result Bool E) (b : Bool) → r ≡ Ok b → b ≡ true → r ≡ Ok true
 is_ok_true r b e f = e ∙ ap (λ (x : Bool). Ok x) f
 
 -- the session after the program was started again, where what changed is known
-pub restarted_as : (a s t : Served) (h : Past) → a ≡ s → h ≡ new_past a.history.beginning →
+pub restarted_as : (a s t : Served) (h : Timeline) → a ≡ s → h ≡ new_timeline a.history.beginning →
     t ≡ record a { history = h; shown = 0; ended = false } → t ≡ restarted s
-restarted_as a s t h e f g = g ∙ ap (λ (x : Past). record a { history = x; shown = 0; ended = false }) f
+restarted_as a s t h e f g = g ∙ ap (λ (x : Timeline). record a { history = x; shown = 0; ended = false }) f
     ∙ ap restarted e

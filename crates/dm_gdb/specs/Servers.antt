@@ -9,7 +9,7 @@ use Rattle.dm_space.specs.Memory.{Memory}
 use Rattle.dm_space.specs.Buffers.{with_bytes}
 use Rattle.dm_debug.specs.Sessions.{Displays, new_session}
 use Rattle.dm_history.specs.declared.change.Change.TheVariants as change
-use Rattle.dm_history.specs.Pasts.{Past, new_past, with_change, GoesBack}
+use Rattle.dm_history.specs.Timelines.{Timeline, new_timeline, with_change, GoesBack}
 use Rattle.dm_requests.specs.declared.commands.command.Command.{Command}
 use Rattle.dm_requests.specs.commands.Commands.{command_of}
 use Rattle.dm_cpu.specs.declared.cpu.Cpu.{Cpu}
@@ -38,7 +38,7 @@ use Rattle.dm_gdb.specs.Replies.{stop_reply}
 -- the machine and its history, the breakpoints and watchpoints, how many bytes of the console's output were sent, the
 -- linear address of the program's first segment, and whether the program has ended, or the debugger has ended it
 pub record Served : Type 0 where
-  pub history : Past
+  pub history : Timeline
   pub points : Set
   pub shown : ℕ
   pub base : ℕ
@@ -52,7 +52,7 @@ first_segment_address c = if c.cs == c.ds then c.ds * 16 else (c.ds + 0x10) * 16
 -- the session over a machine on which a program was loaded, without breakpoints
 abbrev pub new_server : State → Served
 new_server m = record {
-  history = new_past m;
+  history = new_timeline m;
   points = none_set;
   shown = 0;
   base = first_segment_address m.cpu;
@@ -134,12 +134,12 @@ abbrev pub gone : Served → Reply → State → Served
 gone s told t = record s { history = record s.history { machine = t }; ended = is_exit told }
 
 -- the session after going back, with this history
-abbrev pub with_past : Served → Past → Served
-with_past s q = record s { history = q; ended = false }
+abbrev pub with_timeline : Served → Timeline → Served
+with_timeline s q = record s { history = q; ended = false }
 
 -- the session after the program was started again: its output is sent anew
 abbrev pub restarted : Served → Served
-restarted s = record s { history = new_past s.history.beginning; shown = 0; ended = false }
+restarted s = record s { history = new_timeline s.history.beginning; shown = 0; ended = false }
 
 -- the reply where going back ended in this state
 abbrev pub undone_reply : List ℕ → Undone → State → Reply
@@ -216,16 +216,16 @@ pub data Replies (s : Served) (most : ℕ) : Request → Reply → Served → Ty
   goes_to : (line : List ℕ) (n : ℕ) (why : Stop) (t : State) → step_asked line ≡ Some n → s.history.machine.steps ≤ n →
       IsRun s.history.machine (n - s.history.machine.steps) why t
       → Replies s most (request.Command line) (stepped_reply why) (at_state s t)
-  goes_back : (line : List ℕ) (n : ℕ) (q : Past) → step_asked line ≡ Some n → n < s.history.machine.steps →
-      GoesBack s.history n q → Replies s most (request.Command line) reply.Done (with_past s q)
+  goes_back : (line : List ℕ) (n : ℕ) (q : Timeline) → step_asked line ≡ Some n → n < s.history.machine.steps →
+      GoesBack s.history n q → Replies s most (request.Command line) reply.Done (with_timeline s q)
   has_passed : (line : List ℕ) (n : ℕ) → step_asked line ≡ Some n → n < s.history.beginning.steps →
       Replies s most (request.Command line) reply.Passed s
   checks : (line : List ℕ) (told : Reply) (t : State) → is_check line ≡ true → ChecksFrom s.history.machine told t →
       Replies s most (request.Command line) told (at_state s t)
-  steps_back : (what : Undone) (q : Past) → Undoes s.points.watches s.history what q →
-      Replies s most request.StepBack (undone_reply s.points.breaks what q.machine) (with_past s q)
-  continues_back : (what : Undone) (q : Past) → Returns s.points.breaks s.points.watches s.history what q →
-      Replies s most request.ContinueBack (undone_reply s.points.breaks what q.machine) (with_past s q)
+  steps_back : (what : Undone) (q : Timeline) → Undoes s.points.watches s.history what q →
+      Replies s most request.StepBack (undone_reply s.points.breaks what q.machine) (with_timeline s q)
+  continues_back : (what : Undone) (q : Timeline) → Returns s.points.breaks s.points.watches s.history what q →
+      Replies s most request.ContinueBack (undone_reply s.points.breaks what q.machine) (with_timeline s q)
   restarts : Replies s most request.Restart (reply.Signal 0x05) (restarted s)
   steps : (why : Pause) (t : State) → Continues s.points.breaks s.points.watches None s.history.machine 1 why t
       → Replies s most request.Step (step_reply s.points.breaks why t) (gone s (step_reply s.points.breaks why t) t)

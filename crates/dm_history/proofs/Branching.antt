@@ -10,7 +10,7 @@ use Rattle.dm_history.specs.declared.change.TimedChange.{TimedChange}
 use Rattle.dm_history.specs.declared.copies.Kept.{Kept}
 use Rattle.dm_history.specs.Edits.{edits_to}
 use Rattle.dm_history.specs.Becomes.{BecomesBy}
-use Rattle.dm_history.specs.Pasts.{Past, new_past, Was}
+use Rattle.dm_history.specs.Timelines.{Timeline, new_timeline, Was}
 use Rattle.dm_history.specs.Branches.{Reaches, IsBranch}
 use Rattle.dm_history.specs.inner.Copies.{IsHistory}
 use Rattle.dm_history.specs.inner.Replays.{AreAfter}
@@ -56,13 +56,13 @@ between m k n es l r e =
     quiet k n es r (All-weaker (λ z. z.step ≤ m) (λ z. z.step ≤ k) (λ z h. omega (arith, h, l)) (edits_to n es) within)
     ∙ sym e
 
-front-of : (p : Past) (es ds : List TimedChange) (n count : ℕ) → es ≡ p.edits → ds ≡ p.edits →
+front-of : (p : Timeline) (es ds : List TimedChange) (n count : ℕ) → es ≡ p.edits → ds ≡ p.edits →
     count ≡ length (edits_to n es) → take count ds ≡ edits_to n p.edits
 front-of p es ds n count f g e = ap (take count) g ∙ ap (λ k. take k p.edits) (e ∙ ap (λ xs. length (edits_to n xs)) f)
     ∙ (cut n p.edits).front
 
 -- the latest of a step and of the edits before an end is before the end
-pub latest-before : (p : Past) (es ds : List TimedChange) (wish end from count : ℕ) → es ≡ p.edits → ds ≡ p.edits →
+pub latest-before : (p : Timeline) (es ds : List TimedChange) (wish end from count : ℕ) → es ≡ p.edits → ds ≡ p.edits →
     count ≡ length (edits_to (end - 1) es) → wish < end →
     ((n : ℕ) → wish ≤ n → All (λ e. e.step ≤ n) (take count ds) → from ≤ n) → from < end
 latest-before p es ds wish end from count f g e l least =
@@ -71,17 +71,17 @@ latest-before p es ds wish end from count f g e l least =
     omega (arith, few, l)
 
 -- and no edit lies between it and the end
-pub latest-quiet : (p q : Past) (es ds : List TimedChange) (end from count : ℕ) → p ≡ q → es ≡ p.edits → ds ≡ p.edits →
+pub latest-quiet : (p q : Timeline) (es ds : List TimedChange) (end from count : ℕ) → p ≡ q → es ≡ p.edits → ds ≡ p.edits →
     count ≡ length (edits_to (end - 1) es) → from < end → All (λ e. e.step ≤ from) (take count ds) →
     edits_to from q.edits ≡ edits_to (end - 1) q.edits
 latest-quiet p q es ds end from count h f g e l within =
-    subst (λ (r : Past). edits_to from r.edits ≡ edits_to (end - 1) r.edits) h
+    subst (λ (r : Timeline). edits_to from r.edits ≡ edits_to (end - 1) r.edits) h
     (quiet from (end - 1) p.edits (omega (arith, l)) (All-same (λ z. z.step ≤ from) (edits_to (end - 1) p.edits)
     (take count ds) (sym (front-of p es ds (end - 1) count f g e)) within))
 
 -- ---- the states of a branch
 
-branch-was : (p : Past) (from end : ℕ) (m s : State) → Was p from m → from ≤ s.steps → s.steps < end →
+branch-was : (p : Timeline) (from end : ℕ) (m s : State) → Was p from m → from ≤ s.steps → s.steps < end →
     edits_to from p.edits ≡ edits_to (end - 1) p.edits → BecomesBy m [] s → Was p s.steps s
 branch-was p from end m s w l r e b =
     let same = between from s.steps (end - 1) p.edits l (omega (arith, r)) e in
@@ -91,7 +91,7 @@ branch-was p from end m s w l r e b =
       steps = refl;
     }
 
-was-branch : (p : Past) (from end k : ℕ) (m s : State) → p.beginning.steps ≤ from → end ≤ 2 ^ 64 - 1 → Was p from m →
+was-branch : (p : Timeline) (from end k : ℕ) (m s : State) → p.beginning.steps ≤ from → end ≤ 2 ^ 64 - 1 → Was p from m →
     from ≤ k → k < end → edits_to from p.edits ≡ edits_to (end - 1) p.edits → Was p k s → BecomesBy m [] s
 was-branch p from end k m s o top w l r e v =
     let es = edits_to from p.edits in
@@ -120,7 +120,7 @@ was-branch p from end k m s o top w l r e v =
     )) in
     subst (λ (u : State). BecomesBy u [] s) one (subst (λ (xs : List TimedChange). BecomesBy x.at xs s) rest x.after)
 
-branch-reaches : (p : Past) (from end : ℕ) (m : State) → p.beginning.steps ≤ from → from < end → end ≤ p.machine.steps →
+branch-reaches : (p : Timeline) (from end : ℕ) (m : State) → p.beginning.steps ≤ from → from < end → end ≤ p.machine.steps →
     p.machine.steps ≤ 2 ^ 64 - 1 → BecomesBy p.beginning p.edits p.machine → Was p from m →
     edits_to from p.edits ≡ edits_to (end - 1) p.edits → Reaches m end
 branch-reaches p from end m o l r top b w e =
@@ -147,14 +147,14 @@ branch-reaches p from end m o l r top b w e =
     let steps = y.steps in
     record { last = y.at; becomes = y.becomes; steps = omega (arith, steps, l); alive = y.alive }
 
-pub branch-of : (p q b : Past) (cs : List Kept) (wish end from : ℕ) (m : State) → p ≡ q → IsHistory p cs →
+pub branch-of : (p q b : Timeline) (cs : List Kept) (wish end from : ℕ) (m : State) → p ≡ q → IsHistory p cs →
     q.machine.steps ≤ 2 ^ 64 - 1 → q.beginning.steps ≤ wish → wish ≤ from → from < end → end ≤ q.machine.steps →
-    edits_to from q.edits ≡ edits_to (end - 1) q.edits → Was q from m → b ≡ new_past m → IsBranch q wish end b
+    edits_to from q.edits ≡ edits_to (end - 1) q.edits → Was q from m → b ≡ new_timeline m → IsBranch q wish end b
 branch-of p q b cs wish end from m e h top o since before within same w f =
     let now = w.steps in
     let comes : BecomesBy q.beginning q.edits q.machine =
-    subst (λ (r : Past). BecomesBy r.beginning r.edits r.machine) e h.becomes in
-    subst (λ (r : Past). IsBranch q wish end r) (sym f) (record {
+    subst (λ (r : Timeline). BecomesBy r.beginning r.edits r.machine) e h.becomes in
+    subst (λ (r : Timeline). IsBranch q wish end r) (sym f) (record {
       begins = refl;
       since = omega (arith, now, since);
       before = omega (arith, now, before);

@@ -11,7 +11,7 @@ use Rattle.dm_history.specs.declared.change.TimedChange.{TimedChange}
 use Rattle.dm_history.specs.declared.copies.Kept.{Kept}
 use Rattle.dm_history.specs.Edits.{edits_to}
 use Rattle.dm_history.specs.Becomes.{BecomesBy, start}
-use Rattle.dm_history.specs.Pasts.{Past, Was}
+use Rattle.dm_history.specs.Timelines.{Timeline, Was}
 use Rattle.dm_history.specs.inner.Copies.{IsOnTheWay, IsHistory, is_no_later}
 use Rattle.dm_history.specs.inner.Replays.{LeadsBeyond, IsReplayed, IsBase}
 use Rattle.dm_history.proofs.OneState.{one_state, rises, edits-before}
@@ -21,7 +21,7 @@ use Rattle.dm_history.proofs.Lists.{cut, behind, before}
 
 -- ---- where to begin
 
-beginning-base : (p : Past) (cs : List Kept) (step : ℕ) → IsHistory p cs → p.beginning.steps ≤ step →
+beginning-base : (p : Timeline) (cs : List Kept) (step : ℕ) → IsHistory p cs → p.beginning.steps ≤ step →
     IsBase p step p.beginning 0
 beginning-base p cs step h l = record {
   some = omega arith;
@@ -31,11 +31,11 @@ beginning-base p cs step h l = record {
   loaded = h.beginning;
 }
 
-pub base-beginning : (p q : Past) (cs : List Kept) (step : ℕ) → p ≡ q → IsHistory p cs → q.beginning.steps ≤ step →
+pub base-beginning : (p q : Timeline) (cs : List Kept) (step : ℕ) → p ≡ q → IsHistory p cs → q.beginning.steps ≤ step →
     IsBase q step p.beginning 0
 base-beginning p q cs step e h l =
-    subst (λ (r : Past). IsBase r step p.beginning 0) e (beginning-base p cs step h
-    (subst (λ (r : Past). r.beginning.steps ≤ step) (sym e) l))
+    subst (λ (r : Timeline). IsBase r step p.beginning 0) e (beginning-base p cs step h
+    (subst (λ (r : Timeline). r.beginning.steps ≤ step) (sym e) l))
 
 -- a copy that is no later
 pub record NoLater (step count : ℕ) (c : Kept) : Type 0 where
@@ -52,7 +52,7 @@ no-later step count c e =
     let x = both (nat_le c.machine.steps step) (nat_le c.edits count) e in
     record { before = leb-true c.machine.steps step x.0; some = leb-true c.edits count x.1 }
 
-base-copy : (p : Past) (step : ℕ) (c : Kept) → step < 2 ^ 64 - 1 → BecomesBy p.beginning p.edits p.machine →
+base-copy : (p : Timeline) (step : ℕ) (c : Kept) → step < 2 ^ 64 - 1 → BecomesBy p.beginning p.edits p.machine →
     IsOnTheWay p c → NoLater step (length (edits_to step p.edits)) c → IsBase p step c.machine c.edits
 base-copy p step c l b w n =
     let now = n.before in
@@ -81,7 +81,7 @@ front-pass test xs k d l = let e = length-prefix_len test xs in prefix_len_passe
 pub front-few : {A : Type 0} (test : A → Bool) (xs : List A) → length (take_while test xs) ≤ length xs
 front-few test xs = let e = length-prefix_len test xs in omega (arith, e, prefix_len-le-length test xs)
 
-kept-base : (p : Past) (cs : List Kept) (step k : ℕ) (c : Kept) → step < 2 ^ 64 - 1 → IsHistory p cs →
+kept-base : (p : Timeline) (cs : List Kept) (step k : ℕ) (c : Kept) → step < 2 ^ 64 - 1 → IsHistory p cs →
     k < length (take_while (is_no_later step (length (edits_to step p.edits))) cs) → c ≡ get_or cs k c →
     IsBase p step c.machine c.edits
 kept-base p cs step k c l h few is =
@@ -95,7 +95,7 @@ kept-base p cs step k c l h few is =
     )) h.ways) in
     base-copy p step c l h.becomes way (no-later step count c passes)
 
-pub base-kept : (p q : Past) (cs ds : List Kept) (es : List TimedChange) (step k count kept : ℕ) (c : Kept) → p ≡ q →
+pub base-kept : (p q : Timeline) (cs ds : List Kept) (es : List TimedChange) (step k count kept : ℕ) (c : Kept) → p ≡ q →
     step < 2 ^ 64 - 1 → IsHistory p cs → es ≡ p.edits → ds ≡ cs →
     count ≡ length (edits_to step es) → kept ≡ length (take_while (is_no_later step count) ds) → k < kept →
     c ≡ get_or cs k c → IsBase q step c.machine c.edits
@@ -104,11 +104,11 @@ base-kept p q cs ds es step k count kept c e l h f g n m few is =
     let m2 : kept ≡ length (take_while (is_no_later step (length (edits_to step p.edits))) cs) =
     m ∙ ap (λ xs. length (take_while (is_no_later step count) xs)) g
     ∙ ap (λ j. length (take_while (is_no_later step j) cs)) n2 in
-    subst (λ (r : Past). IsBase r step c.machine c.edits) e (kept-base p cs step k c l h (subst (λ j. k < j) m2 few) is)
+    subst (λ (r : Timeline). IsBase r step c.machine c.edits) e (kept-base p cs step k c l h (subst (λ j. k < j) m2 few) is)
 
 -- ---- what is done again
 
-pub base-known : (p : Past) (step : ℕ) (s : State) (made : ℕ) → step < p.machine.steps → IsBase p step s made →
+pub base-known : (p : Timeline) (step : ℕ) (s : State) (made : ℕ) → step < p.machine.steps → IsBase p step s made →
     LeadsBeyond s (take (length (edits_to step p.edits) - made) (drop made p.edits)) step
 base-known p step s made l b =
     let count = length (edits_to step p.edits) in
@@ -129,7 +129,7 @@ base-known p step s made l b =
       later = l;
     }
 
-pub base-was : (p : Past) (step : ℕ) (s t : State) (made : ℕ) → IsBase p step s made →
+pub base-was : (p : Timeline) (step : ℕ) (s t : State) (made : ℕ) → IsBase p step s made →
     IsReplayed s (take (length (edits_to step p.edits) - made) (drop made p.edits)) step t → Was p step t
 base-was p step s t made b r =
     let count = length (edits_to step p.edits) in
@@ -143,25 +143,25 @@ base-was p step s t made b r =
     }
 
 -- the same, where the parts have names of their own
-pub known-of : (p q : Past) (step : ℕ) (s m : State) (made count : ℕ) (es ds : List TimedChange) → q ≡ p →
+pub known-of : (p q : Timeline) (step : ℕ) (s m : State) (made count : ℕ) (es ds : List TimedChange) → q ≡ p →
     es ≡ q.edits → ds ≡ q.edits → count ≡ length (edits_to step es) → m ≡ s → step < p.machine.steps →
     IsBase p step s made →
     LeadsBeyond m (take (count - made) (drop made ds)) step
 known-of p q step s m made count es ds e f g n same l b =
-    let edits : ds ≡ p.edits = g ∙ ap (λ (r : Past). r.edits) e in
+    let edits : ds ≡ p.edits = g ∙ ap (λ (r : Timeline). r.edits) e in
     let all : count ≡ length (edits_to step p.edits) = n ∙ ap (λ xs. length (edits_to step xs)) (f
-    ∙ ap (λ (r : Past). r.edits) e) in
+    ∙ ap (λ (r : Timeline). r.edits) e) in
     subst (λ (t : State). LeadsBeyond t (take (count - made) (drop made ds)) step) (sym same)
     (subst (λ xs. LeadsBeyond s (take (count - made) (drop made xs)) step) (sym edits)
     (subst (λ k. LeadsBeyond s (take (k - made) (drop made p.edits)) step) (sym all) (base-known p step s made l b)))
 
-pub was-of : (p q : Past) (step : ℕ) (s m t : State) (made count : ℕ) (es ds : List TimedChange) → q ≡ p →
+pub was-of : (p q : Timeline) (step : ℕ) (s m t : State) (made count : ℕ) (es ds : List TimedChange) → q ≡ p →
     es ≡ q.edits → ds ≡ q.edits → count ≡ length (edits_to step es) → m ≡ s → IsBase p step s made →
     IsReplayed m (take (count - made) (drop made ds)) step t → Was p step t
 was-of p q step s m t made count es ds e f g n same b r =
-    let edits : ds ≡ p.edits = g ∙ ap (λ (r : Past). r.edits) e in
+    let edits : ds ≡ p.edits = g ∙ ap (λ (r : Timeline). r.edits) e in
     let all : count ≡ length (edits_to step p.edits) = n ∙ ap (λ xs. length (edits_to step xs)) (f
-    ∙ ap (λ (r : Past). r.edits) e) in
+    ∙ ap (λ (r : Timeline). r.edits) e) in
     base-was p step s t made b
     (subst (λ k. IsReplayed s (take (k - made) (drop made p.edits)) step t) all
     (subst (λ xs. IsReplayed s (take (count - made) (drop made xs)) step t) edits

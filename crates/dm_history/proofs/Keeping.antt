@@ -11,7 +11,7 @@ use Rattle.dm_history.specs.declared.change.TimedChange.{TimedChange}
 use Rattle.dm_history.specs.declared.copies.Kept.{Kept}
 use Rattle.dm_history.specs.Edits.{changed, edits_to}
 use Rattle.dm_history.specs.Becomes.{BecomesBy, start, edited}
-use Rattle.dm_history.specs.Pasts.{Past, new_past, at_state, with_change, Was, GoesBack}
+use Rattle.dm_history.specs.Timelines.{Timeline, new_timeline, at_state, with_change, Was, GoesBack}
 use Rattle.dm_history.specs.inner.Copies.{IsOnTheWay, IsHistory, is_no_later, LosesOne, all, one, MayGain, none, more}
 use Rattle.dm_history.proofs.Leading.{changed-steps}
 use Rattle.dm_history.proofs.OneState.{edit_of}
@@ -21,18 +21,18 @@ use Rattle.dm_history.proofs.Lists.{cut}
 use Rattle.dm_history.proofs.Order.{later-edits}
 use Rattle.dm_history.proofs.Going.{NoLater, no-later, front-pass, front-few}
 
-pub history-new : (s : State) → HasProgram s → IsHistory (new_past s) []
-history-new s h = record { becomes = start; beginning = h; loaded = h; ways = All-nil (IsOnTheWay (new_past s)) }
+pub history-new : (s : State) → HasProgram s → IsHistory (new_timeline s) []
+history-new s h = record { becomes = start; beginning = h; loaded = h; ways = All-nil (IsOnTheWay (new_timeline s)) }
 
 -- ---- steps
 
-pub way-on : (p : Past) (t : State) (c : Kept) → p.machine.steps ≤ t.steps → IsOnTheWay p c →
+pub way-on : (p : Timeline) (t : State) (c : Kept) → p.machine.steps ≤ t.steps → IsOnTheWay p c →
     IsOnTheWay (at_state p t) c
 way-on p t c l w =
     let before = w.before in
     record { made = w.made; becomes = w.becomes; next = w.next; before = omega (arith, before, l); loaded = w.loaded }
 
-pub history-run : (p : Past) (cs : List Kept) (t : State) (n : ℕ) (stop : Stop) → p.machine.steps ≤ 2 ^ 64 - 1 →
+pub history-run : (p : Timeline) (cs : List Kept) (t : State) (n : ℕ) (stop : Stop) → p.machine.steps ≤ 2 ^ 64 - 1 →
     IsHistory p cs → IsRun p.machine n stop t → HasProgram t → IsHistory (at_state p t) cs
 history-run p cs t n stop l h r loaded = record {
   becomes = run-becomes p.beginning p.machine t p.edits n stop h.becomes r;
@@ -44,7 +44,7 @@ history-run p cs t n stop l h r loaded = record {
 
 -- ---- an edit
 
-way-edited : (p : Past) (e : Change) (c : Kept) → IsOnTheWay p c → IsOnTheWay (with_change p e) c
+way-edited : (p : Timeline) (e : Change) (c : Kept) → IsOnTheWay p c → IsOnTheWay (with_change p e) c
 way-edited p e c w =
     let add = edit_of p.machine e ∷ [] in
     let made = w.made in
@@ -61,7 +61,7 @@ way-edited p e c w =
       loaded = w.loaded;
     }
 
-pub history-edited : (p : Past) (cs : List Kept) (e : Change) → IsHistory p cs → HasProgram (changed e p.machine) →
+pub history-edited : (p : Timeline) (cs : List Kept) (e : Change) → IsHistory p cs → HasProgram (changed e p.machine) →
     IsHistory (with_change p e) cs
 history-edited p cs e h loaded = record {
   becomes = edited p.edits p.machine e h.becomes;
@@ -72,10 +72,10 @@ history-edited p cs e h loaded = record {
 
 -- ---- copies
 
-pub with-copies : (p : Past) (cs ds : List Kept) → IsHistory p cs → All (IsOnTheWay p) ds → IsHistory p ds
+pub with-copies : (p : Timeline) (cs ds : List Kept) → IsHistory p cs → All (IsOnTheWay p) ds → IsHistory p ds
 with-copies p cs ds h a = record { becomes = h.becomes; beginning = h.beginning; loaded = h.loaded; ways = a }
 
-way-now : (p : Past) (cs : List Kept) → IsHistory p cs → IsOnTheWay p (record {
+way-now : (p : Timeline) (cs : List Kept) → IsHistory p cs → IsOnTheWay p (record {
   machine = p.machine;
   edits = length p.edits;
 })
@@ -89,22 +89,22 @@ way-now p cs h = record {
   loaded = h.loaded;
 }
 
-history-kept : (p : Past) (cs : List Kept) → IsHistory p cs → IsHistory p (cs ++ record {
+history-kept : (p : Timeline) (cs : List Kept) → IsHistory p cs → IsHistory p (cs ++ record {
   machine = p.machine;
   edits = length p.edits;
 } ∷ [])
 history-kept p cs h = with-copies p cs _ h (All-push (IsOnTheWay p) cs _ h.ways (way-now p cs h))
 
-history-removed : (p : Past) (cs : List Kept) (i : ℕ) → IsHistory p cs → IsHistory p (take i cs ++ drop (i + 1) cs)
+history-removed : (p : Timeline) (cs : List Kept) (i : ℕ) → IsHistory p cs → IsHistory p (take i cs ++ drop (i + 1) cs)
 history-removed p cs i h =
     with-copies p cs _ h (All-append (IsOnTheWay p) (take i cs) (drop (i + 1) cs) (All-take (IsOnTheWay p) i cs h.ways)
     (All-drop (IsOnTheWay p) (i + 1) cs h.ways))
 
-pub history-fewer : (p : Past) (cs ds : List Kept) → IsHistory p cs → LosesOne cs ds → IsHistory p ds
+pub history-fewer : (p : Timeline) (cs ds : List Kept) → IsHistory p cs → LosesOne cs ds → IsHistory p ds
 history-fewer p cs ds h (all e) = subst (IsHistory p) (sym e) h
 history-fewer p cs ds h (one i e) = subst (IsHistory p) (sym e) (history-removed p cs i h)
 
-pub history-more : (p : Past) (cs ds : List Kept) (m : State) (k : ℕ) → IsHistory p cs → m ≡ p.machine →
+pub history-more : (p : Timeline) (cs ds : List Kept) (m : State) (k : ℕ) → IsHistory p cs → m ≡ p.machine →
     k ≡ length p.edits → MayGain cs (record { machine = m; edits = k }) ds → IsHistory p ds
 history-more p cs ds m k h e f (none g) = subst (IsHistory p) (sym g) h
 history-more p cs ds m k h e f (more g) =
@@ -118,7 +118,7 @@ history-more p cs ds m k h e f (more g) =
     } ∷ []) f in
     subst (IsHistory p) (sym (g ∙ same)) (history-kept p cs h)
 
-pub edited-history : (p : Past) (cs : List Kept) (e f : Change) (step : ℕ) (es : List TimedChange) (m : State) →
+pub edited-history : (p : Timeline) (cs : List Kept) (e f : Change) (step : ℕ) (es : List TimedChange) (m : State) →
     IsHistory p cs → step ≡ p.machine.steps → f ≡ e → es ≡ p.edits ++ record { step = step; change = f } ∷ [] →
     m ≡ changed e p.machine →
     IsHistory (record { beginning = p.beginning; edits = es; machine = m }) cs
@@ -133,12 +133,12 @@ edited-history p cs e f step es m h n same made moved =
     }) cs) (sym moved)
     (history-edited p cs e h (changed-loaded e p.machine h.loaded)))
 
-pub same-on : (p q r x : Past) → q ≡ at_state p q.machine → r ≡ q → x ≡ at_state r x.machine → x ≡ at_state p x.machine
-same-on p q r x a b c = c ∙ ap (λ (z : Past). at_state z x.machine) (b ∙ a)
+pub same-on : (p q r x : Timeline) → q ≡ at_state p q.machine → r ≡ q → x ≡ at_state r x.machine → x ≡ at_state p x.machine
+same-on p q r x a b c = c ∙ ap (λ (z : Timeline). at_state z x.machine) (b ∙ a)
 
 -- ---- going back
 
-way-taken : (p : Past) (step count : ℕ) (t : State) (c : Kept) → t.steps ≡ step → count ≤ length p.edits →
+way-taken : (p : Timeline) (step count : ℕ) (t : State) (c : Kept) → t.steps ≡ step → count ≤ length p.edits →
     IsOnTheWay p c → NoLater step count c →
     IsOnTheWay (record { beginning = p.beginning; edits = take count p.edits; machine = t }) c
 way-taken p step count t c e some w n =
@@ -158,11 +158,11 @@ way-taken p step count t c e some w n =
       loaded = w.loaded;
     }
 
-ways-taken : (p : Past) (cs : List Kept) (step count kept : ℕ) (t : State) → IsHistory p cs → t.steps ≡ step →
+ways-taken : (p : Timeline) (cs : List Kept) (step count kept : ℕ) (t : State) → IsHistory p cs → t.steps ≡ step →
     count ≤ length p.edits → kept ≡ length (take_while (is_no_later step count) cs) →
     All (IsOnTheWay (record { beginning = p.beginning; edits = take count p.edits; machine = t })) (take kept cs)
 ways-taken p cs step count kept t h e some m = λ k d l.
-    let q : Past = record { beginning = p.beginning; edits = take count p.edits; machine = t } in
+    let q : Timeline = record { beginning = p.beginning; edits = take count p.edits; machine = t } in
     let few = front-few (is_no_later step count) cs in
     let long = length-take kept cs in
     let under : k < kept = omega (arith, l, long) in
@@ -174,7 +174,7 @@ ways-taken p cs step count kept t h e some m = λ k d l.
     subst (IsOnTheWay q) (sym (get_or-take kept cs k d under))
     (way-taken p step count t (get_or cs k d) e some (h.ways k d (omega (arith, m, under, few))) passes)
 
-pub history-taken : (p : Past) (cs : List Kept) (step count kept : ℕ) (t : State) → IsHistory p cs → Was p step t →
+pub history-taken : (p : Timeline) (cs : List Kept) (step count kept : ℕ) (t : State) → IsHistory p cs → Was p step t →
     HasProgram t → count ≡ length (edits_to step p.edits) →
     kept ≡ length (take_while (is_no_later step count) cs) → IsHistory (record {
       beginning = p.beginning;
@@ -192,12 +192,12 @@ history-taken p cs step count kept t h w loaded n m =
     }
 
 -- the history after going back, where its parts have names of their own
-pub taken-history : (p q : Past) (cs ds : List Kept) (es fs : List TimedChange) (step count kept : ℕ) (t : State) →
+pub taken-history : (p q : Timeline) (cs ds : List Kept) (es fs : List TimedChange) (step count kept : ℕ) (t : State) →
     p ≡ q → IsHistory p cs → Was q step t → HasProgram t → fs ≡ p.edits → count ≡ length (edits_to step fs) →
     ds ≡ cs → kept ≡ length (take_while (is_no_later step count) ds) → es ≡ take count p.edits → (xs : List Kept) →
     xs ≡ take kept cs → IsHistory (record { beginning = p.beginning; edits = es; machine = t }) xs
 taken-history p q cs ds es fs step count kept t e h w loaded f n g m x xs y =
-    let was : Was p step t = subst (λ (r : Past). Was r step t) (sym e) w in
+    let was : Was p step t = subst (λ (r : Timeline). Was r step t) (sym e) w in
     let n2 : count ≡ length (edits_to step p.edits) = n ∙ ap (λ zs. length (edits_to step zs)) f in
     let m2 : kept ≡ length (take_while (is_no_later step count) cs) =
     m ∙ ap (λ zs. length (take_while (is_no_later step count) zs)) g in
@@ -205,15 +205,15 @@ taken-history p q cs ds es fs step count kept t e h w loaded f n g m x xs y =
     subst (IsHistory (record { beginning = p.beginning; edits = es; machine = t })) (sym y)
     (subst (λ zs. IsHistory (record { beginning = p.beginning; edits = zs; machine = t }) (take kept cs)) (sym x) whole)
 
-pub taken-back : (p q : Past) (es fs : List TimedChange) (step count : ℕ) (t : State) → p ≡ q → Was q step t →
+pub taken-back : (p q : Timeline) (es fs : List TimedChange) (step count : ℕ) (t : State) → p ≡ q → Was q step t →
     fs ≡ p.edits → count ≡ length (edits_to step fs) → es ≡ take count p.edits →
     GoesBack q step (record { beginning = p.beginning; edits = es; machine = t })
 taken-back p q es fs step count t e w f n x =
     let c = cut step p.edits in
     let n2 : count ≡ length (edits_to step p.edits) = n ∙ ap (λ zs. length (edits_to step zs)) f in
     record {
-      beginning = ap (λ (r : Past). r.beginning) e;
-      edits = x ∙ ap (λ k. take k p.edits) n2 ∙ c.front ∙ ap (λ (r : Past). edits_to step r.edits) e;
+      beginning = ap (λ (r : Timeline). r.beginning) e;
+      edits = x ∙ ap (λ k. take k p.edits) n2 ∙ c.front ∙ ap (λ (r : Timeline). edits_to step r.edits) e;
       was = w;
     }
 
@@ -228,12 +228,12 @@ beginning-history s o m es cs e f g h loaded =
     (subst (λ (u : State). IsHistory (record { beginning = u; edits = []; machine = s }) []) (sym e)
     (history-new s loaded))))
 
-pub beginning-view : (p q : Past) (es : List TimedChange) (m : State) → p ≡ q → es ≡ [] → m ≡ p.beginning →
-    record { beginning = p.beginning; edits = es; machine = m } ≡ new_past q.beginning
+pub beginning-view : (p q : Timeline) (es : List TimedChange) (m : State) → p ≡ q → es ≡ [] → m ≡ p.beginning →
+    record { beginning = p.beginning; edits = es; machine = m } ≡ new_timeline q.beginning
 beginning-view p q es m e f g =
     ap (λ xs. record { beginning = p.beginning; edits = xs; machine = m }) f
     ∙ ap (λ (s : State). record { beginning = p.beginning; edits = []; machine = s }) g
-    ∙ ap (λ (r : Past). new_past r.beginning) e
+    ∙ ap (λ (r : Timeline). new_timeline r.beginning) e
 
 -- ---- what may become of copies
 
@@ -243,13 +243,13 @@ gains old new copy false e = none e
 
 -- ---- a copy of an earlier state
 
-gained-history : (p : Past) (cs ds : List Kept) (copy : Kept) → IsHistory p cs → IsOnTheWay p copy →
+gained-history : (p : Timeline) (cs ds : List Kept) (copy : Kept) → IsHistory p cs → IsOnTheWay p copy →
     MayGain cs copy ds → IsHistory p ds
 gained-history p cs ds copy h w (none e) = subst (IsHistory p) (sym e) h
 gained-history p cs ds copy h w (more e) = subst (IsHistory p) (sym e) (with-copies p cs (cs ++ copy
     ∷ []) h (All-push (IsOnTheWay p) cs copy h.ways w))
 
-way-then : (p : Past) (step : ℕ) (m : State) → p.beginning.steps ≤ 2 ^ 64 - 1 → step ≤ p.machine.steps →
+way-then : (p : Timeline) (step : ℕ) (m : State) → p.beginning.steps ≤ 2 ^ 64 - 1 → step ≤ p.machine.steps →
     BecomesBy p.beginning p.edits p.machine → Was p step m → HasProgram m →
     IsOnTheWay p (record { machine = m; edits = length (edits_to step p.edits) })
 way-then p step m l b h w loaded =
@@ -267,14 +267,14 @@ way-then p step m l b h w loaded =
       loaded = loaded;
     }
 
-pub history-inserted : (p q : Past) (cs ds es fs : List Kept) (xs : List TimedChange) (step count kept : ℕ)
+pub history-inserted : (p q : Timeline) (cs ds es fs : List Kept) (xs : List TimedChange) (step count kept : ℕ)
     (m : State) → p ≡ q → IsHistory p cs → p.beginning.steps ≤ 2 ^ 64 - 1 → step ≤ q.machine.steps → Was q step m →
     HasProgram m →
     xs ≡ p.edits → count ≡ length (edits_to step xs) → ds ≡ take kept cs → LosesOne ds es →
     MayGain es (record { machine = m; edits = count }) fs → IsHistory p fs
 history-inserted p q cs ds es fs xs step count kept m e h l b w loaded f n g lost gained =
-    let was : Was p step m = subst (λ (r : Past). Was r step m) (sym e) w in
-    let before : step ≤ p.machine.steps = subst (λ (r : Past). step ≤ r.machine.steps) (sym e) b in
+    let was : Was p step m = subst (λ (r : Timeline). Was r step m) (sym e) w in
+    let before : step ≤ p.machine.steps = subst (λ (r : Timeline). step ≤ r.machine.steps) (sym e) b in
     let n2 : count ≡ length (edits_to step p.edits) = n ∙ ap (λ zs. length (edits_to step zs)) f in
     let cutoff : IsHistory p ds = subst (IsHistory p) (sym g) (with-copies p cs (take kept cs) h
     (All-take (IsOnTheWay p) kept cs h.ways)) in

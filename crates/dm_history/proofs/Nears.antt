@@ -7,7 +7,7 @@ use Rattle.dm_machine.specs.Run.{Goes}
 use Rattle.dm_machine.specs.Run as run
 use Rattle.dm_machine.specs.Near.{GoesWithin, here, further, GoesNear, start, ended}
 use Rattle.dm_history.specs.declared.copies.Kept.{Kept}
-use Rattle.dm_history.specs.Pasts.{Past, at_state}
+use Rattle.dm_history.specs.Timelines.{Timeline, at_state}
 use Rattle.dm_history.specs.inner.Copies.{IsOnTheWay, IsHistory}
 use Rattle.dm_history.proofs.Runs.{goes-becomes, goes-rise}
 use Rattle.dm_history.proofs.Keeping.{way-on}
@@ -20,7 +20,7 @@ near-goes : (ps : List Breakpoint) (s t : State) (n : ℕ) → GoesNear ps s n t
 near-goes ps s _ _ start = run.here
 near-goes ps s _ _ (ended n t u g h) = run.further n t u (within-goes ps s t n g) h
 
-pub history-near : (p : Past) (cs : List Kept) (ps : List Breakpoint) (t : State) (n : ℕ) →
+pub history-near : (p : Timeline) (cs : List Kept) (ps : List Breakpoint) (t : State) (n : ℕ) →
     p.machine.steps ≤ 2 ^ 64 - 1 → IsHistory p cs → GoesNear ps p.machine n t → HasProgram t →
     IsHistory (at_state p t) cs
 history-near p cs ps t n l h g loaded =

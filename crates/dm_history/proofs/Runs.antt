@@ -6,7 +6,7 @@ use Rattle.dm_services.specs.state.State.{State, Answer, stop_at}
 use Rattle.dm_machine.specs.Step.{MakesStep}
 use Rattle.dm_machine.specs.Run.{Answers, Goes, here, further, IsRun, over, whole, cut}
 use Rattle.dm_history.specs.declared.change.TimedChange.{TimedChange}
-use Rattle.dm_history.specs.Pasts.{Past}
+use Rattle.dm_history.specs.Timelines.{Timeline}
 use Rattle.dm_history.specs.Becomes.{BecomesBy, stepped, HasStepTo, on, end}
 use Rattle.dm_history.proofs.Counts.{counted, IsEarly, Counts, goes, ends, stays, steps-count, ended-stays, ended-step}
 use Rattle.dm_history.proofs.Counts as counts
@@ -144,12 +144,12 @@ pub run-at : (s t : State) (m n : ℕ) (stop : Stop) → m ≡ n → IsRun s m s
 run-at s t m n stop e r = subst (λ k. IsRun s k stop t) e r
 
 -- the next part of a run
-pub run-on : (s u : State) (most left part : ℕ) (a b : Stop) (q r : Past) → a ≡ AllSteps → r ≡ q → 0 < part →
+pub run-on : (s u : State) (most left part : ℕ) (a b : Stop) (q r : Timeline) → a ≡ AllSteps → r ≡ q → 0 < part →
     part ≤ left → left ≤ most → IsRun s (most - left) a q.machine → IsRun r.machine part b u →
     IsRun s (most - (left - part)) b u
 run-on s u most left part a b q r e f some few within x y =
     let first : IsRun s (most - left) AllSteps q.machine =
     subst (λ (why : Stop). IsRun s (most - left) why q.machine) e x in
-    let next : IsRun q.machine part b u = subst (λ (p : Past). IsRun p.machine part b u) f y in
+    let next : IsRun q.machine part b u = subst (λ (p : Timeline). IsRun p.machine part b u) f y in
     run-at s u (most - left + part) (most - (left - part)) b (omega arith) (runs-join s q.machine u
     (most - left) part b some first next)

@@ -2,7 +2,7 @@
 use Rattle.std.specs.Prelude.{◌≡◌, ℕ, ◌+◌, ◌≤◌, ◌<◌, [], None}
 use Rattle.dm_services.specs.state.State.{State}
 use Rattle.dm_history.specs.Becomes.{BecomesBy}
-use Rattle.dm_history.specs.Pasts.{Past, new_past, Was}
+use Rattle.dm_history.specs.Timelines.{Timeline, new_timeline, Was}
 
 -- steps alone lead from s to a state one step before this count of steps, in which the program has not ended
 pub record Reaches (s : State) (end : ℕ) : Type 0 where
@@ -13,8 +13,8 @@ pub record Reaches (s : State) (end : ℕ) : Type 0 where
 
 -- b begins at a state of the history p, at the step `wish` or later. From there on to the step before `end`, the states
 -- to which steps alone lead are those of p
-pub record IsBranch (p : Past) (wish end : ℕ) (b : Past) : Type 0 where
-  pub begins : b ≡ new_past b.machine
+pub record IsBranch (p : Timeline) (wish end : ℕ) (b : Timeline) : Type 0 where
+  pub begins : b ≡ new_timeline b.machine
   pub since : wish ≤ b.machine.steps
   pub before : b.machine.steps < end
   pub reaches : Reaches b.machine end

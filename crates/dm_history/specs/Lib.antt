@@ -1,6 +1,6 @@
 pub mod Edits
 pub mod Becomes
-pub mod Pasts
+pub mod Timelines
 pub mod Branches
 pub mod Laws
 pub mod inner

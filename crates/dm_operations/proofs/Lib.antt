@@ -8,5 +8,5 @@ pub mod Digits
 mod Lowered
 mod Rights
 mod Remainders
-mod Passed
+mod Beyond
 mod Spots

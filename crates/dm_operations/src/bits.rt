@@ -269,7 +269,7 @@ fn turned_right_often(width: Width, start: Shifted, count: u8) -> Moved
 
 /// Whether a count of moves is more than a value has bits.
 #[inline(always)]
-fn passes(width: Width, count: u8) -> bool
+fn is_beyond(width: Width, count: u8) -> bool
     ensures { result ≡ nat_lt (bits_of width) count }
 {
     match width {
@@ -280,7 +280,7 @@ fn passes(width: Width, count: u8) -> bool
 
 /// A value and its carry after more moves than it has bits: of a shift nothing is left but the sign, by SAR.
 #[inline(always)]
-fn passed(operation: ShiftOperation, width: Width, start: Shifted, count: u8) -> Moved
+fn moved_beyond(operation: ShiftOperation, width: Width, start: Shifted, count: u8) -> Moved
     requires value { start.value < size width }
     requires most { bits_of width < count }
     ensures value { result.value ≡ (moves operation width count start).value }
@@ -429,8 +429,8 @@ fn moved_by_shift(operation: ShiftOperation, width: Width, start: Shifted, count
     ensures carry { nat_le 2147483648 result.carry ≡ (moves operation width count start).carry }
     ensures in_range { result.value < size width }
 {
-    if passes(width, count) {
-        return passed(operation, width, start, count);
+    if is_beyond(width, count) {
+        return moved_beyond(operation, width, start, count);
     }
     match operation {
         ShiftOperation::Left => moved_left(width, start, count),

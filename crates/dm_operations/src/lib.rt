@@ -2,12 +2,12 @@
 //! any places where it has them. Which instruction does which of them, `dm_exec` says.
 #![tactic(auto)]
 
-mod above;
 pub mod adjustments;
 pub mod arithmetic;
 mod bits;
 mod low;
 mod numbers;
+mod outside;
 mod pairs;
 pub mod products;
 pub mod shifts;

@@ -313,12 +313,12 @@ fn a_program_is_debugged_to_its_end(rt: HostRuntime) -> Result<(), Fail> {
     ends(&rt, rt.alloc(), &mut server)
 }
 
-/// Definitions: dm_gdb Servers Replies undone_reply with_past restarted after_write with_registers
+/// Definitions: dm_gdb Servers Replies undone_reply with_timeline restarted after_write with_registers
 /// Definitions: dm_gdb Replies reply_text
 /// Definitions: dm_target Undoing Undoes HitBy undone_by
 /// Definitions: dm_history Becomes BecomesBy HasStepTo
 /// Definitions: dm_history Edits changed edits_to
-/// Definitions: dm_history Pasts with_change GoesBack
+/// Definitions: dm_history Timelines with_change GoesBack
 #[test]
 fn a_program_goes_back(rt: HostRuntime) -> Result<(), Fail> {
     play(&rt, rt.alloc(), HELLO, 100, &BACK)

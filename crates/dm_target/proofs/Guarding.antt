@@ -12,7 +12,7 @@ use Rattle.dm_touches.specs.declared.elements.Element.{Element}
 use Rattle.dm_touches.specs.declared.elements.Element.TheVariants as element
 use Rattle.dm_touches.specs.declared.elements.Elements.{Elements}
 use Rattle.dm_touches.specs.Elements.{far, linear_of}
-use Rattle.dm_touches.specs.quiet.Marks.{level_at, lies_below, passes_if, pass, IsQuiet, Marked}
+use Rattle.dm_touches.specs.quiet.Marks.{level_at, lies_below, satisfies, satisfy, IsQuiet, Marked}
 use Rattle.dm_requests.specs.declared.request.WatchedAccess.{WatchedAccess}
 use Rattle.dm_requests.specs.declared.request.WatchedAccess.TheVariants.{Execute, Write, Read, Either}
 use Rattle.dm_requests.specs.declared.request.Point.{Point}
@@ -137,7 +137,7 @@ missed : (ms : List ℕ) (p : Point) (level a : ℕ) → HasLevel level ms p →
 missed ms p level a h e = missed_by ms p level a (is_in_range p a) h e refl
 
 element_more : (p q : ℕ → Bool) → ((a : ℕ) → p a ≡ true → q a ≡ true) → (a20 : Bool) (o : Option Element) →
-    passes_if p a20 o ≡ true → passes_if q a20 o ≡ true
+    satisfies p a20 o ≡ true → satisfies q a20 o ≡ true
 element_more p q h a20 None t = refl
 element_more p q h a20 (Some (element.Byte s o)) t = h _ t
 element_more p q h a20 (Some (element.Word s o)) t =
@@ -147,21 +147,21 @@ element_more p q h a20 (Some (element.Word s o)) t =
     (h second (and_right (p first) (p second) t))
 
 elements_more : (p q : ℕ → Bool) → ((a : ℕ) → p a ≡ true → q a ≡ true) → (a20 : Bool) (e : Elements) →
-    pass p a20 e ≡ true → pass q a20 e ≡ true
+    satisfy p a20 e ≡ true → satisfy q a20 e ≡ true
 elements_more p q h a20 e t =
-    let a = passes_if p a20 e.first in
-    let b = passes_if p a20 e.second in
-    let c = passes_if p a20 e.third in
-    let x = passes_if q a20 e.first in
-    let y = passes_if q a20 e.second in
-    let z = passes_if q a20 e.third in
+    let a = satisfies p a20 e.first in
+    let b = satisfies p a20 e.second in
+    let c = satisfies p a20 e.third in
+    let x = satisfies q a20 e.first in
+    let y = satisfies q a20 e.second in
+    let z = satisfies q a20 e.third in
     let both = and_left (a && b) c t in
     and_both (x && y) z (and_both x y (element_more p q h a20 e.first (and_left a b both))
     (element_more p q h a20 e.second (and_right a b both))) (element_more p q h a20 e.third (and_right (a &&
     b) c t))
 
 unmet : (ms : List ℕ) (p : Point) (level : ℕ) (a20 : Bool) (e : Elements) → HasLevel level ms p →
-    pass (lies_below ms level) a20 e ≡ true → is_met a20 e p ≡ false
+    satisfy (lies_below ms level) a20 e ≡ true → is_met a20 e p ≡ false
 unmet ms p level a20 e h t = ap not (elements_more (lies_below ms level) (λ a. not (is_in_range p a))
     (λ a x. missed ms p level a h x) a20 e t)
 

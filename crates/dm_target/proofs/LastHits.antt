@@ -7,14 +7,14 @@ use Rattle.dm_services.specs.declared.state.stop.Stop.TheVariants.{Steps as AllS
 use Rattle.dm_services.specs.state.State.{State}
 use Rattle.dm_history.specs.Becomes.{BecomesBy, start}
 use Rattle.dm_history.specs.Branches.{IsBranch, Reaches}
-use Rattle.dm_history.specs.Pasts.{Past, Was, GoesBack}
+use Rattle.dm_history.specs.Timelines.{Timeline, Was, GoesBack}
 use Rattle.dm_history.proofs.OneState.{one_state, rises}
 use Rattle.dm_target.specs.declared.going.Pause.{Pause}
 use Rattle.dm_target.specs.declared.going.Pause.TheVariants.{Arrived, Hit, Stopped}
 use Rattle.dm_target.specs.declared.returning.Found.{Found}
 use Rattle.dm_target.specs.declared.undoing.Undone.{Undone}
 use Rattle.dm_target.specs.declared.undoing.Undone.TheVariants as undone
-use Rattle.dm_target.specs.Going.{Passes, Continues, is_among, code_address}
+use Rattle.dm_target.specs.Going.{RunsPast, Continues, is_among, code_address}
 use Rattle.dm_target.specs.Going as going
 use Rattle.dm_target.specs.Watching.{unwatched}
 use Rattle.dm_target.specs.Returning.{Misses, Meets, AreClear, Returns}
@@ -115,7 +115,7 @@ before_end points t end last found whole (surveying.before less off) e = less
 
 -- ---- part by part
 
-pub clear_part : (points : List ℕ) (watches : List Point) (p b : Past) (wish from end : ℕ) → IsBranch p wish end b →
+pub clear_part : (points : List ℕ) (watches : List Point) (p b : Timeline) (wish from end : ℕ) → IsBranch p wish end b →
     b.machine.steps ≤ from → ClearTo points watches b.machine from end → AreClear points watches p from end
 clear_part points watches p b wish from end x l clear = λ k s after before was.
     let count = was.steps in
@@ -125,7 +125,7 @@ clear_part points watches p b wish from end x l clear = λ k s after before was.
       before,
     ))
 
-pub met_part : (points : List ℕ) (watches : List Point) (p b : Past) (wish k end : ℕ) → IsBranch p wish end b →
+pub met_part : (points : List ℕ) (watches : List Point) (p b : Timeline) (wish k end : ℕ) → IsBranch p wish end b →
     k < end → MetAt points watches b.machine k → WasMet points watches p k
 met_part points watches p b wish k end x l m =
     let count = m.steps in
@@ -135,21 +135,21 @@ met_part points watches p b wish k end x l m =
       met = m.met;
     }
 
-pub clear_both : (points : List ℕ) (watches : List Point) (p : Past) (from k end : ℕ) →
+pub clear_both : (points : List ℕ) (watches : List Point) (p : Timeline) (from k end : ℕ) →
     AreClear points watches p from k → AreClear points watches p k end → AreClear points watches p from end
 clear_both points watches p from k end a b = λ j s after before was. elim (cases_lt j k) [
   | inl less ↦ a j s after less was
   | inr more ↦ b j s more before was
 ]
 
-pub clear_none : (points : List ℕ) (watches : List Point) (p : Past) (end : ℕ) → AreClear points watches p end end
+pub clear_none : (points : List ℕ) (watches : List Point) (p : Timeline) (end : ℕ) → AreClear points watches p end end
 clear_none points watches p end = λ k s after before was. absurd (omega (arith, after, before))
 
-pub clear_fewer : (points : List ℕ) (watches : List Point) (p : Past) (from to end : ℕ) → from ≤ to →
+pub clear_fewer : (points : List ℕ) (watches : List Point) (p : Timeline) (from to end : ℕ) → from ≤ to →
     AreClear points watches p from end → AreClear points watches p to end
 clear_fewer points watches p from to end l a = λ k s after before was. a k s (omega (arith, l, after)) before was
 
-shows_of : (points : List ℕ) (watches : List Point) (p b : Past) (wish end : ℕ) (found : Option Found) →
+shows_of : (points : List ℕ) (watches : List Point) (p b : Timeline) (wish end : ℕ) (found : Option Found) →
     IsBranch p wish end b → IsSurvey points watches b.machine end found →
     Shows points watches p b.machine.steps end found
 shows_of points watches p b wish end None x s = clear_part points watches p b wish b.machine.steps end x (omega arith) s
@@ -161,7 +161,7 @@ shows_of points watches p b wish end (Some f) x s =
       λ e. clear_part points watches p b wish (f.step + 1) end x (omega (arith, up)) (s.3 e),
     )
 
-pub part_of : (points : List ℕ) (watches : List Point) (p b : Past) (wish end from : ℕ) (found : Option Found) →
+pub part_of : (points : List ℕ) (watches : List Point) (p b : Timeline) (wish end from : ℕ) (found : Option Found) →
     IsBranch p wish end b → from ≡ b.machine.steps → (Reaches b.machine end →
     IsSurvey points watches b.machine end found) →
     IsPart points watches p wish end from found
@@ -176,7 +176,7 @@ part_of points watches p b wish end from found x e s =
     }
 
 -- a part without a hit
-pub clear_more : (points : List ℕ) (watches : List Point) (p : Past) (from end : ℕ) (found : Option Found) →
+pub clear_more : (points : List ℕ) (watches : List Point) (p : Timeline) (from end : ℕ) (found : Option Found) →
     found ≡ None → Shows points watches p from end found → AreClear points watches p end p.machine.steps →
     AreClear points watches p from p.machine.steps
 clear_more points watches p from end found e s clear =
@@ -184,13 +184,13 @@ clear_more points watches p from end found e s clear =
     x) e s) clear
 
 -- a part with one
-pub record Hit_in (points : List ℕ) (watches : List Point) (p : Past) (from end : ℕ) (f : Found) : Type 0 where
+pub record Hit_in (points : List ℕ) (watches : List Point) (p : Timeline) (from end : ℕ) (f : Found) : Type 0 where
   pub since : from ≤ f.step
   pub before : f.step < end
   pub met : WasMet points watches p f.step
   pub clear : f.is_last ≡ true → AreClear points watches p (f.step + 1) p.machine.steps
 
-pub hit_in : (points : List ℕ) (watches : List Point) (p : Past) (from end : ℕ) (found : Option Found) (f : Found) →
+pub hit_in : (points : List ℕ) (watches : List Point) (p : Timeline) (from end : ℕ) (found : Option Found) (f : Found) →
     found ≡ Some f → Shows points watches p from end found → AreClear points watches p end p.machine.steps →
     Hit_in points watches p from end f
 hit_in points watches p from end found f e s clear =
@@ -204,7 +204,7 @@ hit_in points watches p from end found f e s clear =
           + 1) end p.machine.steps (x.3 last) clear;
     }
 
-pub known_hit : (points : List ℕ) (watches : List Point) (p : Past) (low end from : ℕ) (last : Option ℕ) (k : ℕ)
+pub known_hit : (points : List ℕ) (watches : List Point) (p : Timeline) (low end from : ℕ) (last : Option ℕ) (k : ℕ)
     (f : Found) → last ≡ Some f.step → k ≡ f.step + 1 → p.beginning.steps ≤ low → low ≤ from → end ≤ p.machine.steps →
     Hit_in points watches p from end f → IsKnown points watches p k last
 known_hit points watches p low end from last k f e n o l top h =
@@ -217,18 +217,18 @@ known_hit points watches p low end from last k f e n o l top h =
       h.met,
     )
 
-pub same_known : (points : List ℕ) (watches : List Point) (p : Past) (low k : ℕ) (last found : Option ℕ) → k ≡ low →
+pub same_known : (points : List ℕ) (watches : List Point) (p : Timeline) (low k : ℕ) (last found : Option ℕ) → k ≡ low →
     found ≡ last → IsKnown points watches p low last → IsKnown points watches p k found
 same_known points watches p low k last found e f h =
     subst (λ (x : Option ℕ). IsKnown points watches p k x) (sym f) (subst (λ j. IsKnown points watches p j last)
     (sym e) h)
 
-pub clear_at : (points : List ℕ) (watches : List Point) (p : Past) (from to : ℕ) → to ≡ from →
+pub clear_at : (points : List ℕ) (watches : List Point) (p : Timeline) (from to : ℕ) → to ≡ from →
     AreClear points watches p from p.machine.steps → AreClear points watches p to p.machine.steps
 clear_at points watches p from to e h = subst (λ k. AreClear points watches p k p.machine.steps) (sym e) h
 
 -- nothing more is left to be looked at
-pub known_last : (points : List ℕ) (watches : List Point) (p : Past) (low end : ℕ) (last : Option ℕ) → end ≤ low →
+pub known_last : (points : List ℕ) (watches : List Point) (p : Timeline) (low end : ℕ) (last : Option ℕ) → end ≤ low →
     AreClear points watches p end p.machine.steps → IsKnown points watches p low last → IsLast points watches p last
 known_last points watches p low end None l clear k = clear_fewer points watches p end p.beginning.steps p.machine.steps
     (omega (arith, l, k)) clear
@@ -237,7 +237,7 @@ known_last points watches p low end (Some step) l clear k =
     (k.1, k.2, k.3, clear_fewer points watches p end (step + 1) p.machine.steps (omega (arith, l, is)) clear)
 
 -- nothing is set
-pub bare_last : (points : List ℕ) (watches : List Point) (p : Past) → points ≡ [] → watches ≡ [] →
+pub bare_last : (points : List ℕ) (watches : List Point) (p : Timeline) → points ≡ [] → watches ≡ [] →
     IsLast points watches p None
 bare_last points watches p e f = λ k s after before was. record {
   apart = ap (λ (xs : List ℕ). is_among xs
@@ -247,12 +247,12 @@ bare_last points watches p e f = λ k s after before was. record {
 
 -- ---- what is told
 
-passes_none : (points : List ℕ) (watches : List Point) (m t : State) (n : ℕ) → Passes points watches None m n t →
+passes_none : (points : List ℕ) (watches : List Point) (m t : State) (n : ℕ) → RunsPast points watches None m n t →
     n ≡ 0 → t ≡ m
 passes_none points watches m t n going.here e = refl
 passes_none points watches m t n (going.further k v u p run hits off) e = absurd (omega (arith, e))
 
-passes_one : (points : List ℕ) (watches : List Point) (m t : State) (n : ℕ) → Passes points watches None m n t → n ≡ 1 →
+passes_one : (points : List ℕ) (watches : List Point) (m t : State) (n : ℕ) → RunsPast points watches None m n t → n ≡ 1 →
     Misses watches m
 passes_one points watches m t n going.here e = absurd (omega (arith, e))
 passes_one points watches m t n (going.further k v u p run hits off) e =
@@ -323,7 +323,7 @@ told_stopped points others watches m t pause stop e q c =
     hit_nothing points watches m (told_misses others watches m t pause (stopped stop e q) c)
 
 -- a branch that begins at this step stands where the history was
-pub branch_at : (p b : Past) (step : ℕ) (s : State) → step < 2 ^ 64 - 1 → IsBranch p step (step + 1) b → Was p step s →
+pub branch_at : (p b : Timeline) (step : ℕ) (s : State) → step < 2 ^ 64 - 1 → IsBranch p step (step + 1) b → Was p step s →
     s ≡ b.machine
 branch_at p b step s l x was =
     let since = x.since in
@@ -338,7 +338,7 @@ branch_at p b step s l x was =
 
 -- ---- going back
 
-pub back_met : (points : List ℕ) (watches : List Point) (p q : Past) (k : ℕ) (what : Undone) →
+pub back_met : (points : List ℕ) (watches : List Point) (p q : Timeline) (k : ℕ) (what : Undone) →
     p.machine.steps ≤ 2 ^ 64 - 1 → IsLast points watches p (Some k) → GoesBack p k q →
     ((s : State) → Was p k s → IsMet points watches s → Meets points watches s what) → Returns points watches p what q
 back_met points watches p q k what top x back told =

@@ -6,7 +6,7 @@ use Rattle.dm_services.specs.declared.state.stop.Stop.TheVariants.{Steps as AllS
 use Rattle.dm_services.specs.state.State.{State}
 use Rattle.dm_space.specs.Memory.{linear}
 use Rattle.dm_cpu.specs.Guest.{guest}
-use Rattle.dm_history.specs.Pasts.{Past}
+use Rattle.dm_history.specs.Timelines.{Timeline}
 use Rattle.dm_touches.specs.Touches.{reads, writes}
 use Rattle.dm_requests.specs.declared.request.Point.{Point}
 use Rattle.dm_machine.specs.declared.until.Breakpoint.{Breakpoint}
@@ -22,10 +22,10 @@ use Rattle.dm_machine.specs.Near as near
 use Rattle.dm_target.specs.declared.going.Pause.{Pause}
 use Rattle.dm_target.specs.declared.going.Pause.TheVariants.{Arrived, Stopped}
 use Rattle.dm_target.specs.declared.going.StepRange.{StepRange}
-use Rattle.dm_target.specs.Going.{Passes, Continues, has_arrived, is_among, code_address}
+use Rattle.dm_target.specs.Going.{RunsPast, Continues, has_arrived, is_among, code_address}
 use Rattle.dm_target.specs.Going as going
 use Rattle.dm_target.specs.Watching.{Hits, performed, unwatched}
-use Rattle.dm_target.specs.inner.Looking.{IsGuarded, Looks, Ends, PassesNear, pairs_of}
+use Rattle.dm_target.specs.inner.Looking.{IsGuarded, Looks, Ends, RunsNear, pairs_of}
 use Rattle.dm_target.specs.inner.Looking as looking
 use Rattle.dm_target.proofs.Guarding.{none_touched}
 use Rattle.dm_target.proofs.Nearing.{points_other}
@@ -90,7 +90,7 @@ not_arrived points s u small same below off =
     rw there refl
 
 within_passes : (points : List ℕ) (watches : List Point) (s t : State) (m n : ℕ) → s.cpu.cs < 65536 →
-    Misses watches s n → m ≤ n → GoesWithin (pairs_of s.cpu.cs points) s m t → Passes points watches None s m t
+    Misses watches s n → m ≤ n → GoesWithin (pairs_of s.cpu.cs points) s m t → RunsPast points watches None s m t
 within_passes points watches s t m n small miss le near.here = going.here
 within_passes points watches s t m n small miss le (near.further k v u g h cs ip off) =
     let ps = pairs_of s.cpu.cs points in
@@ -99,7 +99,7 @@ within_passes points watches s t m n small miss le (near.further k v u g h cs ip
     (not_arrived points s t small (cs ∙ within_segment ps s v k g) ip off)
 
 pub near_passes : (points : List ℕ) (watches : List Point) (s t : State) (n : ℕ) → s.cpu.cs < 65536 →
-    Misses watches s n → GoesNear (pairs_of s.cpu.cs points) s n t → PassesNear points watches None s n t
+    Misses watches s n → GoesNear (pairs_of s.cpu.cs points) s n t → RunsNear points watches None s n t
 near_passes points watches s t n small miss near.start = looking.none
 near_passes points watches s t n small miss (near.ended k v u g h) =
     looking.last k v t (within_passes points watches s v k (k + 1) small miss (omega arith) g) (run_one v t h)
@@ -108,47 +108,47 @@ near_passes points watches s t n small miss (near.ended k v u g h) =
 -- ---- going on
 
 passes_append : (points : List ℕ) (watches : List Point) (span : Option StepRange) (s t u : State) (m n : ℕ) →
-    Passes points watches span s m t → Passes points watches span t n u → Passes points watches span s (m + n) u
+    RunsPast points watches span s m t → RunsPast points watches span t n u → RunsPast points watches span s (m + n) u
 passes_append points watches span s t u m n p going.here = (let F : ℕ → Type 0 =
-    λ j. Passes points watches span s j t in let none : m ≡ m + 0 = omega arith in subst F none p)
+    λ j. RunsPast points watches span s j t in let none : m ≡ m + 0 = omega arith in subst F none p)
 passes_append points watches span s t u m n p (going.further k v w q step hits off) =
-    subst (λ (j : ℕ). Passes points watches span s j u) (omega arith) (going.further (m + k) v u
+    subst (λ (j : ℕ). RunsPast points watches span s j u) (omega arith) (going.further (m + k) v u
     (passes_append points watches span s t v m k p q) step hits off)
 
 -- no steps were made
 pub near_none : (points : List ℕ) (watches : List Point) (span : Option StepRange) (s t : State) (n : ℕ) →
-    PassesNear points watches span s n t → n ≡ 0 → t ≡ s
+    RunsNear points watches span s n t → n ≡ 0 → t ≡ s
 near_none points watches span s t n looking.none e = refl
 near_none points watches span s t n (looking.last k v u p step hits) e = absurd (omega arith)
 
 -- the last step has led to no breakpoint: none has
 near_all : (points : List ℕ) (watches : List Point) (span : Option StepRange) (s t : State) (n : ℕ) →
-    PassesNear points watches span s n t → has_arrived points span t ≡ false → Passes points watches span s n t
+    RunsNear points watches span s n t → has_arrived points span t ≡ false → RunsPast points watches span s n t
 near_all points watches span s t n looking.none off = going.here
 near_all points watches span s t n (looking.last k v u p step hits) off = going.further k v t p step hits off
 
 -- steps that were made at once, behind others
 pub more_passes : (points : List ℕ) (watches : List Point) (span : Option StepRange) (s t u : State)
-    (most left made : ℕ) → left ≤ most → made ≤ left → Passes points watches span s (most - left) t
-    → PassesNear points watches span t made u → has_arrived points span u ≡ false →
-    Passes points watches span s (most - (left - made)) u
+    (most left made : ℕ) → left ≤ most → made ≤ left → RunsPast points watches span s (most - left) t
+    → RunsNear points watches span t made u → has_arrived points span u ≡ false →
+    RunsPast points watches span s (most - (left - made)) u
 more_passes points watches span s t u most left made few less p q off =
-    subst (λ (j : ℕ). Passes points watches span s j u) (omega (arith, few, less))
+    subst (λ (j : ℕ). RunsPast points watches span s j u) (omega (arith, few, less))
     (passes_append points watches span s t u (most - left) made p (near_all points watches span t u made q off))
 
 -- one more step, behind others
 pub one_passes : (points : List ℕ) (watches : List Point) (span : Option StepRange) (s t u : State) (most left : ℕ) →
-    left ≤ most → 1 ≤ left → Passes points watches span s (most - left) t
+    left ≤ most → 1 ≤ left → RunsPast points watches span s (most - left) t
     → IsRun t 1 AllSteps u → Hits watches t u None → has_arrived points span u ≡ false →
-    Passes points watches span s (most - (left - 1)) u
+    RunsPast points watches span s (most - (left - 1)) u
 one_passes points watches span s t u most left few some p step hits off =
-    subst (λ (j : ℕ). Passes points watches span s j u) (omega (arith, few, some))
+    subst (λ (j : ℕ). RunsPast points watches span s j u) (omega (arith, few, some))
     (going.further (most - left) t u p step hits off)
 
 -- the last of steps that were made at once has led to a breakpoint
 pub near_arrives : (points : List ℕ) (watches : List Point) (span : Option StepRange) (s t u : State)
-    (most left made : ℕ) → left ≤ most → made ≤ left → 1 ≤ made → Passes points watches span s (most - left) t
-    → PassesNear points watches span t made u → has_arrived points span u ≡ true →
+    (most left made : ℕ) → left ≤ most → made ≤ left → 1 ≤ made → RunsPast points watches span s (most - left) t
+    → RunsNear points watches span t made u → has_arrived points span u ≡ true →
     Continues points watches span s most Arrived u
 near_arrives points watches span s t u most left made few less some p looking.none there = absurd (omega (arith, some))
 near_arrives points watches span s t u most left made few less some p (looking.last k v w q step hits) there =
@@ -157,7 +157,7 @@ near_arrives points watches span s t u most left made few less some p (looking.l
 
 -- a step that was looked at ends the steps
 pub looks_ends : (points : List ℕ) (watches : List Point) (span : Option StepRange) (s t u : State) (most left : ℕ)
-    (pause : Pause) → left ≤ most → 1 ≤ left → Passes points watches span s (most - left) t
+    (pause : Pause) → left ≤ most → 1 ≤ left → RunsPast points watches span s (most - left) t
     → Looks watches t (Some pause) u → Continues points watches span s most pause u
 looks_ends points watches span s t u most left pause few some p (looking.hits point v step hits) =
     going.hit (most - left) t point (omega (arith, few, some)) refl p step hits
@@ -168,7 +168,7 @@ looks_ends points watches span s t u most left pause few some p (looking.wants w
 
 pub ends_with : (points : List ℕ) (watches : List Point) (span : Option StepRange) (s t u : State) (most left : ℕ)
     (o : Option Pause) (pause : Pause) → o ≡ Some pause → left ≤ most → 1 ≤ left →
-    Passes points watches span s (most - left) t
+    RunsPast points watches span s (most - left) t
     → Ends points watches span t o u → Continues points watches span s most pause u
 ends_with points watches span s t u most left o pause e few some p (looking.goes_on v step hits off) =
     (let no : None ≡ Some pause = e in cc)
@@ -185,8 +185,8 @@ ends_with points watches span s t u most left o pause e few some p (looking.ends
     (looks_ends points watches span s t u most left why few some p h))
 
 pub goes_with : (points : List ℕ) (watches : List Point) (span : Option StepRange) (s t u : State) (most left : ℕ)
-    (o : Option Pause) → o ≡ None → left ≤ most → 1 ≤ left → Passes points watches span s (most - left) t
-    → Ends points watches span t o u → Passes points watches span s (most - (left - 1)) u
+    (o : Option Pause) → o ≡ None → left ≤ most → 1 ≤ left → RunsPast points watches span s (most - left) t
+    → Ends points watches span t o u → RunsPast points watches span s (most - (left - 1)) u
 goes_with points watches span s t u most left o e few some p (looking.goes_on v step hits off) =
     one_passes points watches span s t u most left few some p step hits off
 goes_with points watches span s t u most left o e few some p (looking.arrives v step hits there) =
@@ -196,14 +196,14 @@ goes_with points watches span s t u most left o e few some p (looking.ends why v
 
 -- all steps were made
 pub all_made : (points : List ℕ) (watches : List Point) (span : Option StepRange) (s t : State) (most left : ℕ) →
-    left ≡ 0 → Passes points watches span s (most - left) t → Continues points watches span s most (Stopped AllSteps) t
+    left ≡ 0 → RunsPast points watches span s (most - left) t → Continues points watches span s most (Stopped AllSteps) t
 all_made points watches span s t most left e p =
-    going.whole refl (subst (λ (j : ℕ). Passes points watches span s j t) (omega (arith, e)) p)
+    going.whole refl (subst (λ (j : ℕ). RunsPast points watches span s j t) (omega (arith, e)) p)
 
 -- the same steps, in other words
-pub passes_at : (points : List ℕ) (watches : List Point) (span : Option StepRange) (s : State) (u v : Past)
-    (most a b : ℕ) → v ≡ u → b ≡ a → Passes points watches span s (most - a) u.machine →
-    Passes points watches span s (most - b) v.machine
+pub passes_at : (points : List ℕ) (watches : List Point) (span : Option StepRange) (s : State) (u v : Timeline)
+    (most a b : ℕ) → v ≡ u → b ≡ a → RunsPast points watches span s (most - a) u.machine →
+    RunsPast points watches span s (most - b) v.machine
 passes_at points watches span s u v most a b e f p =
-    subst (λ (x : Past). Passes points watches span s (most - b) x.machine) (sym e)
-    (subst (λ (j : ℕ). Passes points watches span s (most - j) u.machine) (sym f) p)
+    subst (λ (x : Timeline). RunsPast points watches span s (most - b) x.machine) (sym e)
+    (subst (λ (j : ℕ). RunsPast points watches span s (most - j) u.machine) (sym f) p)

@@ -23,7 +23,7 @@ use Rattle.dm_history.proofs.Runs.{all-made, run-more}
 use Rattle.dm_history.proofs.Walks.{split, all-goes}
 use Rattle.dm_target.specs.declared.going.Pause.{Pause}
 use Rattle.dm_target.specs.declared.going.Pause.TheVariants.{Arrived, Hit, Stopped}
-use Rattle.dm_target.specs.Going.{Passes, Continues, has_arrived, is_among, code_address}
+use Rattle.dm_target.specs.Going.{RunsPast, Continues, has_arrived, is_among, code_address}
 use Rattle.dm_target.specs.Going as going
 use Rattle.dm_target.specs.Watching.{Hits, unwatched, acted, performed, is_touched, is_changed}
 use Rattle.dm_target.specs.Returning.{Misses}
@@ -133,7 +133,7 @@ record Walked (points : List ℕ) (watches : List Point) (o m : State) (n : ℕ)
 counted_more : (s t : State) → HasStepTo s t → s.steps < 2 ^ 64 - 1 → t.steps ≡ s.steps + 1
 counted_more s t h l = let e = leads-steps s t h in omega (arith, e, l)
 
-walked : (points : List ℕ) (watches : List Point) (o m t : State) (n : ℕ) → Passes points watches None m n t →
+walked : (points : List ℕ) (watches : List Point) (o m t : State) (n : ℕ) → RunsPast points watches None m n t →
     BecomesBy o [] m → m.steps + n ≤ 2 ^ 64 - 1 → Walked points watches o m n t
 walked points watches o m t n going.here b top = record {
   becomes = b;

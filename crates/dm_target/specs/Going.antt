@@ -35,12 +35,12 @@ has_arrived points span s = is_among points (code_address s) || is_outside span 
 
 -- n steps, one after the other, lead from s to this state; none of them led to a breakpoint or out of the range, or hit
 -- a watchpoint
-pub data Passes (points : List ℕ) (watches : List Point) (span : Option StepRange) (s : State) : ℕ → State →
+pub data RunsPast (points : List ℕ) (watches : List Point) (span : Option StepRange) (s : State) : ℕ → State →
     Type 0 where
-  here : Passes points watches span s 0 s
-  further : (n : ℕ) (t u : State) → Passes points watches span s n t → IsRun t 1 AllSteps u → Hits watches t u None →
+  here : RunsPast points watches span s 0 s
+  further : (n : ℕ) (t u : State) → RunsPast points watches span s n t → IsRun t 1 AllSteps u → Hits watches t u None →
       has_arrived points span u ≡ false
-      → Passes points watches span s (n + 1) u
+      → RunsPast points watches span s (n + 1) u
 
 -- At most `most` steps from s, but none after one that led to a breakpoint or out of the range, or hit a watchpoint,
 -- end for this reason in t. Such a step was made (`arrived`, `hit`), all were made (`whole`), or a stop came earlier
@@ -50,16 +50,16 @@ pub data Continues (points : List ℕ) (watches : List Point) (span : Option Ste
     (pause : Pause) (t : State) : Type 0 where
   plain : (why : Stop) → points ≡ [] → watches ≡ [] → span ≡ None → pause ≡ Stopped why → IsRun s most why t →
       Continues points watches span s most pause t
-  arrived : (made : ℕ) (before : State) → made < most → pause ≡ Arrived → Passes points watches span s made before →
+  arrived : (made : ℕ) (before : State) → made < most → pause ≡ Arrived → RunsPast points watches span s made before →
       IsRun before 1 AllSteps t → Hits watches before t None
       → has_arrived points span t ≡ true → Continues points watches span s most pause t
   hit : (made : ℕ) (before : State) (point : Point) → made < most → pause ≡ Hit point →
-      Passes points watches span s made before → IsRun before 1 AllSteps t
+      RunsPast points watches span s made before → IsRun before 1 AllSteps t
       → Hits watches before t (Some point) → Continues points watches span s most pause t
-  whole : pause ≡ Stopped AllSteps → Passes points watches span s most t → Continues points watches span s most pause t
+  whole : pause ≡ Stopped AllSteps → RunsPast points watches span s most t → Continues points watches span s most pause t
   cut : (made : ℕ) (before : State) (why : Stop) → made < most → pause ≡ Stopped why → why ≢ AllSteps →
-      Passes points watches span s made before → IsRun before 1 why t
+      RunsPast points watches span s made before → IsRun before 1 why t
       → Continues points watches span s most pause t
   short : (made : ℕ) (what : EntryPoint) → made < most → pause ≡ Stopped NoMemory → watches ≢ [] →
-      entry_point_at t.cpu.cs t.cpu.ip ≡ Some what → Passes points watches span s made t
+      entry_point_at t.cpu.cs t.cpu.ip ≡ Some what → RunsPast points watches span s made t
       → Continues points watches span s most pause t

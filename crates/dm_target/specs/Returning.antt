@@ -6,7 +6,7 @@ use Rattle.dm_requests.specs.declared.request.Point.{Point}
 use Rattle.dm_services.specs.declared.state.stop.Stop.TheVariants.{Steps as AllSteps}
 use Rattle.dm_services.specs.state.State.{State}
 use Rattle.dm_machine.specs.Run.{IsRun}
-use Rattle.dm_history.specs.Pasts.{Past, Was, GoesBack}
+use Rattle.dm_history.specs.Timelines.{Timeline, Was, GoesBack}
 use Rattle.dm_target.specs.declared.undoing.Undone.{Undone}
 use Rattle.dm_target.specs.declared.undoing.Undone.TheVariants.{Begun, Back, Hit}
 use Rattle.dm_target.specs.Going.{is_among, code_address}
@@ -29,16 +29,16 @@ pub record IsNoHit (points : List ℕ) (watches : List Point) (s : State) : Type
   pub misses : Misses watches s
 
 -- from one step of the history p up to another, that one left out, no state is a hit
-abbrev pub AreClear : List ℕ → List Point → Past → ℕ → ℕ → Type 0
+abbrev pub AreClear : List ℕ → List Point → Timeline → ℕ → ℕ → Type 0
 AreClear points watches p from end = (k : ℕ) (s : State) → from ≤ k → k < end → Was p k s → IsNoHit points watches s
 
 -- the history p goes back to the last hit before its present state, and becomes q; and what is told of it. Where there
 -- is none, it goes back to its beginning (`to_start`); where it stands there already, it stays (`begun`)
-pub data Returns (points : List ℕ) (watches : List Point) (p : Past) : Undone → Past → Type 0 where
+pub data Returns (points : List ℕ) (watches : List Point) (p : Timeline) : Undone → Timeline → Type 0 where
   begun : p.machine.steps ≤ p.beginning.steps → Returns points watches p Begun p
-  to_start : (q : Past) → p.beginning.steps < p.machine.steps → GoesBack p p.beginning.steps q →
+  to_start : (q : Timeline) → p.beginning.steps < p.machine.steps → GoesBack p p.beginning.steps q →
       AreClear points watches p p.beginning.steps p.machine.steps
       → Returns points watches p Begun q
-  met : (k : ℕ) (what : Undone) (q : Past) → p.beginning.steps ≤ k → k < p.machine.steps → GoesBack p k q →
+  met : (k : ℕ) (what : Undone) (q : Timeline) → p.beginning.steps ≤ k → k < p.machine.steps → GoesBack p k q →
       Meets points watches q.machine what
       → AreClear points watches p (k + 1) p.machine.steps → Returns points watches p what q

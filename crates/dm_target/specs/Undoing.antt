@@ -11,7 +11,7 @@ use Rattle.dm_touches.specs.Touches.{reads, writes}
 use Rattle.dm_requests.specs.declared.request.Point.{Point}
 use Rattle.dm_services.specs.state.State.{State}
 use Rattle.dm_machine.specs.Step.{fetched}
-use Rattle.dm_history.specs.Pasts.{Past, GoesBack}
+use Rattle.dm_history.specs.Timelines.{Timeline, GoesBack}
 use Rattle.dm_target.specs.declared.undoing.Undone.{Undone}
 use Rattle.dm_target.specs.declared.undoing.Undone.TheVariants.{Begun, Back, Hit}
 use Rattle.dm_target.specs.Watching.{is_changed, is_touched}
@@ -33,8 +33,8 @@ undone_by (Some point) = Hit point
 
 -- the history p goes back a step and becomes this one, unless it begins at its present state; and what is told of the
 -- step
-pub data Undoes (watches : List Point) (p : Past) : Undone → Past → Type 0 where
+pub data Undoes (watches : List Point) (p : Timeline) : Undone → Timeline → Type 0 where
   begun : p.machine.steps ≤ p.beginning.steps → Undoes watches p Begun p
-  undone : (hit : Option Point) (q : Past) → p.beginning.steps < p.machine.steps → GoesBack p (p.machine.steps - 1) q →
+  undone : (hit : Option Point) (q : Timeline) → p.beginning.steps < p.machine.steps → GoesBack p (p.machine.steps - 1) q →
       HitBy watches q.machine p.machine hit
       → Undoes watches p (undone_by hit) q

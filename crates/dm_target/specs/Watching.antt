@@ -11,7 +11,7 @@ use Rattle.dm_ins.specs.Ins.{BeginsWith}
 use Rattle.dm_cpu.specs.Guest.{guest}
 use Rattle.dm_touches.specs.declared.elements.Elements.{Elements}
 use Rattle.dm_touches.specs.Touches.{reads, writes}
-use Rattle.dm_touches.specs.quiet.Marks.{pass}
+use Rattle.dm_touches.specs.quiet.Marks.{satisfy}
 use Rattle.dm_requests.specs.declared.request.WatchedAccess.{WatchedAccess}
 use Rattle.dm_requests.specs.declared.request.WatchedAccess.TheVariants.{Execute, Write, Read, Either}
 use Rattle.dm_requests.specs.declared.request.Point.{Point}
@@ -32,7 +32,7 @@ by_access Either r w = r || w
 
 -- whether a byte of these elements is in the range
 abbrev pub is_met : Bool → Elements → Point → Bool
-is_met a20 e p = not (pass (λ a. not (is_in_range p a)) a20 e)
+is_met a20 e p = not (satisfy (λ a. not (is_in_range p a)) a20 e)
 
 -- whether an instruction that reads and writes these elements hits the watchpoint
 abbrev pub is_touched : Bool → Elements → Elements → Point → Bool

@@ -4,7 +4,7 @@ ghost use Rattle.std.specs.Prelude.{◌≡◌, ◌<◌, ◌≤◌, ℕ, false, L
 ghost use Rattle.dm_services.specs.state.State.{State};
 ghost use Rattle.dm_history.specs.Becomes.{BecomesBy};
 ghost use Rattle.dm_history.specs.Branches.{Reaches};
-ghost use Rattle.dm_history.specs.Pasts.{GoesBack, Was};
+ghost use Rattle.dm_history.specs.Timelines.{GoesBack, Was};
 ghost use Rattle.dm_target.specs.Returning.{Meets, Returns};
 ghost use Rattle.dm_target.specs.inner.Surveying.{IsLast, IsLookedAt, IsMet, IsPart, IsStand, IsSurvey, Stands, found_with};
 

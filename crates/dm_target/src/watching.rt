@@ -7,7 +7,7 @@ ghost use Rattle.dm_ins.specs.declared.ins.Ins.{Ins};
 ghost use Rattle.dm_ins.specs.Ins.{BeginsWith};
 ghost use Rattle.dm_cpu.specs.Guest.{guest};
 ghost use Rattle.dm_touches.specs.Touches.{reads, writes};
-ghost use Rattle.dm_touches.specs.quiet.Marks.{passes_if};
+ghost use Rattle.dm_touches.specs.quiet.Marks.{satisfies};
 ghost use Rattle.dm_space.specs.declared.entry_points.EntryPoint.{EntryPoint};
 ghost use Rattle.dm_space.specs.Memory.{Memory, linear};
 ghost use Rattle.dm_machine.specs.Step.{fetched};
@@ -53,8 +53,8 @@ fn misses(a20: bool, segment: u16, offset: u16, point: &Point) -> bool
 }
 
 /// Whether all bytes of an element are outside the range of a watchpoint.
-fn passes(a20: bool, element: Option<Element>, point: &Point) -> bool
-    ensures { result ≡ passes_if (λ a. not (is_in_range point.now a)) a20 element }
+fn element_misses(a20: bool, element: Option<Element>, point: &Point) -> bool
+    ensures { result ≡ satisfies (λ a. not (is_in_range point.now a)) a20 element }
 {
     match element {
         None => true,
@@ -70,9 +70,9 @@ fn passes(a20: bool, element: Option<Element>, point: &Point) -> bool
 fn is_met(a20: bool, elements: &Elements, point: &Point) -> bool
     ensures { result ≡ is_met a20 elements.now point.now }
 {
-    !(passes(a20, elements.first, point)
-        && passes(a20, elements.second, point)
-        && passes(a20, elements.third, point))
+    !(element_misses(a20, elements.first, point)
+        && element_misses(a20, elements.second, point)
+        && element_misses(a20, elements.third, point))
 }
 
 /// Whether an instruction that touches these bytes hits the watchpoint.

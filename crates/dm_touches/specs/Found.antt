@@ -18,7 +18,7 @@ use Rattle.dm_touches.specs.Touches.{reads, writes}
 abbrev pub is_between : ℕ → ℕ → ℕ → Bool
 is_between first end a = not (nat_lt a first) && nat_lt a end
 
--- the first of the bytes whose linear address passes the test; None if there is none
+-- the first of the bytes whose linear address satisfies the test; None if there is none
 abbrev pub first_that : Bool → (ℕ → Bool) → List FarAddress → Option FarAddress
 first_that a20 is [] = None
 first_that a20 is (f ∷ fs) = if is (linear_of a20 f) then Some f else first_that a20 is fs

@@ -95,15 +95,15 @@ KnowsAtAny s None t k l = IsKnownAfter s t k l
 KnowsAtAny s (Some stop) t k l = KnowsAtStop s stop t k l
 
 -- nothing is found of the step from s to t, and it allocates and frees nothing
-pub record IsPassing (s t : State) : Type 0 where
+pub record IsUnfound (s t : State) : Type 0 where
   pub finds : Finds s t []
   pub knows : (k : Known) → IsKnownAfter s t k k
 
 -- so many such steps lead from s to this state
-pub data PassesIn (s : State) : ℕ → State → Type 0 where
-  here : PassesIn s 0 s
-  further : (n : ℕ) (t u : State) → PassesIn s n t → MakesStep t (record { stop = None; state = u }) → IsPassing t u →
-      PassesIn s (n + 1) u
+pub data GoesUnfound (s : State) : ℕ → State → Type 0 where
+  here : GoesUnfound s 0 s
+  further : (n : ℕ) (t u : State) → GoesUnfound s n t → MakesStep t (record { stop = None; state = u }) → IsUnfound t u →
+      GoesUnfound s (n + 1) u
 
 -- one checked step from s to t, with this stop or None: the report `new` is `old` with the findings of the step added,
 -- those about free memory only with `free`; and if the machine goes on, w is what memory shows of the arena after the

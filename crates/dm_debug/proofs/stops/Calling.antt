@@ -33,7 +33,7 @@ use Rattle.dm_touches.specs.declared.elements.Elements.{Elements}
 use Rattle.dm_touches.specs.Access.{access_of}
 use Rattle.dm_touches.specs.Elements.{far, linear_of}
 use Rattle.dm_touches.specs.Touches.{reads, reads_by, writes}
-use Rattle.dm_touches.specs.quiet.Marks.{level_at, lies_below, passes_if, pass, IsQuiet}
+use Rattle.dm_touches.specs.quiet.Marks.{level_at, lies_below, satisfies, satisfy, IsQuiet}
 use Rattle.dm_services.specs.state.State.{State}
 use Rattle.dm_machine.specs.Step.{fetched}
 use Rattle.dm_debug.specs.stops.Events.{calls}
@@ -140,9 +140,9 @@ vector_at : (a20 : Bool) (n : ℕ) → n < 256 → linear a20 0 (4 * (n % 256)) 
 vector_at true n small = omega (arith, small)
 vector_at false n small = omega (arith, small)
 
-passes_second : (p : ℕ → Bool) (a20 : Bool) (e : Elements) → pass p a20 e ≡ true → passes_if p a20 e.second ≡ true
-passes_second p a20 e t = and_right (passes_if p a20 e.first) (passes_if p a20 e.second)
-    (and_left (passes_if p a20 e.first && passes_if p a20 e.second) (passes_if p a20 e.third) t)
+passes_second : (p : ℕ → Bool) (a20 : Bool) (e : Elements) → satisfy p a20 e ≡ true → satisfies p a20 e.second ≡ true
+passes_second p a20 e t = and_right (satisfies p a20 e.first) (satisfies p a20 e.second)
+    (and_left (satisfies p a20 e.first && satisfies p a20 e.second) (satisfies p a20 e.third) t)
 
 below_two : (ms : List ℕ) (a : ℕ) → lies_below ms 2 a ≡ true → level_at ms (a / 16) < 2
 below_two ms a e = grind (arith, nat_tests)
@@ -154,10 +154,10 @@ no_int ms t i k n x q marked =
     let g = guest t.cpu t.memory in
     let a20 = t.memory.a20 in
     let address = linear a20 0 (4 * (n % 256)) in
-    let second : passes_if (lies_below ms 2) a20 (reads g i k).second ≡ true =
+    let second : satisfies (lies_below ms 2) a20 (reads g i k).second ≡ true =
     passes_second (lies_below ms 2) a20 (reads g i k) q.reads in
-    let vector : passes_if (lies_below ms 2) a20 (Some (Word 0 (4 * (n % 256)))) ≡ true =
-    subst (λ (o : Option Element). passes_if (lies_below ms 2) a20 o ≡ true) (int_reads g i k n x) second in
+    let vector : satisfies (lies_below ms 2) a20 (Some (Word 0 (4 * (n % 256)))) ≡ true =
+    subst (λ (o : Option Element). satisfies (lies_below ms 2) a20 o ≡ true) (int_reads g i k n x) second in
     let first : lies_below ms 2 address ≡ true = and_left (lies_below ms 2 address)
     (lies_below ms 2 (linear_of a20 (far 0 (up (4 * (n % 256)) 1)))) vector in
     let less : level_at ms (address / 16) < 2 = below_two ms address first in

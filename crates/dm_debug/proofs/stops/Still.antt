@@ -21,7 +21,7 @@ use Rattle.dm_touches.specs.declared.elements.FarAddress.{FarAddress}
 use Rattle.dm_touches.specs.Elements.{far, linear_of, byte_place, bytes_if, bytes_of}
 use Rattle.dm_touches.specs.Touches.{writes}
 use Rattle.dm_touches.proofs.Written.{writes_listed}
-use Rattle.dm_touches.specs.quiet.Marks.{level_at, lies_below, passes_if, pass}
+use Rattle.dm_touches.specs.quiet.Marks.{level_at, lies_below, satisfies, satisfy}
 use Rattle.dm_services.specs.state.State.{State}
 use Rattle.dm_debug.specs.declared.stops.events.Event.{Event}
 use Rattle.dm_debug.specs.declared.stops.events.Event.TheVariants.{At, Address, Change, Call, Function}
@@ -47,7 +47,7 @@ all_append is a20 (f ∷ fs) gs e h = and_both (is (linear_of a20 f)) (are_all i
     ++ gs)) (and_left (is (linear_of a20 f)) (are_all is a20 fs) e) (all_append is a20 fs gs
     (and_right (is (linear_of a20 f)) (are_all is a20 fs) e) h)
 
-element_all : (is : ℕ → Bool) (a20 : Bool) (o : Option Element) → passes_if is a20 o ≡ true →
+element_all : (is : ℕ → Bool) (a20 : Bool) (o : Option Element) → satisfies is a20 o ≡ true →
     are_all is a20 (bytes_if o) ≡ true
 element_all is a20 None e = refl
 element_all is a20 (Some (element.Byte s o)) e = and_both (is (linear_of a20 (far s o))) true e refl
@@ -56,11 +56,11 @@ element_all is a20 (Some (element.Word s o)) e =
     let second = is (linear_of a20 (far s (up o 1))) in
     and_both first (second && true) (and_left first second e) (and_both second true (and_right first second e) refl)
 
-elements_all : (is : ℕ → Bool) (a20 : Bool) (e : Elements) → pass is a20 e ≡ true → are_all is a20 (bytes_of e) ≡ true
+elements_all : (is : ℕ → Bool) (a20 : Bool) (e : Elements) → satisfy is a20 e ≡ true → are_all is a20 (bytes_of e) ≡ true
 elements_all is a20 e t =
-    let a = passes_if is a20 e.first in
-    let b = passes_if is a20 e.second in
-    let c = passes_if is a20 e.third in
+    let a = satisfies is a20 e.first in
+    let b = satisfies is a20 e.second in
+    let c = satisfies is a20 e.third in
     let both = and_left (a && b) c t in
     all_append is a20 (bytes_if e.first ++ bytes_if e.second) (bytes_if e.third)
     (all_append is a20 (bytes_if e.first) (bytes_if e.second) (element_all is a20 e.first (and_left a b both))
@@ -112,7 +112,7 @@ none_at m ms a (f ∷ fs) low marked e =
 
 -- a marked byte stays
 keeps_byte : (g : Guest) (i : Ins) (k : ℕ) (ms : List ℕ) (a : ℕ) → a < 0xC0000 → 1 ≤ level_at ms (a / 16) →
-    pass (lies_below ms 1) g.memory.a20 (writes g i k) ≡ true → peek (effect g i k).memory a ≡ peek g.memory a
+    satisfy (lies_below ms 1) g.memory.a20 (writes g i k) ≡ true → peek (effect g i k).memory a ≡ peek g.memory a
 keeps_byte g i k ms a low marked quiet =
     let w = writes_listed g i k in
     let m = g.memory in
@@ -148,7 +148,7 @@ few : (r : Range) → bytes_there r ≤ r.length
 few r = few_by (nat_lt 0x10FFEF r.address) r.length (0x10FFF0 - r.address)
 
 range_still : (g : Guest) (i : Ins) (k : ℕ) (ms : List ℕ) (r : Range) → r.address + r.length ≤ 0xC0000 →
-    HasLevel 1 ms (Change r) → pass (lies_below ms 1) g.memory.a20 (writes g i k) ≡ true
+    HasLevel 1 ms (Change r) → satisfy (lies_below ms 1) g.memory.a20 (writes g i k) ≡ true
     → range_bytes (effect g i k).memory r ≡ range_bytes g.memory r
 range_still g i k ms r low marked quiet =
     let m = g.memory in
@@ -159,7 +159,7 @@ range_still g i k ms r low marked quiet =
     low_byte_at n x under ∙ keeps_byte g i k ms x under level quiet ∙ sym (low_byte_at m x under))
 
 event_still : (g : Guest) (i : Ins) (k : ℕ) (ms : List ℕ) (e : Event) → is_quick e ≡ true → IsGuarded ms e →
-    pass (lies_below ms 1) g.memory.a20 (writes g i k) ≡ true
+    satisfy (lies_below ms 1) g.memory.a20 (writes g i k) ≡ true
     → bytes_for (effect g i k).memory e ≡ bytes_for g.memory e
 event_still g i k ms (At p) quick marked quiet = refl
 event_still g i k ms (Address a) quick marked quiet = refl
@@ -170,7 +170,7 @@ event_still g i k ms (Function n ah) quick marked quiet = refl
 
 -- all ranges stay as they are
 pub all_still : (start : Memory) (g : Guest) (i : Ins) (k : ℕ) (ms : List ℕ) (es : List Event) →
-    list_all is_quick es ≡ true → All (IsGuarded ms) es → pass (lies_below ms 1) g.memory.a20 (writes g i k) ≡ true
+    list_all is_quick es ≡ true → All (IsGuarded ms) es → satisfy (lies_below ms 1) g.memory.a20 (writes g i k) ≡ true
     → AreStill start g.memory es → AreStill start (effect g i k).memory es
 all_still start g i k ms [] quick marked quiet still = All-nil (λ (e : Event). bytes_for (effect g i k).memory e
     ≡ bytes_for start e)

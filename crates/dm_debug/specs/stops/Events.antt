@@ -60,7 +60,7 @@ comes s (Function n ah) before = calls s n && s.cpu.ax / 256 == ah
 abbrev pub has_come : Memory → State → Event → Bool
 has_come start s e = comes s e (bytes_for start e)
 
--- the number of the first element that passes the test, counted from k; None if none passes
+-- the number of the first element that satisfies the test, counted from k; None if none does
 abbrev pub first_from : {X : Type 0} → (X → Bool) → ℕ → List X → Option ℕ
 first_from p k [] = None
 first_from p k (x ∷ xs) = if p x then Some k else first_from p (k + 1) xs

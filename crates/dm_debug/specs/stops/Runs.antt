@@ -12,10 +12,10 @@ use Rattle.dm_debug.specs.stops.Events.{first_come}
 
 -- n steps, one after the other, lead from s to this state, and none of them led to an event; the run began with this
 -- memory
-pub data Passes (start : Memory) (events : List Event) (s : State) : ℕ → State → Type 0 where
-  here : Passes start events s 0 s
-  further : (n : ℕ) (t u : State) → Passes start events s n t → IsRun t 1 AllSteps u →
-      first_come start events u ≡ None → Passes start events s (n + 1) u
+pub data RunsPast (start : Memory) (events : List Event) (s : State) : ℕ → State → Type 0 where
+  here : RunsPast start events s 0 s
+  further : (n : ℕ) (t u : State) → RunsPast start events s n t → IsRun t 1 AllSteps u →
+      first_come start events u ≡ None → RunsPast start events s (n + 1) u
 
 -- At most `most` steps from s, but none after the first that led to an event, end for this reason in t. Such a step was
 -- made, and this is the first event in the list that came (`came`); all were made (`whole`); or a stop came earlier
@@ -23,10 +23,10 @@ pub data Passes (start : Memory) (events : List Event) (s : State) : ℕ → Sta
 pub data RunsTo (s : State) (most : ℕ) (events : List Event) (ending : RunEnd) (t : State) : Type 0 where
   plain : (why : Stop) → (most ≡ 0) ⊎ (events ≡ []) → ending ≡ Stopped why → IsRun s most why t →
       RunsTo s most events ending t
-  came : (made index : ℕ) (before : State) → made < most → ending ≡ Came index → Passes s.memory events s made before →
+  came : (made index : ℕ) (before : State) → made < most → ending ≡ Came index → RunsPast s.memory events s made before →
       IsRun before 1 AllSteps t
       → first_come s.memory events t ≡ Some index → RunsTo s most events ending t
-  whole : ending ≡ Stopped AllSteps → Passes s.memory events s most t → RunsTo s most events ending t
+  whole : ending ≡ Stopped AllSteps → RunsPast s.memory events s most t → RunsTo s most events ending t
   cut : (made : ℕ) (before : State) (why : Stop) → made < most → ending ≡ Stopped why → why ≢ AllSteps →
-      Passes s.memory events s made before → IsRun before 1 why t
+      RunsPast s.memory events s made before → IsRun before 1 why t
       → RunsTo s most events ending t

@@ -8,12 +8,12 @@ ghost use Rattle.dm_services.specs.state.State.{HasProgram};
 ghost use Rattle.dm_machine.specs.Run.{IsRun};
 ghost use Rattle.dm_debug.specs.stops.Runs.{RunsTo};
 ghost use Rattle.dm_debug.specs.stops.inner.Marking.{is_quick, AreStill, IsGuarded};
-ghost use Rattle.dm_debug.specs.stops.inner.Nearby.{is_at_address, PassesNear};
+ghost use Rattle.dm_debug.specs.stops.inner.Nearby.{is_at_address, RunsNear};
 ghost use Rattle.dm_debug.specs.stops.inner.Watching.{watch_of, GoesTo};
 
 use crate::stops::events::{Event, Watch, first_come, watches_of};
 use crate::stops::marking::{are_quick, marks_of};
-use crate::stops::nearby::{are_at_addresses, pass};
+use crate::stops::nearby::{are_at_addresses, run_near};
 use dm_machine::{Breakpoint, Machine, Stop};
 use dm_touches::quiet::Marks;
 use std::alloc::{AllocError, Global};
@@ -44,13 +44,13 @@ fn advance(
     requires addresses { marks.now ≡ None → list_all is_at_address events.now ≡ true }
     requires marked { IfSome marks.now (λ m. All (IsGuarded m) events.now) }
     ensures near { IfOk result (λ n. (start : Memory) → AreStill start machine.old.memory events.now →
-        PassesNear start events.now machine.old n machine.new) }
+        RunsNear start events.now machine.old n machine.new) }
     ensures some { IfOk result (λ n. 0 < n) }
     ensures most { IfOk result (λ n. n ≤ most) }
     ensures stops { IfErr result (λ why. (why ≢ AllSteps) × IsRun machine.old 1 why machine.new) }
     ensures loaded { HasProgram machine.new }
 {
-    let made = pass(machine, most, events, quick, marks, pairs);
+    let made = run_near(machine, most, events, quick, marks, pairs);
     if made != 0 {
         return Ok(made);
     }

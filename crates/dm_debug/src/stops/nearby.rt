@@ -7,7 +7,7 @@ ghost use Rattle.dm_services.specs.state.State.{HasProgram};
 ghost use Rattle.dm_machine.specs.Near.{GoesNear};
 ghost use Rattle.dm_machine.specs.Unmarked.{GoesUnmarked};
 ghost use Rattle.dm_debug.specs.stops.inner.Marking.{is_quick, AreStill, IsGuarded};
-ghost use Rattle.dm_debug.specs.stops.inner.Nearby.{is_at_address, pair_at, pairs_at, pairs_for, pairs_of, PassesNear};
+ghost use Rattle.dm_debug.specs.stops.inner.Nearby.{is_at_address, pair_at, pairs_at, pairs_for, pairs_of, RunsNear};
 
 use crate::stops::events::Event;
 use dm_machine::{Breakpoint, Machine};
@@ -95,7 +95,7 @@ fn run_marked(machine: &mut Machine, most: u64, pairs: &[Breakpoint], marks: &Op
 /// Makes at most `most` steps, none but the last of which leads to an event, and returns how many. It may make none.
 /// `quick` says that marks tell whether events can come; where there are no marks all events are at addresses. `pairs`
 /// is room for breakpoints.
-pub(crate) fn pass(
+pub(crate) fn run_near(
     machine: &mut Machine,
     most: u64,
     events: &[Event],
@@ -108,7 +108,7 @@ pub(crate) fn pass(
     requires addresses { marks.now ≡ None → list_all is_at_address events.now ≡ true }
     requires marked { IfSome marks.now (λ m. All (IsGuarded m) events.now) }
     ensures near { (start : Memory) → AreStill start machine.old.memory events.now →
-        PassesNear start events.now machine.old result machine.new }
+        RunsNear start events.now machine.old result machine.new }
     ensures most { result ≤ most }
     ensures loaded { HasProgram machine.new }
 {

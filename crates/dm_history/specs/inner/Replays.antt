@@ -7,7 +7,7 @@ use Rattle.dm_machine.specs.Run.{IsRun}
 use Rattle.dm_history.specs.declared.change.TimedChange.{TimedChange}
 use Rattle.dm_history.specs.Edits.{edits_to}
 use Rattle.dm_history.specs.Becomes.{BecomesBy}
-use Rattle.dm_history.specs.Pasts.{Past}
+use Rattle.dm_history.specs.Timelines.{Timeline}
 
 -- a run from s up to a count of steps, in which no allocation fails, leaves t
 pub record RunsUpTo (s : State) (step : ℕ) (t : State) : Type 0 where
@@ -35,7 +35,7 @@ pub record IsReplayed (s : State) (es : List TimedChange) (step : ℕ) (t : Stat
   pub steps : t.steps ≡ step
 
 -- s is a state of the history p, with its first `made` edits done and the others to come, no later than a step
-pub record IsBase (p : Past) (step : ℕ) (s : State) (made : ℕ) : Type 0 where
+pub record IsBase (p : Timeline) (step : ℕ) (s : State) (made : ℕ) : Type 0 where
   pub some : made ≤ length (edits_to step p.edits)
   pub before : s.steps ≤ step
   pub leads : BecomesBy p.beginning (take made p.edits) s

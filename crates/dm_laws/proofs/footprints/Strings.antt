@@ -11,7 +11,7 @@ use Rattle.dm_cpu.specs.Operands.{data_segment}
 use Rattle.dm_cpu.specs.Values.{accumulator, with_accumulator}
 use Rattle.dm_exec.specs.declared.operation.StringOperation.{StringOperation}
 use Rattle.dm_exec.specs.declared.operation.StringOperation.TheVariants as string
-use Rattle.dm_exec.specs.Strings.{source, destination, source_passed, destination_passed, with_comparison, once, counted, string_effect}
+use Rattle.dm_exec.specs.Strings.{source, destination, source_advanced, destination_advanced, with_comparison, once, counted, string_effect}
 use Rattle.dm_touches.specs.declared.elements.Elements.{Elements}
 use Rattle.dm_touches.specs.Elements.{bytes_of, nothing, one_element, two_elements}
 use Rattle.dm_touches.specs.Touches.{does_work, reads_of_string, writes_of_string}
@@ -32,16 +32,16 @@ module _ (w : Width) (c : Cpu) (m n : Memory) (override : Option SegmentRegister
       let e = two_elements (touched.source w c override) (touched.destination w c) in
       let x = same_element w m n (data_segment c override c.ds) c.si (in_first (Same m n) e r) in
       let y = same_element w m n c.es c.di (in_second (Same m n) e r) in
-      done_registers m n _ _ (ap₂ (λ (a b : ℕ). destination_passed w (source_passed w (with_comparison w c a b))) x y)
+      done_registers m n _ _ (ap₂ (λ (a b : ℕ). destination_advanced w (source_advanced w (with_comparison w c a b))) x y)
   done_once string.Store r = done_one m n _ _ (touched.destination w c) (done_with m n _ _ _ _ _ refl
       (done_written w c m n c.es c.di _ _ refl))
   done_once string.Load r =
       let e = same_element w m n (data_segment c override c.ds) c.si (in_first (Same m n)
       (one_element (touched.source w c override)) r) in
-      done_registers m n _ _ (ap (λ (a : ℕ). source_passed w (with_accumulator w c a)) e)
+      done_registers m n _ _ (ap (λ (a : ℕ). source_advanced w (with_accumulator w c a)) e)
   done_once string.Scan r =
       let e = same_element w m n c.es c.di (in_first (Same m n) (one_element (touched.destination w c)) r) in
-      done_registers m n _ _ (ap (λ (b : ℕ). destination_passed w (with_comparison w c (accumulator w c) b)) e)
+      done_registers m n _ _ (ap (λ (b : ℕ). destination_advanced w (with_comparison w c (accumulator w c) b)) e)
 
   done_unless : (b : Bool) (x y : Guest) (reads writes : Elements) → (All (Same m n) (bytes_of reads) →
       Done m n x y (bytes_of writes)) → All (Same m n) (bytes_of (if not b then reads else nothing)) →

@@ -49,7 +49,7 @@ use Rattle.dm_operations.specs.Shifts.{shifted}
 use Rattle.dm_operations.specs.Products.{multiplied, after_division, divided, with_division, with_double}
 use Rattle.dm_operations.specs.Adjustments.{adjusted}
 use Rattle.dm_exec.specs.Jumps.{jumped, jumped_where, jumped_if, counted_down, looped, far_jumped, called, far_called, returned, target_of, transferred}
-use Rattle.dm_exec.specs.Strings.{counted, destination_passed, ends, once, onward, source, source_passed, string_effect, with_comparison}
+use Rattle.dm_exec.specs.Strings.{counted, destination_advanced, ends, once, onward, source, source_advanced, string_effect, with_comparison}
 use Rattle.dm_exec.specs.Effect.{operation_effect, effect}
 use Rattle.dm_laws.specs.instructions.WellFormed.{HasWords, IsWellFormed}
 use Rattle.dm_laws.proofs.instructions.Values.{adjusted-below, complement-below, difference-below, flags-below, logic-below, product-below, quotient-below, shift-below, size-word, sum-below}
@@ -333,12 +333,12 @@ transfer_kept g override transfer.FarReturn o w v =
 onward-below : (w : Width) (f : Flags) (o : ℕ) → onward w f o < 65536
 onward-below w f o = choice-below f.direction _ _ (omega arith) (omega arith)
 
-source-passed : (w : Width) (c : Cpu) → HasWords c → HasWords (source_passed w c)
-unfolding source_passed
+source-passed : (w : Width) (c : Cpu) → HasWords c → HasWords (source_advanced w c)
+unfolding source_advanced
 source-passed w c h = (let x = onward-below w c.flags c.si in omega arith)
 
-destination-passed : (w : Width) (c : Cpu) → HasWords c → HasWords (destination_passed w c)
-unfolding destination_passed
+destination-passed : (w : Width) (c : Cpu) → HasWords c → HasWords (destination_advanced w c)
+unfolding destination_advanced
 destination-passed w c h = (let x = onward-below w c.flags c.di in omega arith)
 
 compared-words : (w : Width) (c : Cpu) (a b : ℕ) → HasWords c → HasWords (with_comparison w c a b)

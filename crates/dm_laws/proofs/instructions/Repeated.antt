@@ -16,7 +16,7 @@ use Rattle.dm_exec.specs.declared.operation.Operation.{Operation}
 use Rattle.dm_exec.specs.declared.operation.StringOperation.{StringOperation}
 use Rattle.dm_exec.specs.declared.operation.StringOperation.TheVariants.{Compare, Load, Move, Scan, Store}
 use Rattle.dm_exec.specs.Effect.{operation_effect, effect}
-use Rattle.dm_exec.specs.Strings.{counted, destination_passed, ends, once, source, source_passed, string_effect}
+use Rattle.dm_exec.specs.Strings.{counted, destination_advanced, ends, once, source, source_advanced, string_effect}
 use Rattle.dm_laws.specs.instructions.Repetitions.{IsRepeated, OnlyCounts, RepetitionIsElements, elements, performed, with_cx_ip}
 
 -- an element depends on neither CX nor IP, and leaves both
@@ -40,23 +40,23 @@ accumulator-same Byte g cx ip = refl
 accumulator-same Word g cx ip = refl
 
 loaded-same : (w : Width) (g : Guest) (cx ip v : ℕ) →
-    on_cpu (with_cx_ip g cx ip) (source_passed w (with_accumulator w (with_cx_ip g cx ip).cpu v))
-    ≡ with_cx_ip (on_cpu g (source_passed w (with_accumulator w g.cpu v))) cx ip
-unfolding source_passed with_accumulator with_byte with_word
+    on_cpu (with_cx_ip g cx ip) (source_advanced w (with_accumulator w (with_cx_ip g cx ip).cpu v))
+    ≡ with_cx_ip (on_cpu g (source_advanced w (with_accumulator w g.cpu v))) cx ip
+unfolding source_advanced with_accumulator with_byte with_word
 loaded-same Byte g cx ip v = refl
 loaded-same Word g cx ip v = refl
 
 once-same : (w : Width) (g : Guest) (cx ip : ℕ) (override : Option SegmentRegister) (operation : StringOperation) →
     OnlyCounts operation → once w (with_cx_ip g cx ip) override operation
     ≡ with_cx_ip (once w g override operation) cx ip
-unfolding once source_passed destination_passed
+unfolding once source_advanced destination_advanced
 once-same w g cx ip override Move o = ap (λ v. on_cpu (record g { memory = written_in w g.memory g.cpu.es g.cpu.di v })
-    (destination_passed w (source_passed w (with_cx_ip g cx ip).cpu))) (source-same w g cx ip override)
+    (destination_advanced w (source_advanced w (with_cx_ip g cx ip).cpu))) (source-same w g cx ip override)
 once-same w g cx ip override Compare o = absurd o
 once-same w g cx ip override Store o = ap (λ v. on_cpu (record g { memory = written_in w g.memory g.cpu.es g.cpu.di v })
-    (destination_passed w (with_cx_ip g cx ip).cpu)) (accumulator-same w g cx ip)
+    (destination_advanced w (with_cx_ip g cx ip).cpu)) (accumulator-same w g cx ip)
 once-same w g cx ip override Load o =
-    ap (λ v. on_cpu (with_cx_ip g cx ip) (source_passed w (with_accumulator w (with_cx_ip g cx ip).cpu v)))
+    ap (λ v. on_cpu (with_cx_ip g cx ip) (source_advanced w (with_accumulator w (with_cx_ip g cx ip).cpu v)))
     (source-same w g cx ip override) ∙ loaded-same w g cx ip (source w g override)
 once-same w g cx ip override Scan o = absurd o
 

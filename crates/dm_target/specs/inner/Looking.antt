@@ -16,13 +16,13 @@ use Rattle.dm_machine.specs.Run.{IsRun}
 use Rattle.dm_target.specs.declared.going.Pause.{Pause}
 use Rattle.dm_target.specs.declared.going.Pause.TheVariants.{Arrived, Hit, Stopped}
 use Rattle.dm_target.specs.declared.going.StepRange.{StepRange}
-use Rattle.dm_target.specs.Going.{Passes, has_arrived}
+use Rattle.dm_target.specs.Going.{RunsPast, has_arrived}
 use Rattle.dm_target.specs.Watching.{Hits, is_in_range, watched_bytes}
 
 -- one step from s was looked at, and leaves t: it hit no watchpoint (None), it hit one, or the machine stopped; or
 -- there was no memory to keep the watched bytes before a service or driver
 pub data Looks (watches : List Point) (s : State) : Option Pause → State → Type 0 where
-  passed : (t : State) → IsRun s 1 AllSteps t → Hits watches s t None → Looks watches s None t
+  missed : (t : State) → IsRun s 1 AllSteps t → Hits watches s t None → Looks watches s None t
   hits : (point : Point) (t : State) → IsRun s 1 AllSteps t → Hits watches s t (Some point) →
       Looks watches s (Some (Hit point)) t
   stops : (why : Stop) (t : State) → why ≢ AllSteps → IsRun s 1 why t → Looks watches s (Some (Stopped why)) t
@@ -45,11 +45,11 @@ pub data Ends (points : List ℕ) (watches : List Point) (span : Option StepRang
   ends : (pause : Pause) (t : State) → Looks watches s (Some pause) t → Ends points watches span s (Some pause) t
 
 -- n steps lead from s to this state and hit no watchpoint; the last may have led to a breakpoint, none before it did
-pub data PassesNear (points : List ℕ) (watches : List Point) (span : Option StepRange) (s : State) : ℕ → State →
+pub data RunsNear (points : List ℕ) (watches : List Point) (span : Option StepRange) (s : State) : ℕ → State →
     Type 0 where
-  none : PassesNear points watches span s 0 s
-  last : (n : ℕ) (t u : State) → Passes points watches span s n t → IsRun t 1 AllSteps u → Hits watches t u None →
-      PassesNear points watches span s (n + 1) u
+  none : RunsNear points watches span s 0 s
+  last : (n : ℕ) (t u : State) → RunsPast points watches span s n t → IsRun t 1 AllSteps u → Hits watches t u None →
+      RunsNear points watches span s (n + 1) u
 
 -- what the range of a watchpoint is marked with
 abbrev pub level_of : WatchedAccess → ℕ

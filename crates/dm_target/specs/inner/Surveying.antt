@@ -5,7 +5,7 @@ use Rattle.dm_services.specs.declared.state.stop.Stop.TheVariants.{Steps as AllS
 use Rattle.dm_services.specs.state.State.{State}
 use Rattle.dm_machine.specs.Run.{IsRun}
 use Rattle.dm_history.specs.Becomes.{BecomesBy}
-use Rattle.dm_history.specs.Pasts.{Past, Was}
+use Rattle.dm_history.specs.Timelines.{Timeline, Was}
 use Rattle.dm_target.specs.declared.returning.Found.{Found}
 use Rattle.dm_target.specs.Going.{is_among, code_address}
 use Rattle.dm_target.specs.Watching.{Hits}
@@ -66,32 +66,32 @@ IsSurvey points watches o end (Some found) = (o.steps ≤ found.step) × (found.
     MetAt points watches o found.step × (found.is_last ≡ true → ClearTo points watches o (found.step + 1) end)
 
 -- the history p was at a hit at this step
-pub record WasMet (points : List ℕ) (watches : List Point) (p : Past) (k : ℕ) : Type 0 where
+pub record WasMet (points : List ℕ) (watches : List Point) (p : Timeline) (k : ℕ) : Type 0 where
   pub at : State
   pub was : Was p k at
   pub met : IsMet points watches at
 
 -- what the states of the history p from one count up to another show: no hit; the last hit, or one of them
-abbrev pub Shows : List ℕ → List Point → Past → ℕ → ℕ → Option Found → Type 0
+abbrev pub Shows : List ℕ → List Point → Timeline → ℕ → ℕ → Option Found → Type 0
 Shows points watches p from end None = AreClear points watches p from end
 Shows points watches p from end (Some found) = (from ≤ found.step) × (found.step < end) ×
     WasMet points watches p found.step × (found.is_last ≡ true → AreClear points watches p (found.step + 1) end)
 
 -- a part of the history p that begins at the step `wish` or later was looked at
-pub record IsPart (points : List ℕ) (watches : List Point) (p : Past) (wish end from : ℕ)
+pub record IsPart (points : List ℕ) (watches : List Point) (p : Timeline) (wish end from : ℕ)
     (found : Option Found) : Type 0 where
   pub since : wish ≤ from
   pub before : from < end
   pub shows : Shows points watches p from end found
 
 -- the last hit of the history p was at this step, or none was before its present state
-abbrev pub IsLast : List ℕ → List Point → Past → Option ℕ → Type 0
+abbrev pub IsLast : List ℕ → List Point → Timeline → Option ℕ → Type 0
 IsLast points watches p None = AreClear points watches p p.beginning.steps p.machine.steps
 IsLast points watches p (Some k) = (p.beginning.steps ≤ k) × (k < p.machine.steps) × WasMet points watches p k ×
     AreClear points watches p (k + 1) p.machine.steps
 
 -- the last hit that is known before `low`: none if `low` is the beginning's step; otherwise it was at the step before
-abbrev pub IsKnown : List ℕ → List Point → Past → ℕ → Option ℕ → Type 0
+abbrev pub IsKnown : List ℕ → List Point → Timeline → ℕ → Option ℕ → Type 0
 IsKnown points watches p low None = low ≡ p.beginning.steps
 IsKnown points watches p low (Some k) = (low ≡ k + 1) × (p.beginning.steps ≤ k) × (k < p.machine.steps) ×
     WasMet points watches p k

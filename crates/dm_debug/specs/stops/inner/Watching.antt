@@ -11,7 +11,7 @@ use Rattle.dm_debug.specs.declared.stops.events.Event.TheVariants.{Change}
 use Rattle.dm_debug.specs.declared.stops.going.RunEnd.{RunEnd}
 use Rattle.dm_debug.specs.declared.stops.going.RunEnd.TheVariants.{Came, Stopped}
 use Rattle.dm_debug.specs.stops.Events.{bytes_for, bytes_there, first_come}
-use Rattle.dm_debug.specs.stops.Runs.{Passes}
+use Rattle.dm_debug.specs.stops.Runs.{RunsPast}
 
 -- an event, and the bytes of its range before the run
 pub record Watched : Type 0 where
@@ -30,10 +30,10 @@ watch_of m e = record { event = e; before = bytes_for m e }
 -- a run up to events, of one step or more and with one event or more, that began with this memory
 pub data GoesTo (start : Memory) (s : State) (most : ℕ) (events : List Event) (ending : RunEnd)
     (t : State) : Type 0 where
-  came : (made index : ℕ) (before : State) → made < most → ending ≡ Came index → Passes start events s made before →
+  came : (made index : ℕ) (before : State) → made < most → ending ≡ Came index → RunsPast start events s made before →
       IsRun before 1 AllSteps t
       → first_come start events t ≡ Some index → GoesTo start s most events ending t
-  whole : ending ≡ Stopped AllSteps → Passes start events s most t → GoesTo start s most events ending t
+  whole : ending ≡ Stopped AllSteps → RunsPast start events s most t → GoesTo start s most events ending t
   cut : (made : ℕ) (before : State) (why : Stop) → made < most → ending ≡ Stopped why → why ≢ AllSteps →
-      Passes start events s made before → IsRun before 1 why t
+      RunsPast start events s made before → IsRun before 1 why t
       → GoesTo start s most events ending t

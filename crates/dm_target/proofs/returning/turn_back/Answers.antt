@@ -1,6 +1,6 @@
 use Rattle.std.proofs.Common.{ℕ, Option, Some, None, ap, subst, arith}
 use Rattle.dm_services.specs.state.State.{State}
-use Rattle.dm_history.specs.Pasts.{Past, Was, GoesBack}
+use Rattle.dm_history.specs.Timelines.{Timeline, Was, GoesBack}
 use Rattle.dm_target.specs.Returning.{Meets, begun, to_start}
 use Rattle.dm_target.specs.inner.Surveying.{IsMet, IsLast}
 use Rattle.dm_target.proofs.LastHits.{back_met}
@@ -39,9 +39,9 @@ returns-in_ok-go_back-in-Some-clause-ok c =
     let now = ap (λ (s : State). s.steps) c.machine.ensures in
     let last : IsLast ps ws p (Some step) = subst (λ (x : Option ℕ). IsLast ps ws p x) c.in-Some.is
     c.in_ok-find_last.ensures in
-    let back : GoesBack p step q = subst (λ (r : Past). GoesBack r step q) c.approach.ensures
+    let back : GoesBack p step q = subst (λ (r : Timeline). GoesBack r step q) c.approach.ensures
     c.in_ok-go_back-in-Some.ensures.ok in
     let told : (s : State) → Was p step s → IsMet ps ws s → Meets ps ws s what =
-    subst (λ (r : Past). (s : State) → Was r step s → IsMet ps ws s → Meets ps ws s what) c.approach.ensures
+    subst (λ (r : Timeline). (s : State) → Was r step s → IsMet ps ws s → Meets ps ws s what) c.approach.ensures
     (c.in_ok-what-in-Some.ensures ps) in
     back_met ps ws p q step what (omega (arith, now, c.steps.ensures)) last back told

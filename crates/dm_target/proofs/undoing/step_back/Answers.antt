@@ -1,7 +1,7 @@
 use Rattle.std.proofs.Common.{◌≡◌, ◌∙◌, ℕ, ◌-◌, ◌<◌, Bool, true, Result, Ok, sym, ap, subst, arith}
 use Rattle.dm_space.specs.Memory.{Memory}
 use Rattle.dm_services.specs.state.State.{State}
-use Rattle.dm_history.specs.Pasts.{GoesBack}
+use Rattle.dm_history.specs.Timelines.{GoesBack}
 use Rattle.dm_target.specs.declared.undoing.Undone.{Undone}
 use Rattle.dm_target.specs.Undoing.{HitBy, Undoes, begun, undone}
 use Rattle.dm_target.specs.inner.Looking.{all_bytes}

@@ -25,11 +25,11 @@ returns-then-left-eq0-clause-ok c s n way =
     let over : c.args.self.now.over ≡ None = sym (ap (λ (u : UnderWay). u.over) c.self.view_is) ∙ c.in_default.is in
     let few : c.loop.left ≤ n = (let g = (going_of s c.args.machine.now n c.args.self.now over way).few in
     omega (arith, c.loop.invariant.few, most, g)) in
-    let all : c.pass-left.result ≡ c.loop.left = omega (arith, c.if-left-eq0.true, c.pass-left.ensures.most) in
+    let all : c.run_unmarked-left.result ≡ c.loop.left = omega (arith, c.if-left-eq0.true, c.run_unmarked-left.ensures.most) in
     let h = c.loop.invariant.checked s n way in
-    subst (λ (f : Bool). IsReport s n f AllSteps c.pass-left.new.machine c.loop.self-inside.report) free
-    (all_made c.self.inside.free s c.loop.machine c.pass-left.new.machine n c.loop.left c.pass-left.result
-    c.loop.self-inside.origins c.loop.self-inside.report few h c.pass-left.ensures.passes all)
+    subst (λ (f : Bool). IsReport s n f AllSteps c.run_unmarked-left.new.machine c.loop.self-inside.report) free
+    (all_made c.self.inside.free s c.loop.machine c.run_unmarked-left.new.machine n c.loop.left c.run_unmarked-left.result
+    c.loop.self-inside.origins c.loop.self-inside.report few h c.run_unmarked-left.ensures.unfound all)
 
 pub returns-in_err-stop-clause-err : goal.returns-in_err-stop-clause-err
 returns-in_err-stop-clause-err c = at_err c.from_residual.result (λ s n way.
@@ -37,10 +37,10 @@ returns-in_err-stop-clause-err c = at_err c.from_residual.result (λ s n way.
     let over : c.args.self.now.over ≡ None = sym (ap (λ (u : UnderWay). u.over) c.self.view_is) ∙ c.in_default.is in
     let few : c.loop.left ≤ n = (let g = (going_of s c.args.machine.now n c.args.self.now over way).few in
     omega (arith, c.loop.invariant.few, most, g)) in
-    let less : c.pass-left.result < c.loop.left = omega (arith, c.if-left-eq0.false, c.pass-left.ensures.most) in
+    let less : c.run_unmarked-left.result < c.loop.left = omega (arith, c.if-left-eq0.false, c.run_unmarked-left.ensures.most) in
     let h = c.loop.invariant.checked s n way in
-    part_lost c.self.inside.free s c.loop.machine c.pass-left.new.machine n c.loop.left c.pass-left.result
-    c.loop.self-inside.origins c.loop.self-inside.report few h c.pass-left.ensures.passes less
+    part_lost c.self.inside.free s c.loop.machine c.run_unmarked-left.new.machine n c.loop.left c.run_unmarked-left.result
+    c.loop.self-inside.origins c.loop.self-inside.report few h c.run_unmarked-left.ensures.unfound less
     c.look_at_step.new.machine c.in_err-stop.ensures.err)
 
 pub returns-in-Some-2-clause-ok : goal.returns-in-Some-2-clause-ok
@@ -50,14 +50,14 @@ returns-in-Some-2-clause-ok c s n way =
     let over : c.args.self.now.over ≡ None = sym (ap (λ (u : UnderWay). u.over) c.self.view_is) ∙ c.in_default.is in
     let few : c.loop.left ≤ n = (let g = (going_of s c.args.machine.now n c.args.self.now over way).few in
     omega (arith, c.loop.invariant.few, most, g)) in
-    let less : c.pass-left.result < c.loop.left = omega (arith, c.if-left-eq0.false, c.pass-left.ensures.most) in
+    let less : c.run_unmarked-left.result < c.loop.left = omega (arith, c.if-left-eq0.false, c.run_unmarked-left.ensures.most) in
     let h = c.loop.invariant.checked s n way in
-    let F : Option Stop → Type 0 = λ o. ChecksOne c.self.inside.free c.pass-left.new.machine o
+    let F : Option Stop → Type 0 = λ o. ChecksOne c.self.inside.free c.run_unmarked-left.new.machine o
     c.look_at_step.new.machine c.look_at_step.new.kept c.loop.self-inside.origins c.look_at_step.new.origins
     c.loop.self-inside.report c.look_at_step.new.report in
     subst (λ (f : Bool). IsReport s n f c.in-Some-2.stop c.look_at_step.new.machine c.look_at_step.new.report) free
-    (stopped c.self.inside.free s c.loop.machine c.pass-left.new.machine n c.loop.left c.pass-left.result
-    c.loop.self-inside.origins c.loop.self-inside.report few h c.pass-left.ensures.passes less
+    (stopped c.self.inside.free s c.loop.machine c.run_unmarked-left.new.machine n c.loop.left c.run_unmarked-left.result
+    c.loop.self-inside.origins c.loop.self-inside.report few h c.run_unmarked-left.ensures.unfound less
     c.look_at_step.new.machine c.in-Some-2.stop c.look_at_step.new.kept c.look_at_step.new.origins
     c.look_at_step.new.report (subst F c.in-Some-2.is c.in_ok-stop.ensures.ok))
 
@@ -72,8 +72,8 @@ returns-in-Some-2-clause-lines c =
     omega (arith, c.loop.invariant.few, most, g)) in
     let h = c.loop.invariant.checked s n way in
     longer_on _ _ _ c.loop.invariant.longer
-    (listed_on c.self.inside.free s c.loop.machine c.pass-left.new.machine n c.loop.left c.pass-left.result
-    c.loop.self-inside.origins c.loop.self-inside.report few h c.pass-left.ensures.passes
+    (listed_on c.self.inside.free s c.loop.machine c.run_unmarked-left.new.machine n c.loop.left c.run_unmarked-left.result
+    c.loop.self-inside.origins c.loop.self-inside.report few h c.run_unmarked-left.ensures.unfound
     c.look_at_step.new.machine _ c.look_at_step.new.kept c.look_at_step.new.origins c.look_at_step.new.report
     c.in_ok-stop.ensures.ok)
 
@@ -84,17 +84,17 @@ returns-then-listed-clause-ok c s n way =
     let over : c.args.self.now.over ≡ None = sym (ap (λ (u : UnderWay). u.over) c.self.view_is) ∙ c.in_default.is in
     let few : c.loop.left ≤ n = (let g = (going_of s c.args.machine.now n c.args.self.now over way).few in
     omega (arith, c.loop.invariant.few, most, g)) in
-    let less : c.pass-left.result < c.loop.left = omega (arith, c.if-left-eq0.false, c.pass-left.ensures.most) in
+    let less : c.run_unmarked-left.result < c.loop.left = omega (arith, c.if-left-eq0.false, c.run_unmarked-left.ensures.most) in
     let h = c.loop.invariant.checked s n way in
-    let u = c.pass-left.new.machine in
+    let u = c.run_unmarked-left.new.machine in
     let v = c.look_at_step.new.machine in
     let report = c.look_at_step.new.report in
     let F : Option Stop → Type 0 = λ o. ChecksOne c.self.inside.free u o v c.look_at_step.new.kept
     c.loop.self-inside.origins c.look_at_step.new.origins c.loop.self-inside.report report in
-    let x = gone_on c.self.inside.free s c.loop.machine u n c.loop.left c.pass-left.result c.loop.self-inside.origins
-    c.loop.self-inside.report few h c.pass-left.ensures.passes less
+    let x = gone_on c.self.inside.free s c.loop.machine u n c.loop.left c.run_unmarked-left.result c.loop.self-inside.origins
+    c.loop.self-inside.report few h c.run_unmarked-left.ensures.unfound less
     v c.look_at_step.new.kept c.look_at_step.new.origins report (subst F c.in_default-2.is c.in_ok-stop.ensures.ok) in
-    let made = subst (λ (f : Bool). HasChecked f s (n - (c.loop.left - c.pass-left.result - 1)) v
+    let made = subst (λ (f : Bool). HasChecked f s (n - (c.loop.left - c.run_unmarked-left.result - 1)) v
     c.look_at_step.new.origins report) (sym c.loop.invariant.free) x in (
       going (c.loop.invariant.over ∙ over) (made_of s v n _ (omega (arith, few)) made)
           (c.in_ok-stop.ensures.ok.watch c.in_default-2.is),
@@ -113,8 +113,8 @@ returns-then-listed-clause-lines c =
     omega (arith, c.loop.invariant.few, most, g)) in
     let h = c.loop.invariant.checked s n way in
     longer_on _ _ _ c.loop.invariant.longer
-    (listed_on c.self.inside.free s c.loop.machine c.pass-left.new.machine n c.loop.left c.pass-left.result
-    c.loop.self-inside.origins c.loop.self-inside.report few h c.pass-left.ensures.passes
+    (listed_on c.self.inside.free s c.loop.machine c.run_unmarked-left.new.machine n c.loop.left c.run_unmarked-left.result
+    c.loop.self-inside.origins c.loop.self-inside.report few h c.run_unmarked-left.ensures.unfound
     c.look_at_step.new.machine _ c.look_at_step.new.kept c.look_at_step.new.origins c.look_at_step.new.report
     c.in_ok-stop.ensures.ok)
 
@@ -122,8 +122,8 @@ pub loop-preserved : goal.loop-preserved
 loop-preserved c =
     let most : c.args.self.now.left ≡ c.self.inside.left = sym (ap (λ (u : UnderWay). u.left) c.self.view_is) in
     let over : c.args.self.now.over ≡ None = sym (ap (λ (u : UnderWay). u.over) c.self.view_is) ∙ c.in_default.is in
-    let less : c.pass-left.result < c.loop.left = omega (arith, c.if-left-eq0.false, c.pass-left.ensures.most) in
-    let u = c.pass-left.new.machine in
+    let less : c.run_unmarked-left.result < c.loop.left = omega (arith, c.if-left-eq0.false, c.run_unmarked-left.ensures.most) in
+    let u = c.run_unmarked-left.new.machine in
     let v = c.look_at_step.new.machine in
     let report = c.look_at_step.new.report in
     let F : Option Stop → Type 0 = λ o. ChecksOne c.self.inside.free u o v c.look_at_step.new.kept
@@ -146,8 +146,8 @@ loop-preserved c =
       checked = λ s n way.
           let few : c.loop.left ≤ n = (let g = (going_of s c.args.machine.now n c.args.self.now over way).few in
           omega (arith, c.loop.invariant.few, most, g)) in
-          gone_on c.self.inside.free s c.loop.machine u n c.loop.left c.pass-left.result c.loop.self-inside.origins
-          c.loop.self-inside.report few (c.loop.invariant.checked s n way) c.pass-left.ensures.passes less
+          gone_on c.self.inside.free s c.loop.machine u n c.loop.left c.run_unmarked-left.result c.loop.self-inside.origins
+          c.loop.self-inside.report few (c.loop.invariant.checked s n way) c.run_unmarked-left.ensures.unfound less
           v c.look_at_step.new.kept c.look_at_step.new.origins report x;
       few = omega (arith, c.loop.invariant.few, less);
       no_more = λ pausing. kept_few pausing;
@@ -158,8 +158,8 @@ loop-preserved c =
           let few : c.loop.left ≤ n = (let g = (going_of s c.args.machine.now n c.args.self.now over way).few in
           omega (arith, c.loop.invariant.few, most, g)) in
           longer_on _ _ _ c.loop.invariant.longer
-          (listed_on c.self.inside.free s c.loop.machine u n c.loop.left c.pass-left.result c.loop.self-inside.origins
-          c.loop.self-inside.report few (c.loop.invariant.checked s n way) c.pass-left.ensures.passes
+          (listed_on c.self.inside.free s c.loop.machine u n c.loop.left c.run_unmarked-left.result c.loop.self-inside.origins
+          c.loop.self-inside.report few (c.loop.invariant.checked s n way) c.run_unmarked-left.ensures.unfound
           v None c.look_at_step.new.kept c.look_at_step.new.origins report x);
       over = c.loop.invariant.over;
       free = c.loop.invariant.free;
@@ -194,9 +194,9 @@ returns-then-left-eq0-clause-processes c s n way =
     let few : c.loop.left ≤ n = (let g = (going_of s c.args.machine.now n c.args.self.now over way).few in
     omega (arith, c.loop.invariant.few, most, g)) in
     let h = c.loop.invariant.checked s n way in
-    let all : c.pass-left.result ≡ c.loop.left = omega (arith, c.if-left-eq0.true, c.pass-left.ensures.most) in
-    all_processes c.self.inside.free s c.loop.machine c.pass-left.new.machine n c.loop.left c.pass-left.result
-    c.loop.self-inside.origins c.loop.self-inside.report few h c.pass-left.ensures.passes all
+    let all : c.run_unmarked-left.result ≡ c.loop.left = omega (arith, c.if-left-eq0.true, c.run_unmarked-left.ensures.most) in
+    all_processes c.self.inside.free s c.loop.machine c.run_unmarked-left.new.machine n c.loop.left c.run_unmarked-left.result
+    c.loop.self-inside.origins c.loop.self-inside.report few h c.run_unmarked-left.ensures.unfound all
 
 pub returns-in-Some-2-clause-processes : goal.returns-in-Some-2-clause-processes
 returns-in-Some-2-clause-processes c s n way =
@@ -206,12 +206,12 @@ returns-in-Some-2-clause-processes c s n way =
     let few : c.loop.left ≤ n = (let g = (going_of s c.args.machine.now n c.args.self.now over way).few in
     omega (arith, c.loop.invariant.few, most, g)) in
     let h = c.loop.invariant.checked s n way in
-    let less : c.pass-left.result < c.loop.left = omega (arith, c.if-left-eq0.false, c.pass-left.ensures.most) in
-    let F : Option Stop → Type 0 = λ o. ChecksOne c.self.inside.free c.pass-left.new.machine o
+    let less : c.run_unmarked-left.result < c.loop.left = omega (arith, c.if-left-eq0.false, c.run_unmarked-left.ensures.most) in
+    let F : Option Stop → Type 0 = λ o. ChecksOne c.self.inside.free c.run_unmarked-left.new.machine o
     c.look_at_step.new.machine c.look_at_step.new.kept c.loop.self-inside.origins c.look_at_step.new.origins
     c.loop.self-inside.report c.look_at_step.new.report in
-    stop_processes c.self.inside.free s c.loop.machine c.pass-left.new.machine n c.loop.left c.pass-left.result
-    c.loop.self-inside.origins c.loop.self-inside.report few h c.pass-left.ensures.passes less
+    stop_processes c.self.inside.free s c.loop.machine c.run_unmarked-left.new.machine n c.loop.left c.run_unmarked-left.result
+    c.loop.self-inside.origins c.loop.self-inside.report few h c.run_unmarked-left.ensures.unfound less
     c.look_at_step.new.machine c.in-Some-2.stop c.look_at_step.new.kept c.look_at_step.new.origins
     c.look_at_step.new.report (subst F c.in-Some-2.is c.in_ok-stop.ensures.ok)
 
@@ -243,9 +243,9 @@ returns-then-left-eq0-clause-first c pausing s n way =
     let few : c.loop.left ≤ n = (let g = (going_of s c.args.machine.now n c.args.self.now over way).few in
     omega (arith, c.loop.invariant.few, most, g)) in
     let h = c.loop.invariant.checked s n way in
-    let all : c.pass-left.result ≡ c.loop.left = omega (arith, c.if-left-eq0.true, c.pass-left.ensures.most) in
-    first_whole c.self.inside.free s c.loop.machine c.pass-left.new.machine n c.loop.left c.pass-left.result
-    c.loop.self-inside.origins c.loop.self-inside.report few h c.pass-left.ensures.passes
+    let all : c.run_unmarked-left.result ≡ c.loop.left = omega (arith, c.if-left-eq0.true, c.run_unmarked-left.ensures.most) in
+    first_whole c.self.inside.free s c.loop.machine c.run_unmarked-left.new.machine n c.loop.left c.run_unmarked-left.result
+    c.loop.self-inside.origins c.loop.self-inside.report few h c.run_unmarked-left.ensures.unfound
     c.args.self.now _ (sym free) c.loop.invariant.longer (c.loop.invariant.no_more pausing) all refl
 
 pub returns-in-Some-2-clause-first : goal.returns-in-Some-2-clause-first
@@ -256,12 +256,12 @@ returns-in-Some-2-clause-first c pausing s n way =
     let few : c.loop.left ≤ n = (let g = (going_of s c.args.machine.now n c.args.self.now over way).few in
     omega (arith, c.loop.invariant.few, most, g)) in
     let h = c.loop.invariant.checked s n way in
-    let less : c.pass-left.result < c.loop.left = omega (arith, c.if-left-eq0.false, c.pass-left.ensures.most) in
-    let F : Option Stop → Type 0 = λ o. ChecksOne c.self.inside.free c.pass-left.new.machine o
+    let less : c.run_unmarked-left.result < c.loop.left = omega (arith, c.if-left-eq0.false, c.run_unmarked-left.ensures.most) in
+    let F : Option Stop → Type 0 = λ o. ChecksOne c.self.inside.free c.run_unmarked-left.new.machine o
     c.look_at_step.new.machine c.look_at_step.new.kept c.loop.self-inside.origins c.look_at_step.new.origins
     c.loop.self-inside.report c.look_at_step.new.report in
-    first_stopped c.self.inside.free s c.loop.machine c.pass-left.new.machine n c.loop.left c.pass-left.result
-    c.loop.self-inside.origins c.loop.self-inside.report few h c.pass-left.ensures.passes
+    first_stopped c.self.inside.free s c.loop.machine c.run_unmarked-left.new.machine n c.loop.left c.run_unmarked-left.result
+    c.loop.self-inside.origins c.loop.self-inside.report few h c.run_unmarked-left.ensures.unfound
     c.args.self.now _ (sym free) c.loop.invariant.longer (c.loop.invariant.no_more pausing) less
     c.look_at_step.new.machine c.in-Some-2.stop c.look_at_step.new.kept c.look_at_step.new.origins
     (subst F c.in-Some-2.is c.in_ok-stop.ensures.ok)
@@ -274,8 +274,8 @@ returns-then-listed-clause-first c pausing s n way =
     let few : c.loop.left ≤ n = (let g = (going_of s c.args.machine.now n c.args.self.now over way).few in
     omega (arith, c.loop.invariant.few, most, g)) in
     let h = c.loop.invariant.checked s n way in
-    let less : c.pass-left.result < c.loop.left = omega (arith, c.if-left-eq0.false, c.pass-left.ensures.most) in
-    let F : Option Stop → Type 0 = λ o. ChecksOne c.self.inside.free c.pass-left.new.machine o
+    let less : c.run_unmarked-left.result < c.loop.left = omega (arith, c.if-left-eq0.false, c.run_unmarked-left.ensures.most) in
+    let F : Option Stop → Type 0 = λ o. ChecksOne c.self.inside.free c.run_unmarked-left.new.machine o
     c.look_at_step.new.machine c.look_at_step.new.kept c.loop.self-inside.origins c.look_at_step.new.origins
     c.loop.self-inside.report c.look_at_step.new.report in
     let entry : length c.listed-listed.result.now ≡ length c.args.self.now.report.listed
@@ -286,8 +286,8 @@ returns-then-listed-clause-first c pausing s n way =
     let above = c.if-listed.true in
     let more : length c.args.self.now.report.listed < length c.look_at_step.new.report.listed =
     omega (arith, entry, now, above) in
-    first_listed c.self.inside.free s c.loop.machine c.pass-left.new.machine n c.loop.left c.pass-left.result
-    c.loop.self-inside.origins c.loop.self-inside.report few h c.pass-left.ensures.passes
+    first_listed c.self.inside.free s c.loop.machine c.run_unmarked-left.new.machine n c.loop.left c.run_unmarked-left.result
+    c.loop.self-inside.origins c.loop.self-inside.report few h c.run_unmarked-left.ensures.unfound
     c.args.self.now _ (sym free) c.loop.invariant.longer (c.loop.invariant.no_more pausing) less
     c.look_at_step.new.machine c.look_at_step.new.kept c.look_at_step.new.origins
     (subst F c.in_default-2.is c.in_ok-stop.ensures.ok) refl more

@@ -1,5 +1,5 @@
 use Rattle.std.proofs.Common.{◌≡◌, ℕ, ◌-◌, refl, ◌∙◌, subst, arith}
-use Rattle.dm_debug.specs.stops.Runs.{Passes}
+use Rattle.dm_debug.specs.stops.Runs.{RunsPast}
 use Rattle.dm_debug.specs.stops.Runs as runs
 use Rattle.dm_debug.proofs.stops.Passing.{more_passes, near_comes, stops_at}
 use Rattle.dm_debug.proofs.stops.Still.{still_unless}
@@ -9,7 +9,7 @@ use Rattle.dm_debug.proofs.stops.going.go.Goals as goal
 pub loop-init : goal.loop-init
 loop-init c = record {
   counted = omega arith;
-  passes = λ start are still. (let F : ℕ → Type 0 = λ j. Passes start c.args.events.now c.args.machine.now j
+  passes = λ start are still. (let F : ℕ → Type 0 = λ j. RunsPast start c.args.events.now c.args.machine.now j
       c.args.machine.now in let none : 0 ≡ c.args.most - c.args.most = omega arith in subst F none runs.here);
   still = λ start are still. still;
   loaded = c.requires.loaded;

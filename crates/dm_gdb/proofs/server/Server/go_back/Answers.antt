@@ -1,6 +1,6 @@
 use Rattle.std.proofs.Common.{ℕ, ◌<◌, refl, ◌∙◌, ap, subst}
-use Rattle.dm_history.specs.Pasts.{GoesBack}
-use Rattle.dm_gdb.specs.Servers.{Served, has_passed, goes_back, with_past}
+use Rattle.dm_history.specs.Timelines.{GoesBack}
+use Rattle.dm_gdb.specs.Servers.{Served, has_passed, goes_back, with_timeline}
 use Rattle.dm_gdb.proofs.Replying.{replies_as, is_ok_true}
 use Rattle.dm_gdb.proofs.server.Server.go_back.Goals as goal
 
@@ -16,6 +16,6 @@ returns-then-branch-clause-ok c =
     let back : GoesBack c.args.self.now.history c.args.number q =
     subst (λ (s : Served). GoesBack s.history c.args.number q) c.self.view_is (c.go_back_to.ensures.back
     (is_ok_true c.go_back_to.result c.in_ok-go_back_to.field-0 c.in_ok-go_back_to.was c.if-branch.true)) in
-    λ most. replies_as c.args.self.now _ (with_past c.args.self.now q) most _ _ _ _
+    λ most. replies_as c.args.self.now _ (with_timeline c.args.self.now q) most _ _ _ _
     (goes_back c.args.line.now c.args.number q c.requires.line c.requires.before back) refl refl
-    (ap (λ (s : Served). with_past s q) c.self.view_is)
+    (ap (λ (s : Served). with_timeline s q) c.self.view_is)

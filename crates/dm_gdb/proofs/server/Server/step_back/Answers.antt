@@ -2,7 +2,7 @@ use Rattle.std.proofs.Common.{◌≡◌, ℕ, List, ◌∙◌, ap, refl, subst}
 use Rattle.dm_services.specs.state.State.{State}
 use Rattle.dm_requests.specs.declared.request.Point.{Point}
 use Rattle.dm_target.specs.Undoing.{Undoes}
-use Rattle.dm_gdb.specs.Servers.{Served, steps_back, with_past, undone_reply}
+use Rattle.dm_gdb.specs.Servers.{Served, steps_back, with_timeline, undone_reply}
 use Rattle.dm_gdb.proofs.Replying.{replies_as}
 use Rattle.dm_gdb.proofs.server.Server.step_back.Goals as goal
 
@@ -17,5 +17,5 @@ returns-clause-ok c =
     c.undone_reply.ensures ∙ ap (λ (ps : List ℕ). undone_reply ps what c.machine.result.now) c.breaks-breaks.ensures
     ∙ ap (λ (m : State). undone_reply c.self.inside.points.breaks what m) c.machine.ensures
     ∙ ap (λ (s : Served). undone_reply s.points.breaks what q.machine) c.self.view_is in
-    λ most. replies_as c.args.self.now _ (with_past c.args.self.now q) most _ _ c.undone_reply.result _
-    (steps_back what q undoes) refl told (ap (λ (s : Served). with_past s q) c.self.view_is)
+    λ most. replies_as c.args.self.now _ (with_timeline c.args.self.now q) most _ _ c.undone_reply.result _
+    (steps_back what q undoes) refl told (ap (λ (s : Served). with_timeline s q) c.self.view_is)

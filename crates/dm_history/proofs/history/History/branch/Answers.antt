@@ -1,14 +1,14 @@
 use Rattle.std.proofs.Common.{ap, arith}
 use Rattle.std.proofs.lemmas.Result.{IfOk-weaker}
-use Rattle.dm_history.specs.Pasts.{Past, new_past}
+use Rattle.dm_history.specs.Timelines.{Timeline, new_timeline}
 use Rattle.dm_history.specs.Branches.{IsBranch}
 use Rattle.dm_history.proofs.Branching.{branch-of}
 use Rattle.dm_history.proofs.history.History.branch.Goals as goal
 
 pub returns : goal.returns
 returns c =
-    let same = ap (λ (p : Past). p.machine.steps) c.self.view_is in
-    IfOk-weaker c.new.result _ (λ (b : Past). IsBranch c.args.self.now c.args.wish c.args.end b) (λ b e.
+    let same = ap (λ (p : Timeline). p.machine.steps) c.self.view_is in
+    IfOk-weaker c.new.result _ (λ (b : Timeline). IsBranch c.args.self.now c.args.wish c.args.end b) (λ b e.
     branch-of (record {
       beginning = c.self.inside.beginning;
       edits = c.self.inside.edits.items;
