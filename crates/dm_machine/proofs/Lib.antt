@@ -14,6 +14,7 @@ mod Rooms
 mod Consistency
 mod UntilLaws
 mod Passing
+mod Strings
 mod Nearby
 mod UntilRuns
 pub mod OneUntil
