@@ -18,7 +18,7 @@ pub mod stack;
 pub use adjustments::adjust_accumulator;
 pub use arithmetic::ArithmeticOperation;
 pub use low::{
-    change_byte, change_low_word, change_shown_word, change_word, divide_by_low, on_pair_at_once,
+    change_byte, change_low_word, change_page_word, change_word, divide_by_low, on_pair_at_once,
     on_place_at_once, shift_low_byte, shift_low_word, shown_byte, shown_word,
 };
 pub use numbers::Number;

@@ -1,5 +1,5 @@
 -- Three words side by side, read and written where they lie
-use Rattle.std.proofs.Common.{◌≡◌, ℕ, List, ◌+◌, ◌*◌, ◌<◌, length, sym, ◌∙◌, ap, arith}
+use Rattle.std.proofs.Common.{◌≡◌, ℕ, List, ◌+◌, ◌*◌, ◌<◌, length, ◌∙◌, ap, arith}
 use Rattle.std.proofs.lemmas.List.{length-set}
 use Rattle.dm_pool.specs.Stored.{refit}
 use Rattle.dm_pool.proofs.Blocks.{refilled}

@@ -1,4 +1,4 @@
-use Rattle.std.proofs.Common.{◌≡◌, ◌∙◌, ap, arith, ◌+◌, ◌-◌, ◌*◌, ◌/◌, ◌%◌, ◌^◌, nat_eq, nat_le}
+use Rattle.std.proofs.Common.{◌∙◌, ap, arith, ◌+◌, ◌*◌, ◌/◌, ◌%◌, nat_eq, nat_le}
 use Rattle.dm_alu.specs.declared.shifts.Shifted.{Shifted}
 use Rattle.dm_alu.specs.Width.{size}
 use Rattle.dm_alu.specs.inner.Rotations.{bits_of, rotated, with_carry_above}

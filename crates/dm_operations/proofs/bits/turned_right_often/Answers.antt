@@ -1,7 +1,7 @@
-use Rattle.std.proofs.Common.{◌≡◌, ◌∙◌, ap, arith, ◌+◌, ◌-◌, ◌*◌, ◌/◌, ◌%◌, ◌^◌, nat_eq, nat_le}
+use Rattle.std.proofs.Common.{◌∙◌, ap, arith, ◌+◌, ◌-◌, ◌*◌, ◌/◌, ◌%◌, ◌^◌, nat_eq, nat_le}
 use Rattle.dm_alu.specs.declared.shifts.Shifted.{Shifted}
 use Rattle.dm_alu.specs.Width.{size}
-use Rattle.dm_alu.specs.inner.Rotations.{bits_of, rotated, with_carry_above}
+use Rattle.dm_alu.specs.inner.Rotations.{bits_of, with_carry_above}
 use Rattle.dm_alu.proofs.Back.{above, above_below, mod_turn, through_back, through_below, within}
 use Rattle.dm_alu.proofs.Rotations.{through_right}
 use Rattle.dm_operations.proofs.bits.turned_right_often.Goals as goal

@@ -1,6 +1,5 @@
-use Rattle.std.proofs.Common.{◌∙◌, ap, sym, nat_le}
+use Rattle.std.proofs.Common.{◌∙◌, ap, nat_le}
 use Rattle.dm_alu.specs.declared.flags.Flags.{Flags}
-use Rattle.dm_alu.specs.declared.shifts.Shifted.{Shifted}
 use Rattle.dm_alu.specs.declared.shifts.ShiftOperation.{ShiftOperation}
 use Rattle.dm_alu.specs.declared.width.Width.TheVariants as alu
 use Rattle.dm_alu.specs.Shifts.{moves, overflow_after_shift}
