@@ -55,6 +55,7 @@ SENTENCES = {
             "{called} of the functions are called by the compiled code of `dm`, {of_library} of them by the library.",
             "The other {uncalled} are never called.",
             "the {exports} exports of `dm_c`",
+            "some {code} lines of code with its contracts, {definitions} of definitions and {proofs} of proofs",
         ],
         [
             "and {clap_definitions} of `clap` on {clap_lines} | {program_lines} |",
@@ -74,11 +75,11 @@ SENTENCES = {
             "each of the {templates} templates of the instruction table",
             "`tools/tests` plants {planted} differences",
             "makes the {real_programs} programs of `tools/real`",
-            "makes the pages of {browser_pages} programs",
+            "makes the pictures of {browser_pages} programs",
         ],
         [],
     ),
-    "docs/picture.md": (["tries the pages of {browser_pages} programs"], []),
+    "docs/picture.md": (["tries the pictures of {browser_pages} programs"], []),
 }
 
 
@@ -178,7 +179,15 @@ def of_tree():
     def count(pattern):
         return sum(bool(re.fullmatch(pattern, path)) for path in files)
 
+    def lines(pattern):
+        """How many lines these files have, in thousands: a figure that few changes change."""
+        found = (path for path in files if re.fullmatch(pattern, path))
+        return round(sum(specs.text_of(path).count("\n") for path in found), -3)
+
     return {
+        "code": lines(r"crates/\w+/src/.*\.rt"),
+        "definitions": lines(r"crates/\w+/specs/.*\.antt"),
+        "proofs": lines(r"crates/\w+/proofs/.*\.antt"),
         "rows": count(r"(?:rows/\w+|examples)/\w+\.row"),
         "must_fail": count(r"crates/\w+/must-fail/.*\.edit"),
         "mutants": count(r"crates/\w+/(?:must-fail|mutants)/.*\.edit"),
