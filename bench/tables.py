@@ -48,9 +48,9 @@ OTHERS = {
         "`dm run`",
         "{:,.0f}",
     ),
-    "dividing check": ("the same", "`dm check`, which compares marks for what interrupt 0 would touch", "{:,.0f}"),
+    "dividing check": ("the same", "`dm check`, where nothing that interrupt 0 would touch is marked", "{:,.0f}"),
     "repeating run": ("a step of a loop that moves 64 bytes by REP MOVSB, 64 of its 68 steps", "`dm run`", "{:,.0f}"),
-    "repeating check": ("the same", "`dm check`, which compares marks for each repetition", "{:,.0f}"),
+    "repeating check": ("the same", "`dm check`, where nothing at DS, SS and ES is marked", "{:,.0f}"),
     "writing check": ("function 02h of INT 21h (a byte written), with its INT", "`dm check`", "{:,.0f}"),
     "arranging check": (
         "functions 48h and 49h of INT 21h with ten headers, both with their INTs",
