@@ -276,7 +276,7 @@ pub(crate) fn look_at_step(
     }
 }
 
-/// The most steps that are made before DS and SS are looked at again: the program may have set them.
+/// The most steps that are made before DS, SS and ES are looked at again: the program may have set them.
 const BEFORE_A_LOOK: u64 = 0x1_0000;
 
 /// Makes at most `most` steps of instructions of which nothing is found, by the bytes that they touch, and that
