@@ -10,6 +10,7 @@ mod loading;
 mod machine;
 mod near;
 mod quick;
+mod quick_unmarked;
 mod steps;
 mod unmarked;
 mod until;
