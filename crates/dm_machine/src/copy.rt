@@ -1,7 +1,7 @@
 //! A copy of a machine, as a snapshot that can be run again.
 ghost use Rattle.std.specs.Prelude.{◌≡◌, IfOk};
 
-use crate::decode_cache::DecodeCache;
+use crate::decode_caches::DecodeCaches;
 use crate::machine::Machine;
 use std::alloc::{AllocError, Global};
 
@@ -16,10 +16,10 @@ impl Machine {
         ensures { IfOk result (λ machine. machine ≡ self.now) }
     {
         let parts = self.parts.duplicate(alloc)?;
-        let decode_cache = DecodeCache::new(alloc)?;
+        let decode_caches = DecodeCaches::new(alloc)?;
         Ok(Machine {
             parts,
-            decode_cache,
+            decode_caches,
         })
     }
 }

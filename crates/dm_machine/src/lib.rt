@@ -4,6 +4,7 @@
 mod bundle;
 mod copy;
 mod decode_cache;
+mod decode_caches;
 mod input;
 mod laws;
 mod loading;

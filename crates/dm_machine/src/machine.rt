@@ -5,7 +5,7 @@ ghost use Rattle.dm_pool.specs.Stored.{IsTooLarge};
 ghost use Rattle.dm_machine.specs.Start.{IsNew, IsStartWith, with_headers};
 ghost use Rattle.dm_services.specs.state.State.{HasProgram};
 
-use crate::decode_cache::DecodeCache;
+use crate::decode_caches::DecodeCaches;
 use dm_alu::Flags;
 use dm_arena::{Area, Fit, Strategy};
 use dm_console::Console;
@@ -38,7 +38,7 @@ pub enum NewError {
 #[derive(Drop)]
 pub struct Machine {
     pub(crate) parts: Parts,
-    pub(crate) decode_cache: DecodeCache,
+    pub(crate) decode_caches: DecodeCaches,
 }
 
 impl Model for Machine {
@@ -133,7 +133,7 @@ impl Machine {
             upper,
         } = config;
         let space = start_space(alloc, sizes, upper)?;
-        let Ok(decode_cache) = DecodeCache::new(alloc) else {
+        let Ok(decode_caches) = DecodeCaches::new(alloc) else {
             return Err(NewError::Memory);
         };
         let parts = Parts {
@@ -156,7 +156,7 @@ impl Machine {
         };
         Ok(Machine {
             parts,
-            decode_cache,
+            decode_caches,
         })
     }
 
