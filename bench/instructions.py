@@ -293,16 +293,17 @@ def samples():
 # ---- elsewhere than in plain conventional memory
 
 
-def moved(kind, segment, setup=(), before=()):
+def moved(kind, segment, setup=(), before=(), body="ADD AX,DX", **more):
     """A sample whose loop is copied to another segment, and runs there."""
     copied = ("MOV SI,again", "MOV DI,again", "MOV CX,ende", "SUB CX,SI", "REP MOVSB", "DB 0EAh", f"DW again,{segment}")
     return Sample(
         "code",
         kind,
-        "ADD AX,DX",
+        body,
         before=before,
         setup=(*setup, f"MOV AX,{segment}", "MOV ES,AX", *copied),
         tail=("ende:",),
+        **more,
     )
 
 
@@ -333,6 +334,15 @@ def elsewhere():
     )
     yield "a step of code at B800h", moved("B800h", "0B800h")
     yield "a step of code in the high memory area", moved("FFFFh", "0FFFFh", A20)
+    yield "a repetition of MOVSB by code at D000h", moved(
+        "D000h, repeated",
+        "0D000h",
+        before=("MOV SI,1000h", "MOV DI,2000h", f"MOV CX,{REPEATS}"),
+        body="REP MOVSB",
+        copies=STRING_COPIES,
+        steps=REPEATS,
+        parts=REPEATS,
+    )
     for where, segment, setup in (("a window", "0E000h", PAGE), ("D000h", "0D000h", ()), ("B800h", "0B800h", ())):
         full = (*setup, f"MOV AX,{segment}", "MOV DS,AX", "MOV ES,AX", *REGISTERS)
         yield f"a step that reads a word in {where}", Sample("MOV", where, "MOV AX,[BX]", setup=full)

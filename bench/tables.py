@@ -51,6 +51,18 @@ OTHERS = {
     "dividing check": ("the same", "`dm check`, where nothing that interrupt 0 would touch is marked", "{:,.0f}"),
     "repeating run": ("a step of a loop that moves 64 bytes by REP MOVSB, 64 of its 68 steps", "`dm run`", "{:,.0f}"),
     "repeating check": ("the same", "`dm check`, where nothing at DS, SS and ES is marked", "{:,.0f}"),
+    "late run": (
+        "a step of a loop of nine instructions in segments that are loaded after the last call of a service",
+        "`dm run`",
+        "{:,.0f}",
+    ),
+    "late check": ("the same", "`dm check`, which looks at these segments after some 4,000 steps", "{:,.0f}"),
+    "alternating run": (
+        "a step of two routines at the same offsets of two segments, seven instructions each, which are called in turn",
+        "`dm run`, where each segment has a decode cache",
+        "{:,.0f}",
+    ),
+    "alternating check": ("the same", "`dm check`", "{:,.0f}"),
     "writing check": ("function 02h of INT 21h (a byte written), with its INT", "`dm check`", "{:,.0f}"),
     "arranging check": (
         "functions 48h and 49h of INT 21h with ten headers, both with their INTs",
