@@ -641,7 +641,10 @@ def _opened() -> ctypes.CDLL:
     try:
         library = ctypes.CDLL(path)
     except OSError as error:
-        hint = "set MEZGULD_LIBRARY to its path, install Mezguld, or run tools/library in its repository"
+        hint = (
+            "set MEZGULD_LIBRARY to its path, install Mezguld, or make it in the repository by tools/build --library"
+            " and tools/library"
+        )
         raise ImportError(f"the library {path} cannot be loaded ({error}): {hint}") from error
     for name, parameters in _PARAMETERS.items():
         function = getattr(library, name, None)

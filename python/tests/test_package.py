@@ -66,6 +66,20 @@ class Found(unittest.TestCase):
             self.assertEqual(status, 1)
             self.assertRegex(told, "^ImportError: the library .* cannot be loaded .*MEZGULD_LIBRARY")
 
+    def test_the_command_without_a_library(self) -> None:
+        shutil.copy(f"{PACKAGE}/__main__.py", f"{self.folder}/mezguld")
+        ran = subprocess.run(
+            [sys.executable, "-m", "mezguld", "--help"],
+            env={**os.environ, "MEZGULD_LIBRARY": f"{self.folder}/none", "PYTHONPATH": self.folder},
+            cwd=self.folder,
+            capture_output=True,
+            text=True,
+            timeout=60,
+            check=False,
+        )
+        self.assertEqual((ran.returncode, ran.stdout, ran.stderr.count("\n")), (1, "", 1))
+        self.assertRegex(ran.stderr, "^mezguld: the library .* cannot be loaded .*tools/build --library")
+
     def test_another_library(self) -> None:
         status, told = self.imported(MEZGULD_LIBRARY="libc.so.6")
         self.assertEqual(status, 1)

@@ -6,6 +6,7 @@ An address SEGMENT:OFFSET has hexadecimal numbers or 16-bit registers on both si
 lists the commands.
 """
 import os
+import re
 import shlex
 import struct
 import subprocess
@@ -55,6 +56,7 @@ GOES_OVER, RETURNS = ("call", "lcall", "int", "into", "rep", "repz", "repnz", "l
 )
 # The most steps of `dm out`.
 MOST = 100_000
+NOT_CONNECTED = "not connected: type dm connect FILE"
 
 
 def register(name):
@@ -72,6 +74,17 @@ def word(text):
         raise gdb.GdbError(f"{text} is neither a 16-bit register nor a hexadecimal number") from error
     if not 0 <= number <= 0xFFFF:
         raise gdb.GdbError(f"{text} has more than 16 bits")
+    return number
+
+
+def byte(text):
+    """The number of an interrupt or of a function."""
+    try:
+        number = int(text, 16)
+    except ValueError as error:
+        raise gdb.GdbError(f"{text} is not a hexadecimal number") from error
+    if not 0 <= number <= 0xFF:
+        raise gdb.GdbError("NN and AH are at most FF")
     return number
 
 
@@ -145,7 +158,12 @@ class Given(gdb.Command):
         try:
             self.call(*words)
         except gdb.error as error:
-            raise gdb.GdbError(str(error)) from error
+            raise gdb.GdbError(str(error) if is_connected() else NOT_CONNECTED) from error
+
+
+def is_connected():
+    """Whether GDB is connected to something; also where this GDB does not tell."""
+    return getattr(gdb.selected_inferior(), "connection_num", 0) is not None
 
 
 def connect(*words):
@@ -214,7 +232,10 @@ def out():
 def go(number):
     """dm go N: goes to the state after N steps from the start, forwards or back; N in hexadecimal.
     It does not stop at breakpoints."""
-    print(monitor(f"step {number}"), end="")
+    if not re.fullmatch("[0-9A-Fa-f]{1,16}", number):
+        raise gdb.GdbError(f"{number} is not a hexadecimal number of at most 16 digits")
+    told = monitor(f"step {number}")
+    print(told.replace("the program has stopped before", "the program stops before that step"), end="")
     flush()
     show()
 
@@ -237,11 +258,11 @@ def watch(address, count="1", *condition):
 
 def stop_at_interrupt(number, function=""):
     """dm int NN [AH]: sets a breakpoint where interrupt NN leads now, for function AH alone if it is given.
-    Both numbers are hexadecimal."""
-    offset, segment = struct.unpack("<HH", memory(4 * word(number), 4))
-    gdb.execute(
-        f"break *{segment * 16 + offset:#x}" + (f" if ($ax >> 8 & 0xff) == {word(function):#x}" if function else "")
-    )
+    Both numbers are hexadecimal, at most FF."""
+    entry = 4 * byte(number)
+    condition = f" if ($ax >> 8 & 0xff) == {byte(function):#x}" if function else ""
+    offset, segment = struct.unpack("<HH", memory(entry, 4))
+    gdb.execute(f"break *{segment * 16 + offset:#x}{condition}")
 
 
 def text_at(address="ds:dx"):

@@ -11,3 +11,4 @@ pub mod Ran
 pub mod Printed
 pub mod Unread
 pub mod Served
+pub mod Answered

@@ -27,16 +27,20 @@ read_ok b a (all_read same tells) = same
 read_ok b a (one_unread failed tells) = absurd tells
 
 -- what files hold, and saves, stay through two reads
-pub kept_then : (k l m : List ℕ → Option (List ℕ)) (s t u : Option (List (List ℕ × List ℕ))) (f g h : ℕ) →
-    IsKept k l s t f g → IsKept l m t u g h → IsKept k m s u f h
-kept_then k l m s t u f g h a b = record {
-  files = b.files ∙ a.files;
-  saves = b.saves ∙ a.saves;
-  count = b.count ∙ a.count;
+pub kept_then : (k l m : List ℕ → Option (List ℕ)) (o p q : List ℕ → List ℕ → Option Bool) (s t u : Option (List (
+    List ℕ × List ℕ))) (f g h a b c : ℕ) → IsKept k l o p s t f g a b → IsKept l m p q t u g h b c →
+    IsKept k m o q s u f h a c
+kept_then k l m o p q s t u f g h a b c x y = record {
+  files = y.files ∙ x.files;
+  paths = y.paths ∙ x.paths;
+  saves = y.saves ∙ x.saves;
+  count = y.count ∙ x.count;
+  found_same = y.found_same ∙ x.found_same;
 }
 
-pub kept_all : (k : List ℕ → Option (List ℕ)) (s : Option (List (List ℕ × List ℕ))) (f : ℕ) → IsKept k k s s f f
-kept_all k s f = record { files = refl; saves = refl; count = refl }
+pub kept_all : (k : List ℕ → Option (List ℕ)) (o : List ℕ → List ℕ → Option Bool) (s : Option (List (List ℕ ×
+    List ℕ))) (f a : ℕ) → IsKept k k o o s s f f a a
+kept_all k o s f a = record { files = refl; paths = refl; saves = refl; count = refl; found_same = refl }
 
 -- a read that failed
 pub tells_of_file : (f : Fault) (name : List ℕ) → IsUnread name f ⊎ (f ≡ fault.OutOfMemory) → TellsOfAFile (Some f)

@@ -1,5 +1,5 @@
 -- What `dm` does for the words of its command line, from their reading to its exit status.
-use Rattle.std.specs.Prelude.{ℕ, ◌≡◌, ◌≢◌, List, [], Option, Some, IsSomeAnd, Result, Ok, Err, codes}
+use Rattle.std.specs.Prelude.{ℕ, ◌≡◌, ◌≢◌, Bool, List, [], Option, Some, IsSomeAnd, Result, Ok, Err, codes}
 use Rattle.std.specs.Io.KnownBytes.{Appends, Keeps}
 use denote.Ref.{Bor}
 use Rattle.clap.specs.Words.{Text, fault_of, subcommand_of}
@@ -46,29 +46,33 @@ pub data Runs (files : List ℕ → Option (List ℕ)) (typed : Option (List ℕ
 
 -- ---- the program
 
--- what `dm` finds at its start: the bytes of files by their paths and of standard input, what standard output has
--- taken, and which files were written, each where it is known; how many writes and flushes of standard output, saves of
--- files and reads of files have failed; and standard error
+-- what `dm` finds at its start: the bytes of files by their paths and of standard input, whether two paths lead to one
+-- file, what standard output has taken, and which files were written, each where it is known; how many writes and
+-- flushes of standard output, saves of files and reads of files have failed, and how often two paths were found to lead
+-- to one file; and standard error
 pub record Given : Type 0 where
   pub files : List ℕ → Option (List ℕ)
+  pub same : List ℕ → List ℕ → Option Bool
   pub typed : Option (List ℕ)
   pub output : Option (List ℕ)
   pub failures : ℕ
   pub saved : Option (List (List ℕ × List ℕ))
   pub failed_saves : ℕ
   pub unread : ℕ
+  pub found_same : ℕ
   -- standard error
   pub messages : Stream
 
 -- what `dm` leaves at its end: what standard output has taken and which files were written, each where it is known; how
--- many writes and flushes of standard output, saves of files and reads of files have failed; standard error; and the
--- exit status
+-- many writes and flushes of standard output, saves of files and reads of files have failed, and how often two paths
+-- were found to lead to one file; standard error; and the exit status
 pub record Left : Type 0 where
   pub output : Option (List ℕ)
   pub failures : ℕ
   pub saved : Option (List (List ℕ × List ℕ))
   pub failed_saves : ℕ
   pub unread : ℕ
+  pub found_same : ℕ
   pub messages : Stream
   pub status : ℕ
 
@@ -85,9 +89,9 @@ IsSilent g l = Keeps g.output l.output × (l.failures ≡ g.failures)
 abbrev pub ReadsAll : Given → Left → Type 0
 ReadsAll g l = l.unread ≡ g.unread
 
--- no file is written, and no save of a file fails
+-- no file is written, no save of a file fails, and no two paths are found to lead to one file
 abbrev pub SavesNothing : Given → Left → Type 0
-SavesNothing g l = (l.saved ≡ g.saved) × (l.failed_saves ≡ g.failed_saves)
+SavesNothing g l = (l.saved ≡ g.saved) × (l.failed_saves ≡ g.failed_saves) × (l.found_same ≡ g.found_same)
 
 -- `dm` with these words leads from g to l: a wrong line, or a call for help, has status 2, and nothing is written but
 -- `clap`'s text on standard error, of which nothing is said here; a correct line does what its command does; and an
@@ -113,7 +117,7 @@ pub data Does (g : Given) (words : List Text) (l : Left) : Type 0 where
       → Reports g.messages l.messages end → SavesNothing g l → ReadsFiles g.unread l.unread end →
       l.status ≡ status_after end → Does g words l
   assembles : (o : AsmOptions) (end : Option Fault) → IsParsed words (command.Asm o) →
-      AssemblesFile g.files o g.saved l.saved g.failed_saves l.failed_saves end
+      AssemblesFile g.files g.same o g.saved l.saved g.failed_saves l.failed_saves g.found_same l.found_same end
       → Reports g.messages l.messages end → IsSilent g l → ReadsFiles g.unread l.unread end →
       l.status ≡ status_after end → Does g words l
   disassembles : (path : Bor (List ℕ)) (end : Option Fault) → IsParsed words (command.Disasm path) →

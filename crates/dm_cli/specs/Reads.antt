@@ -1,5 +1,5 @@
 -- Reads of files that fail, and the fault that comes of one.
-use Rattle.std.specs.Prelude.{ℕ, ◌≡◌, ◌⊎◌, List, Option, Some, None, Result, Ok, Err, codes}
+use Rattle.std.specs.Prelude.{ℕ, ◌≡◌, ◌⊎◌, Bool, List, Option, Some, None, Result, Ok, Err, codes}
 use Rattle.dm_console.specs.writers.Out.{HasFailed}
 use Rattle.dm_cli.specs.declared.fault.Fault.{Fault}
 use Rattle.dm_cli.specs.declared.fault.Fault.TheVariants as fault
@@ -32,9 +32,12 @@ pub data ReadsFiles (before after : ℕ) (end : Option Fault) : Type 0 where
   all_read : after ≡ before → TellsOfNoFile end → ReadsFiles before after end
   one_unread : HasFailed before after → TellsOfAFile end → ReadsFiles before after end
 
--- what a read of a file leaves as it was: what files hold, which files were written, and how many saves failed
-pub record IsKept (known known' : List ℕ → Option (List ℕ)) (saved saved' : Option (List (List ℕ × List ℕ)))
-    (failed failed' : ℕ) : Type 0 where
+-- what a read of a file leaves as it was: what files hold, which paths lead to one file, which files were written, how
+-- many saves failed, and how often two paths were found to lead to one file
+pub record IsKept (known known' : List ℕ → Option (List ℕ)) (same same' : List ℕ → List ℕ → Option Bool)
+    (saved saved' : Option (List (List ℕ × List ℕ))) (failed failed' found found' : ℕ) : Type 0 where
   pub files : known' ≡ known
+  pub paths : same' ≡ same
   pub saves : saved' ≡ saved
   pub count : failed' ≡ failed
+  pub found_same : found' ≡ found

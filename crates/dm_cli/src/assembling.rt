@@ -25,8 +25,9 @@ fn assembled<'a, F: Storage>(
     ensures bytes { IfOk result (λ bytes. IsAssembled (F.contents storage.old path.now) bytes.items) }
     ensures fault { IfErr result (IsAsmFault (F.contents storage.old path.now) path.now) }
     ensures reads { ReadsFiles (F.unread storage.old) (F.unread storage.new) (fault_if result) }
-    ensures kept { IsKept (F.contents storage.old) (F.contents storage.new) (F.saved storage.old) (F.saved
-        storage.new) (F.failures storage.old) (F.failures storage.new) }
+    ensures kept { IsKept (F.contents storage.old) (F.contents storage.new) (F.same storage.old) (F.same
+        storage.new) (F.saved storage.old) (F.saved storage.new) (F.failures storage.old) (F.failures
+        storage.new) (F.found_same storage.old) (F.found_same storage.new) }
 {
     let text = read_file(alloc, storage, path)?;
     let bytes = assemble(alloc, text.as_slice())?;
@@ -43,8 +44,9 @@ fn disassembled<'a, F: Storage>(
     ensures lines { IfOk result (λ text. IsDisassembled (F.contents storage.old path.now) text.items) }
     ensures fault { IfErr result (IsDisasmFault (F.contents storage.old path.now) path.now) }
     ensures reads { ReadsFiles (F.unread storage.old) (F.unread storage.new) (fault_if result) }
-    ensures kept { IsKept (F.contents storage.old) (F.contents storage.new) (F.saved storage.old) (F.saved
-        storage.new) (F.failures storage.old) (F.failures storage.new) }
+    ensures kept { IsKept (F.contents storage.old) (F.contents storage.new) (F.same storage.old) (F.same
+        storage.new) (F.saved storage.old) (F.saved storage.new) (F.failures storage.old) (F.failures
+        storage.new) (F.found_same storage.old) (F.found_same storage.new) }
 {
     let bytes = read_file(alloc, storage, path)?;
     if bytes.len() > MOST_PROGRAM_BYTES {
@@ -57,18 +59,23 @@ fn disassembled<'a, F: Storage>(
 }
 
 /// `dm asm`: assembles the file `IN` and writes the bytes to the file `OUT`. If `IN` cannot be read or assembled, no
-/// file is written, nor over `IN` itself, by the same path. If the write fails, what `OUT` then holds is not known.
+/// file is written, nor over `IN` itself, by the same path or another. If the write fails, what `OUT` then holds is not
+/// known.
 pub(crate) fn asm<'a, F: Storage>(
     alloc: Global,
     storage: &mut F,
     options: &AsmOptions<'a>,
 ) -> Result<(), Fault<'a>>
-    ensures does { AssemblesFile (F.contents storage.old) options.now (F.saved storage.old) (F.saved
-        storage.new) (F.failures storage.old) (F.failures storage.new) (end_of result) }
+    ensures does { AssemblesFile (F.contents storage.old) (F.same storage.old) options.now (F.saved storage.old) (F.saved
+        storage.new) (F.failures storage.old) (F.failures storage.new) (F.found_same storage.old) (F.found_same
+        storage.new) (end_of result) }
     ensures reads { ReadsFiles (F.unread storage.old) (F.unread storage.new) (end_of result) }
 {
     let bytes = assembled(alloc, storage, options.input)?;
     if options.output == options.input {
+        return Err(Fault::CannotWrite(options.output));
+    }
+    if storage.is_one_file(options.output, options.input) {
         return Err(Fault::CannotWrite(options.output));
     }
     match storage.save(options.output, bytes.as_slice()) {
@@ -88,8 +95,9 @@ pub(crate) fn disasm<'a, F: Storage, W: Out>(
     ensures does { Disassembles (F.contents storage.old) path.now (W.taken out.old) (W.taken out.new)
         (W.failures out.old) (W.failures out.new) (end_of result) }
     ensures reads { ReadsFiles (F.unread storage.old) (F.unread storage.new) (end_of result) }
-    ensures kept { IsKept (F.contents storage.old) (F.contents storage.new) (F.saved storage.old) (F.saved
-        storage.new) (F.failures storage.old) (F.failures storage.new) }
+    ensures kept { IsKept (F.contents storage.old) (F.contents storage.new) (F.same storage.old) (F.same
+        storage.new) (F.saved storage.old) (F.saved storage.new) (F.failures storage.old) (F.failures
+        storage.new) (F.found_same storage.old) (F.found_same storage.new) }
 {
     let text = disassembled(alloc, storage, path)?;
     match write_all(out, text.as_slice()) {

@@ -202,8 +202,9 @@ pub(crate) fn check<'a, F: Storage, I: Read + Drop, W: Out, E: Out>(
           failures = E.failures error.new;
         }) result }
     ensures reads { ReadsFiles (F.unread storage.old) (F.unread storage.new) (fault_if result) }
-    ensures kept { IsKept (F.contents storage.old) (F.contents storage.new) (F.saved storage.old) (F.saved
-        storage.new) (F.failures storage.old) (F.failures storage.new) }
+    ensures kept { IsKept (F.contents storage.old) (F.contents storage.new) (F.same storage.old) (F.same
+        storage.new) (F.saved storage.old) (F.saved storage.new) (F.failures storage.old) (F.failures
+        storage.new) (F.found_same storage.old) (F.found_same storage.new) }
 {
     let steps = options.machine.steps;
     let mut machine = loaded(alloc, storage, &options.machine, input)?;

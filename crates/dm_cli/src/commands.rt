@@ -65,8 +65,9 @@ fn run<'a, F: Storage, I: Read + Drop, W: Out>(
     ensures does { Runs (F.contents storage.old) (I.remaining input) options.now (W.taken out.old) (W.taken
         out.new) (W.failures out.old) (W.failures out.new) result }
     ensures reads { ReadsFiles (F.unread storage.old) (F.unread storage.new) (fault_if result) }
-    ensures kept { IsKept (F.contents storage.old) (F.contents storage.new) (F.saved storage.old) (F.saved
-        storage.new) (F.failures storage.old) (F.failures storage.new) }
+    ensures kept { IsKept (F.contents storage.old) (F.contents storage.new) (F.same storage.old) (F.same
+        storage.new) (F.saved storage.old) (F.saved storage.new) (F.failures storage.old) (F.failures
+        storage.new) (F.found_same storage.old) (F.found_same storage.new) }
 {
     let mut machine = loaded(alloc, storage, options, input)?;
     run_machine(&mut machine, options.steps, out)
@@ -165,7 +166,7 @@ fn told<E: Out>(outcome: Result<(), Fault<'_>>, error: &mut E) -> u8
 /// `dm asm` and `dm disasm` exit with status 0, or report a fault with status 126: `cannot read NAME` or
 /// `input too long` of the file that they read, then `too long` (over 65,278 bytes of program) or `line N: ` and
 /// `syntax`, `unknown`, `range` or `twice`, then `cannot write NAME`. A text with an error leaves the output file as it
-/// was.
+/// was, and no file is written over its own text.
 ///
 /// `out of memory` is the fault if an allocation fails; one for the program's output is the stop `memory` instead. For
 /// a wrong command line or a call for help `clap`'s text is printed, with status 2.
@@ -180,12 +181,14 @@ pub fn dm_main<S: AsStr, F: Storage, I: Read + Drop, W: Out, E: Out>(
     ensures { Does
         (record {
           files = F.contents storage.old;
+          same = F.same storage.old;
           typed = I.remaining input;
           output = W.taken out.old;
           failures = W.failures out.old;
           saved = F.saved storage.old;
           failed_saves = F.failures storage.old;
           unread = F.unread storage.old;
+          found_same = F.found_same storage.old;
           messages = record { bytes = E.taken error.old; failures = E.failures error.old };
         })
         (map S.text words.now)
@@ -195,6 +198,7 @@ pub fn dm_main<S: AsStr, F: Storage, I: Read + Drop, W: Out, E: Out>(
           saved = F.saved storage.new;
           failed_saves = F.failures storage.new;
           unread = F.unread storage.new;
+          found_same = F.found_same storage.new;
           messages = record { bytes = E.taken error.new; failures = E.failures error.new };
           status = result;
         }) }

@@ -1,8 +1,8 @@
 //! Reading whole files and standard input, and writing whole files.
-ghost use Rattle.std.specs.Prelude.{◌≡◌, ◌≢◌, ◌⊎◌, ℕ, List, Option, Some, None, IfErr, IfOk, IfSome, OnErr, OnOk, take};
+ghost use Rattle.std.specs.Prelude.{◌≡◌, ◌≢◌, ◌⊎◌, ℕ, Bool, List, Option, Some, None, IfErr, IfOk, IfSome, OnErr, OnOk, take};
 ghost use Rattle.std.specs.IoError.{error_kind};
 ghost use Rattle.dm_console.specs.writers.Out.{count_after_call};
-ghost use Rattle.dm_cli.specs.Saving.{Saves};
+ghost use Rattle.dm_cli.specs.Saving.{IsToldOfPaths, Saves};
 ghost use Rattle.dm_cli.specs.Reads.{IsKept, ReadsFiles, fault_if};
 ghost use Rattle.dm_cli.specs.Faults.{IsUnread, IsUnwritten};
 ghost use Rattle.dm_cli.specs.Stores.{IsInputFault, IsRead};
@@ -11,6 +11,7 @@ use crate::fault::Fault;
 use std::alloc::Global;
 use std::io::{ErrorKind, Read};
 use std::marker::Model;
+use std::os::unix::fs::MetadataExt;
 use std::rt::Files;
 use std::{fs, io};
 
@@ -19,7 +20,8 @@ pub(crate) const MOST_BYTES: usize = 16 * 1024 * 1024;
 
 /// Where files are read and written by their paths.
 ///
-/// It counts the saves that failed, and the reads, each with the opening of its file; at 2^64 - 1 a count stays.
+/// It counts the saves that failed, and the reads, each with the opening of its file, and how often two paths were found
+/// to lead to one file; at 2^64 - 1 a count stays.
 pub trait Storage {
     // The bytes of the file at a path, where the storage knows them.
     ghost contents: { Self → List ℕ → Option (List ℕ) } = { λ _ _. None };
@@ -33,48 +35,69 @@ pub trait Storage {
     // How many reads of files failed, the opening of a file among them.
     ghost unread: { Self → ℕ };
 
+    // Whether two paths lead to one regular file, where the storage knows that.
+    ghost same: { Self → List ℕ → List ℕ → Option Bool } = { λ _ _ _. None };
+
+    // How often two paths were found to lead to one regular file.
+    ghost found_same: { Self → ℕ };
+
     /// Writes a file whole, in place of what it held. What the file holds after an error is not said.
     fn save(&mut self, path: &str, bytes: &[u8]) -> io::Result<()>
         ensures saved { OnOk result (Saves (saved self.old) (saved self.new) path.now bytes.now) }
         ensures refused { OnErr result (saved self.new ≡ saved self.old) }
         ensures failures { failures self.new ≡ count_after_call (failures self.old) result }
-        ensures unread { unread self.new ≡ unread self.old };
+        ensures unread { unread self.new ≡ unread self.old }
+        ensures found_same { found_same self.new ≡ found_same self.old };
 
     /// Opens a file, and reads its bytes up to its end, but `most` of them at most.
     fn read(&mut self, alloc: Global, path: &str, most: usize) -> io::Result<Vec<u8>>
         ensures bytes { IfOk result (λ v. IfSome (contents self.old path.now) (λ xs. v.items ≡ take most xs)) }
         ensures unread { unread self.new ≡ count_after_call (unread self.old) result }
-        ensures kept { IsKept (contents self.old) (contents self.new) (saved self.old) (saved self.new) (failures
-            self.old) (failures self.new) };
+        ensures kept { IsKept (contents self.old) (contents self.new) (same self.old) (same self.new) (saved
+            self.old) (saved self.new) (failures self.old) (failures self.new) (found_same self.old) (found_same
+            self.new) };
+
+    /// Whether two paths lead to one regular file; false where one of them leads to none.
+    fn is_one_file(&mut self, path: &str, other: &str) -> bool
+        ensures answer { IsToldOfPaths (same self.old path.now other.now) (found_same self.old) (found_same
+            self.new) result }
+        ensures contents { contents self.new ≡ contents self.old }
+        ensures same { same self.new ≡ same self.old }
+        ensures saved { saved self.new ≡ saved self.old }
+        ensures failures { failures self.new ≡ failures self.old }
+        ensures unread { unread self.new ≡ unread self.old };
 }
 
-/// The files of the operating system, together with the counts of the saves and the reads that failed.
+/// The files of the operating system, together with the counts of the saves and the reads that failed, and of the paths
+/// that were found to lead to one file.
 ///
-/// A contract sees the counts, that of the saves first.
+/// A contract sees the counts, in this order.
 #[derive(Drop)]
 pub struct System<'a, R> {
     runtime: &'a R,
     failures: u64,
     unread: u64,
+    found_same: u64,
 }
 
 impl<'a, R> Model for System<'a, R> {
     ghost use Rattle.std.specs.Prelude.{ℕ};
 
-    ghost Value = { ℕ × ℕ };
+    ghost Value = { ℕ × ℕ × ℕ };
 
-    ghost view = { λ s. (s.failures, s.unread) };
+    ghost view = { λ s. (s.failures, s.unread, s.found_same) };
 }
 
 impl<'a, R> System<'a, R> {
-    /// The files of the operating system, as `runtime` reaches them, with no failed save or read counted.
+    /// The files of the operating system, as `runtime` reaches them, with nothing counted.
     pub fn new(runtime: &'a R) -> System<'a, R>
-        ensures { result ≡ (0, 0) }
+        ensures { result ≡ (0, 0, 0) }
     {
         System {
             runtime,
             failures: 0,
             unread: 0,
+            found_same: 0,
         }
     }
 }
@@ -92,10 +115,20 @@ fn first_bytes<R: Files>(
     Ok(bytes)
 }
 
+/// The device and the number of the regular file that `path` leads to, through `runtime`; none if it leads to none.
+fn file_number<R: Files>(runtime: &R, path: &str) -> Option<(u64, u64)> {
+    match fs::metadata(runtime, path) {
+        Ok(found) if found.is_file() => Some((found.dev(), found.ino())),
+        _ => None,
+    }
+}
+
 impl<R: Files> Storage for System<'_, R> {
     ghost failures = { λ s. s.0 };
 
     ghost unread = { λ s. s.1 };
+
+    ghost found_same = { λ s. s.2 };
 
     /// Writes the file at `path` whole, through `runtime`, and counts a failure.
     fn save(&mut self, path: &str, bytes: &[u8]) -> io::Result<()> {
@@ -113,6 +146,18 @@ impl<R: Files> Storage for System<'_, R> {
             self.unread = self.unread.saturating_add(1);
         }
         outcome
+    }
+
+    /// Compares the files that the paths lead to by device and number, through `runtime`, and counts two that are one.
+    fn is_one_file(&mut self, path: &str, other: &str) -> bool {
+        let same = match file_number(self.runtime, path) {
+            Some(file) => file_number(self.runtime, other) == Some(file),
+            None => false,
+        };
+        if same {
+            self.found_same = self.found_same.saturating_add(1);
+        }
+        same
     }
 }
 
@@ -173,8 +218,9 @@ pub(crate) fn read_file<'a, F: Storage>(
     ensures bytes { IfOk result (λ v. IsRead (F.contents storage.old path.now) v.items) }
     ensures fault { IfErr result (IsInputFault (F.contents storage.old path.now) path.now) }
     ensures reads { ReadsFiles (F.unread storage.old) (F.unread storage.new) (fault_if result) }
-    ensures kept { IsKept (F.contents storage.old) (F.contents storage.new) (F.saved storage.old) (F.saved
-        storage.new) (F.failures storage.old) (F.failures storage.new) }
+    ensures kept { IsKept (F.contents storage.old) (F.contents storage.new) (F.same storage.old) (F.same
+        storage.new) (F.saved storage.old) (F.saved storage.new) (F.failures storage.old) (F.failures
+        storage.new) (F.found_same storage.old) (F.found_same storage.new) }
 {
     match storage.read(alloc, path, MOST_BYTES + 1) {
         Ok(bytes) => {

@@ -27,8 +27,9 @@ fn add_file<'a, F: Storage>(
     ensures ok { OnOk result (AddsFile (F.contents storage.old path.now) programs.old path.now programs.new) }
     ensures fault { IfErr result (IsFaultOf (F.contents storage.old path.now) programs.old path.now) }
     ensures reads { ReadsFiles (F.unread storage.old) (F.unread storage.new) (fault_if result) }
-    ensures kept { IsKept (F.contents storage.old) (F.contents storage.new) (F.saved storage.old) (F.saved
-        storage.new) (F.failures storage.old) (F.failures storage.new) }
+    ensures kept { IsKept (F.contents storage.old) (F.contents storage.new) (F.same storage.old) (F.same
+        storage.new) (F.saved storage.old) (F.saved storage.new) (F.failures storage.old) (F.failures
+        storage.new) (F.found_same storage.old) (F.found_same storage.new) }
 {
     if !names_file(path) {
         return Err(Fault::CannotRead(path));
@@ -50,8 +51,9 @@ fn read_programs<'a, F: Storage>(
     ensures store { IfOk result (λ store. Stores (F.contents storage.old) (map (λ path. path.now) paths.now) store) }
     ensures fault { IfErr result (IsFileFault (F.contents storage.old) (map (λ path. path.now) paths.now)) }
     ensures reads { ReadsFiles (F.unread storage.old) (F.unread storage.new) (fault_if result) }
-    ensures kept { IsKept (F.contents storage.old) (F.contents storage.new) (F.saved storage.old) (F.saved
-        storage.new) (F.failures storage.old) (F.failures storage.new) }
+    ensures kept { IsKept (F.contents storage.old) (F.contents storage.new) (F.same storage.old) (F.same
+        storage.new) (F.saved storage.old) (F.saved storage.new) (F.failures storage.old) (F.failures
+        storage.new) (F.found_same storage.old) (F.found_same storage.new) }
 {
     let mut programs = Programs::new(alloc);
     for path in paths {
@@ -118,8 +120,9 @@ pub(crate) fn loaded<'a, F: Storage, I: Read + Drop>(
         (Some (codes "standard input")) options.now) }
     ensures loaded { IfOk result (λ machine. HasProgram machine) }
     ensures reads { ReadsFiles (F.unread storage.old) (F.unread storage.new) (fault_if result) }
-    ensures kept { IsKept (F.contents storage.old) (F.contents storage.new) (F.saved storage.old) (F.saved
-        storage.new) (F.failures storage.old) (F.failures storage.new) }
+    ensures kept { IsKept (F.contents storage.old) (F.contents storage.new) (F.same storage.old) (F.same
+        storage.new) (F.saved storage.old) (F.saved storage.new) (F.failures storage.old) (F.failures
+        storage.new) (F.found_same storage.old) (F.found_same storage.new) }
 {
     let programs = read_programs(alloc, storage, options.files.as_slice())?;
     let input = read_whole(alloc, input, "standard input")?;
@@ -137,8 +140,9 @@ fn read_if_any<'a, F: Storage>(
     ensures fault { IfErr result (λ e. IsSomeAnd (option_map (λ path. path.now) path.entry)
         (λ name. IsInputFault (bytes_if_any (F.contents storage.old) (Some name)) name e)) }
     ensures reads { ReadsFiles (F.unread storage.old) (F.unread storage.new) (fault_if result) }
-    ensures kept { IsKept (F.contents storage.old) (F.contents storage.new) (F.saved storage.old) (F.saved
-        storage.new) (F.failures storage.old) (F.failures storage.new) }
+    ensures kept { IsKept (F.contents storage.old) (F.contents storage.new) (F.same storage.old) (F.same
+        storage.new) (F.saved storage.old) (F.saved storage.new) (F.failures storage.old) (F.failures
+        storage.new) (F.found_same storage.old) (F.found_same storage.new) }
 {
     match path {
         Some(path) => read_file(alloc, storage, path),
@@ -159,8 +163,9 @@ pub(crate) fn loaded_for_debug<'a, F: Storage>(
         (option_map (λ path. path.now) options.now.input) options.now.machine) }
     ensures loaded { IfOk result (λ machine. HasProgram machine) }
     ensures reads { ReadsFiles (F.unread storage.old) (F.unread storage.new) (fault_if result) }
-    ensures kept { IsKept (F.contents storage.old) (F.contents storage.new) (F.saved storage.old) (F.saved
-        storage.new) (F.failures storage.old) (F.failures storage.new) }
+    ensures kept { IsKept (F.contents storage.old) (F.contents storage.new) (F.same storage.old) (F.same
+        storage.new) (F.saved storage.old) (F.saved storage.new) (F.failures storage.old) (F.failures
+        storage.new) (F.found_same storage.old) (F.found_same storage.new) }
 {
     let programs = read_programs(alloc, storage, options.machine.files.as_slice())?;
     let input = read_if_any(alloc, storage, options.input)?;

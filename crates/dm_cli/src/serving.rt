@@ -150,8 +150,9 @@ pub(crate) fn gdb<'a, F: Storage, I: Read + Drop, W: Out>(
     ensures does { DebugsByGdb (F.contents storage.old) (I.remaining requests) options.now (W.taken out.old) (W.taken
         out.new) (W.failures out.old) (W.failures out.new) (end_of result) }
     ensures reads { ReadsFiles (F.unread storage.old) (F.unread storage.new) (end_of result) }
-    ensures kept { IsKept (F.contents storage.old) (F.contents storage.new) (F.saved storage.old) (F.saved
-        storage.new) (F.failures storage.old) (F.failures storage.new) }
+    ensures kept { IsKept (F.contents storage.old) (F.contents storage.new) (F.same storage.old) (F.same
+        storage.new) (F.saved storage.old) (F.saved storage.new) (F.failures storage.old) (F.failures
+        storage.new) (F.found_same storage.old) (F.found_same storage.new) }
 {
     let machine = loaded_for_debug(alloc, storage, options)?;
     let copies = copies_of(options.machine.ems_pages, options.machine.xms_kib);

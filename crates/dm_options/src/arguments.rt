@@ -23,6 +23,18 @@ const DEBUG_STEPS_HELP: &str =
 const GDB_STEPS_HELP: &str =
     "Stop after N steps each time that the program goes on: instructions, repetitions of string instructions, services";
 
+/// Where input comes from, which ends the help of `dm run`, and an example.
+const RUN_AFTER_HELP: &str = "\
+Input is read to its end before the program starts: </dev/null gives no input; at a terminal end it with Ctrl-D.
+
+Example: dm run --tail ' /q' PROGRAM.COM CHILD.EXE <input.txt";
+
+/// Where input comes from, which ends the help of `dm check`, and an example.
+const CHECK_AFTER_HELP: &str = "\
+Input is read to its end before the program starts: </dev/null gives no input; at a terminal end it with Ctrl-D.
+
+Example: dm check PROGRAM.COM <input.txt";
+
 /// The commands of a session, which end the help of `dm debug`, and an example.
 const DEBUG_AFTER_HELP: &str = "\
 Lines of a session (s:o is a segment and an offset, as 0103:0100; numbers are hexadecimal):
@@ -158,7 +170,7 @@ fn run_command<'a>(alloc: Global) -> Result<Command<'a>, AllocError>
         .about(
             "Run a program: standard input is its console input, and its output is printed when it ends",
         )
-        .after_help("Example: dm run --tail ' /q' PROGRAM.COM CHILD.EXE <input.txt");
+        .after_help(RUN_AFTER_HELP);
     with_machine_args(alloc, command, steps_arg(alloc, STEPS_HELP))
 }
 
@@ -228,7 +240,7 @@ fn check_command<'a>(alloc: Global) -> Result<Command<'a>, AllocError>
         .about(
             "Run a program and report its errors in the use of memory: overwritten block headers, uses of free memory, double frees, leaks",
         )
-        .after_help("Example: dm check PROGRAM.COM <input.txt");
+        .after_help(CHECK_AFTER_HELP);
     with_machine_args(alloc, command, steps_arg(alloc, STEPS_HELP))?
         .arg(no_free_arg(alloc))?
         .arg(json_arg(alloc))
@@ -275,7 +287,7 @@ fn disasm_command<'a>(alloc: Global) -> Result<Command<'a>, AllocError>
 {
     Command::new(alloc, "disasm")
         .about("Disassemble a COM program to a text that asm takes")
-        .after_help("Example: dm disasm hello.com >hello.asm")
+        .after_help("Example: dm disasm hello.com >listing.asm")
         .arg(path_arg(alloc, "in", "IN", "The COM file, at most 65278 bytes"))
 }
 

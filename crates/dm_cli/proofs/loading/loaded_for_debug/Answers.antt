@@ -45,7 +45,7 @@ returns-in_err-input-clause-reads g c =
     rw (p.1, p.2) (reads_after _ _ _ _ (read_ok _ _ c.in_ok-programs.ensures.reads) c.in_err-input.ensures.reads)
 
 pub returns-in_err-input-clause-kept : goal.returns-in_err-input-clause-kept
-returns-in_err-input-clause-kept g c = kept_then _ _ _ _ _ _ _ _ _ c.in_ok-programs.ensures.kept
+returns-in_err-input-clause-kept g c = kept_then _ _ _ _ _ _ _ _ _ _ _ _ _ _ _ c.in_ok-programs.ensures.kept
     c.in_err-input.ensures.kept
 
 pub returns-clause-reads : goal.returns-clause-reads
@@ -53,4 +53,4 @@ returns-clause-reads g c = all_read (read_ok _ _ c.in_ok-input.ensures.reads
     ∙ read_ok _ _ c.in_ok-programs.ensures.reads) (if_tells _ c.begun.ensures.reads)
 
 pub returns-clause-kept : goal.returns-clause-kept
-returns-clause-kept g c = kept_then _ _ _ _ _ _ _ _ _ c.in_ok-programs.ensures.kept c.in_ok-input.ensures.kept
+returns-clause-kept g c = kept_then _ _ _ _ _ _ _ _ _ _ _ _ _ _ _ c.in_ok-programs.ensures.kept c.in_ok-input.ensures.kept

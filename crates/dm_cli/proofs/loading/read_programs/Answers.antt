@@ -10,7 +10,7 @@ pub loop-path-init : goal.loop-path-init
 loop-path-init g c = record {
   stores = rw c.new-programs.ensures none;
   all = refl;
-  kept = record { files = refl; saves = refl; count = refl };
+  kept = record { files = refl; paths = refl; saves = refl; count = refl; found_same = refl };
 }
 
 pub loop-path-preserved : goal.loop-path-preserved
@@ -19,7 +19,7 @@ loop-path-preserved g c = record {
       c.loop-path.invariant.stores
       (adds_kept _ _ _ _ _ c.loop-path.invariant.kept.files c.in_ok-add_file.ensures.ok);
   all = read_ok _ _ c.in_ok-add_file.ensures.reads ∙ c.loop-path.invariant.all;
-  kept = kept_then _ _ _ _ _ _ _ _ _ c.loop-path.invariant.kept c.in_ok-add_file.ensures.kept;
+  kept = kept_then _ _ _ _ _ _ _ _ _ _ _ _ _ _ _ c.loop-path.invariant.kept c.in_ok-add_file.ensures.kept;
 }
 
 pub returns-in_err-add_file-clause-fault : goal.returns-in_err-add_file-clause-fault
@@ -35,7 +35,7 @@ returns-in_err-add_file-clause-reads g c =
     rw (p.1, p.2) (reads_after _ _ _ _ c.loop-path.invariant.all c.in_err-add_file.ensures.reads)
 
 pub returns-in_err-add_file-clause-kept : goal.returns-in_err-add_file-clause-kept
-returns-in_err-add_file-clause-kept g c = kept_then _ _ _ _ _ _ _ _ _ c.loop-path.invariant.kept
+returns-in_err-add_file-clause-kept g c = kept_then _ _ _ _ _ _ _ _ _ _ _ _ _ _ _ c.loop-path.invariant.kept
     c.in_err-add_file.ensures.kept
 
 pub returns-clause-reads : goal.returns-clause-reads

@@ -10,6 +10,7 @@ invariant-loop-path g l = record {
       l.programs;
   all : g.F.Storage.unread l.storage ≡ g.F.Storage.unread l.initial.storage;
   kept : IsKept (g.F.Storage.contents l.initial.storage) (g.F.Storage.contents l.storage)
-      (g.F.Storage.saved l.initial.storage) (g.F.Storage.saved l.storage) (g.F.Storage.failures l.initial.storage)
-      (g.F.Storage.failures l.storage);
+      (g.F.Storage.same l.initial.storage) (g.F.Storage.same l.storage) (g.F.Storage.saved l.initial.storage)
+      (g.F.Storage.saved l.storage) (g.F.Storage.failures l.initial.storage) (g.F.Storage.failures l.storage)
+      (g.F.Storage.found_same l.initial.storage) (g.F.Storage.found_same l.storage);
 }
