@@ -180,7 +180,7 @@ stopped: destroyed at 0103:010B: INT 21h function 4Ch (End Program)
 
 /// Faults of files: a path without a file, a file that cannot be opened, or read to its end, or has no end; one that
 /// cannot be written.
-const FILE_FAULTS: [Row; 14] = [
+const FILE_FAULTS: [Row; 16] = [
     ("dm run d/", 126, b"", b"", "dm: cannot read d/\n"),
     (
         "dm run nul\0.com",
@@ -265,6 +265,20 @@ const FILE_FAULTS: [Row; 14] = [
         b"",
         b"",
         "dm: out of memory\n",
+    ),
+    (
+        "dm asm hi.asm hi.asm",
+        126,
+        b"",
+        b"",
+        "dm: cannot write hi.asm\n",
+    ),
+    (
+        "dm asm hi.asm ./hi.asm",
+        126,
+        b"",
+        b"",
+        "dm: cannot write ./hi.asm\n",
     ),
     (
         "dm disasm locked.com",

@@ -73,6 +73,8 @@ pub(crate) struct Files<'a> {
     pub(crate) failures: u64,
     /// The number of files that were not opened, or not read to their end.
     pub(crate) unread: u64,
+    /// How often two paths were found to lead to one file.
+    pub(crate) found_same: u64,
 }
 
 /// Files, none of which has been written yet.
@@ -87,6 +89,7 @@ pub(crate) fn new_files<'a>(
         saved: Vec::new(alloc),
         failures: 0,
         unread: 0,
+        found_same: 0,
     }
 }
 
@@ -123,6 +126,11 @@ fn opened<'a>(
     Err(io::Error::from(kind))
 }
 
+/// A path without `./` before it, with which it leads to the same file.
+fn in_folder(path: &str) -> &str {
+    path.strip_prefix("./").unwrap_or(path)
+}
+
 /// The first `most` bytes of a file.
 fn first_bytes(alloc: Global, file: io::Result<Source<'_>>, most: usize) -> io::Result<Vec<u8>> {
     let mut bytes = Vec::new(alloc);
@@ -134,6 +142,8 @@ impl<'a> Storage for Files<'a> {
     ghost failures = { λ f. f.failures };
 
     ghost unread = { λ f. f.unread };
+
+    ghost found_same = { λ f. f.found_same };
 
     fn save(&mut self, path: &str, bytes: &[u8]) -> io::Result<()> {
         let outcome = match refusal(self.refused, path) {
@@ -152,6 +162,14 @@ impl<'a> Storage for Files<'a> {
             self.unread = self.unread.saturating_add(1);
         }
         outcome
+    }
+
+    fn is_one_file(&mut self, path: &str, other: &str) -> bool {
+        let same = in_folder(path) == in_folder(other);
+        if same {
+            self.found_same = self.found_same.saturating_add(1);
+        }
+        same
     }
 }
 
