@@ -58,7 +58,7 @@ OTHERS = {
     ),
     "late check": ("the same", "`dm check`, which looks at these segments after some 4,000 steps", "{:,.0f}"),
     "alternating run": (
-        "a step of two routines at the same offsets of two segments, seven instructions each, which are called in turn",
+        "a step of two routines at one offset of two segments, seven instructions each, called in turn",
         "`dm run`, where each segment has a decode cache",
         "{:,.0f}",
     ),
