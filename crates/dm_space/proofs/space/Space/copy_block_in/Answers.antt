@@ -20,6 +20,6 @@ invariant_of-self c =
             c.requires.scratch,
             c.self.invariant.0.scratch_length,
           )) (part_length bytes a.from a.len source)) c.self.invariant.0,
-      shifts_as s.store s.windows s.shifts c.copy.new.self (ap (λ (x : Stored). x.blocks.places) c.copy.ensures)
+      shifts_as s.a20 s.store s.windows s.shifts c.copy.new.self (ap (λ (x : Stored). x.blocks.places) c.copy.ensures)
           c.self.invariant.1,
     )

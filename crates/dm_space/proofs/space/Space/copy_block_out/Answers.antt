@@ -22,6 +22,6 @@ invariant_of-self c =
             c.self.invariant.0.scratch_length,
           ))))
           c.self.invariant.0,
-      shifts_as s.store s.windows s.shifts c.copy.new.self (ap (λ (x : Stored). x.blocks.places) c.copy.ensures)
+      shifts_as s.a20 s.store s.windows s.shifts c.copy.new.self (ap (λ (x : Stored). x.blocks.places) c.copy.ensures)
           c.self.invariant.1,
     )

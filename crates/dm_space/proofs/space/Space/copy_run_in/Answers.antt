@@ -33,7 +33,7 @@ invariant_of-self c =
           (length-with_part s.store.scratch (part s.store.low c.in-Low.from c.args.len) c.args.at c.args.len
           (omega (arith, c.requires.scratch, c.self.invariant.0.scratch_length))
           (part_length s.store.low c.in-Low.from c.args.len source)) c.self.invariant.0,
-      shifts_as s.store s.windows s.shifts c.copy.new.self (ap (λ (x : Stored). x.blocks.places) c.copy.ensures)
+      shifts_as s.a20 s.store s.windows s.shifts c.copy.new.self (ap (λ (x : Stored). x.blocks.places) c.copy.ensures)
           c.self.invariant.1,
     )
 
@@ -61,7 +61,7 @@ invariant_of-self-in-Page c =
           c.args.len (omega (arith, c.requires.scratch, c.self.invariant.0.scratch_length))
           (part_length (page_bytes m c.in-Page.block) c.in-Page.from c.args.len source))
           c.self.invariant.0,
-      shifts_as s.store s.windows s.shifts c.copy-in-Page.new.self (ap (λ (x : Stored). x.blocks.places)
+      shifts_as s.a20 s.store s.windows s.shifts c.copy-in-Page.new.self (ap (λ (x : Stored). x.blocks.places)
           c.copy-in-Page.ensures) c.self.invariant.1,
     )
 

@@ -35,7 +35,7 @@ invariant_of-self c =
             c.requires.scratch,
             c.self.invariant.0.scratch_length,
           )))) c.self.invariant.0,
-      shifts_as s.store s.windows s.shifts c.copy.new.self (ap (λ (x : Stored). x.blocks.places) c.copy.ensures)
+      shifts_as s.a20 s.store s.windows s.shifts c.copy.new.self (ap (λ (x : Stored). x.blocks.places) c.copy.ensures)
           c.self.invariant.1,
     )
 
@@ -66,7 +66,7 @@ invariant_of-self-in-Page c =
             c.self.invariant.0.scratch_length,
           ))))
           c.self.invariant.0,
-      shifts_as s.store s.windows s.shifts c.copy-in-Page.new.self (ap (λ (x : Stored). x.blocks.places)
+      shifts_as s.a20 s.store s.windows s.shifts c.copy-in-Page.new.self (ap (λ (x : Stored). x.blocks.places)
           c.copy-in-Page.ensures) c.self.invariant.1,
     )
 

@@ -11,6 +11,6 @@ invariant_of-result c =
     let windows : c.windows-windows.result ≡ s.windows = c.windows-windows.ensures.value
     ∙ sym (ap (λ (h : Held). h.memory.windows) c.self.view_is) in
     subst (λ (v : Stored). IsHeld (held v c.windows-windows.result s.a20) ×
-    AreShifts v.blocks.places c.windows-windows.result s.shifts) (sym c.in_ok-store.ensures)
-    (subst (λ (w : List (Option ℕ)). IsHeld (held s.store w s.a20) × AreShifts s.store.blocks.places w s.shifts)
+    AreShifts s.a20 v.blocks.places c.windows-windows.result s.shifts) (sym c.in_ok-store.ensures)
+    (subst (λ (w : List (Option ℕ)). IsHeld (held s.store w s.a20) × AreShifts s.a20 s.store.blocks.places w s.shifts)
     (sym windows) c.self.invariant)

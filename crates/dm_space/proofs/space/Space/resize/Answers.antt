@@ -11,6 +11,6 @@ invariant_of-self c =
     let hidden = ap (λ (h : Held). shows h.memory.windows c.args.block) c.self.view_is ∙ c.requires.hidden in (
       held_resized s.store s.windows s.a20 c.resize.new.self c.resize.result c.args.block c.args.units c.resize.ensures
           hidden c.self.invariant.0,
-      shifts_resized s.store s.windows s.shifts c.resize.new.self c.resize.result c.args.block c.args.units
+      shifts_resized s.a20 s.store s.windows s.shifts c.resize.new.self c.resize.result c.args.block c.args.units
           c.resize.ensures hidden c.self.invariant.1,
     )
