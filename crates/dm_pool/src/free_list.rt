@@ -1,5 +1,5 @@
-//! The free list: the free runs of the pool, kept in the free bytes themselves. A run begins with its length in units
-//! and the unit where the next run begins, four bytes each, low byte first; FFFFFFFFh stands for no run.
+//! The free list: the gaps of the pool, kept in the free bytes themselves. A gap begins with its length in units and
+//! the unit where the next gap begins, four bytes each, low byte first; FFFFFFFFh stands for no gap.
 ghost use Rattle.std.specs.Prelude.{◌≡◌, ℕ, ◌+◌, ◌-◌, ◌*◌, ◌^◌, ◌<◌, ◌≤◌, length};
 ghost use Rattle.dm_pool.specs.Blocks.{contents_of};
 ghost use Rattle.dm_pool.specs.FreeList.{double_word};
@@ -12,46 +12,46 @@ use crate::table::Table;
 use byteorder::{ByteOrder, LittleEndian};
 use dm_region::Region;
 
-/// Stands for no run, where else the first unit of a run stands.
+/// Stands for no gap, where else the first unit of a gap stands.
 const NOWHERE: u32 = u32::MAX;
 
-/// The free runs of a pool, as its bytes list them: the first four bytes of a run are its length in units, the next
-/// four the unit where the next run begins, low byte first.
+/// The gaps of a pool, as its bytes list them: the first four bytes of a gap are its length in units, the next four
+/// the unit where the next gap begins, low byte first.
 #[derive(Clone, Copy)]
-pub struct RunList<'a> {
+pub struct FreeList<'a> {
     /// All bytes of a store: the low bytes, the scratch bytes, and from the byte 310000h on those of the pool, its
     /// blocks among them.
     pub region: &'a Region,
     /// Whether the pool is in use, as it is from the first call on that takes a block. Before, it has no block, and its
     /// bytes list nothing.
     pub in_use: bool,
-    /// The unit of the pool where the first run begins; FFFFFFFFh where there is none.
+    /// The unit of the pool where the first gap begins; FFFFFFFFh where there is none.
     pub first: u32,
 }
 
-/// The first eight bytes of a run of free units.
+/// The first eight bytes of a gap.
 #[derive(Clone, Copy)]
-pub(crate) struct FreeRun {
+pub(crate) struct GapStart {
     /// Its length in units.
     pub(crate) units: u32,
-    /// The unit where the next run begins, `NOWHERE` if there is none.
+    /// The unit where the next gap begins, `NOWHERE` if there is none.
     pub(crate) next: u32,
 }
 
-/// The first eight bytes of the free run that begins at a unit of the pool.
-pub(crate) fn run_at(bytes: &[u8], unit: usize) -> FreeRun
+/// The first eight bytes of the gap that begins at a unit of the pool.
+pub(crate) fn gap_at(bytes: &[u8], unit: usize) -> GapStart
     requires { (unit * 1024 + 8 ≤ length bytes.now) × (unit < 2 ^ 31) }
     ensures { (result.units ≡ double_word bytes.now (unit * 1024)) × (result.next
         ≡ double_word bytes.now (unit * 1024 + 4)) }
 {
     let at = unit * UNIT;
-    FreeRun {
+    GapStart {
         units: LittleEndian::read_u32(&bytes[at..at + 4]),
         next: LittleEndian::read_u32(&bytes[at + 4..at + 8]),
     }
 }
 
-/// Writes a number of a free run into the four bytes of the pool from `at` on, low byte first. The other bytes stay.
+/// Writes a number of a gap into the four bytes of the pool from `at` on, low byte first. The other bytes stay.
 fn write_word(bytes: &mut [u8], at: usize, value: u32)
     requires { at + 4 ≤ length bytes.old }
     ensures value { double_word bytes.new at ≡ value }
@@ -60,17 +60,16 @@ fn write_word(bytes: &mut [u8], at: usize, value: u32)
     LittleEndian::write_u32(&mut bytes[at..at + 4], value);
 }
 
-/// Writes the length of a free run and where the next one begins into the first eight bytes of a unit. The other bytes
-/// stay.
-fn write_run(bytes: &mut [u8], unit: usize, run: FreeRun)
+/// Writes the length of a gap and where the next one begins into the first eight bytes of a unit. The other bytes stay.
+fn write_gap(bytes: &mut [u8], unit: usize, gap: GapStart)
     requires { (unit * 1024 + 8 ≤ length bytes.old) × (unit < 2 ^ 31) }
-    ensures units { double_word bytes.new (unit * 1024) ≡ run.units }
-    ensures next { double_word bytes.new (unit * 1024 + 4) ≡ run.next }
+    ensures units { double_word bytes.new (unit * 1024) ≡ gap.units }
+    ensures next { double_word bytes.new (unit * 1024 + 4) ≡ gap.next }
     ensures kept { IsKeptOutside bytes.old (unit * 1024) 8 bytes.new }
 {
     let at = unit * UNIT;
-    write_word(bytes, at, run.units);
-    write_word(bytes, at + 4, run.next);
+    write_word(bytes, at, gap.units);
+    write_word(bytes, at + 4, gap.next);
 }
 
 /// The place of the highest of the first `rest` blocks of the table's order; for a `rest` of 0, no unit at unit 0.
@@ -87,7 +86,7 @@ fn highest(table: &Table, rest: usize) -> Extent
     table.nth(rest - 1)
 }
 
-/// Writes the beginnings of all free runs into the free bytes of the pool, from the highest down. Returns the unit
+/// Writes the beginnings of all gaps into the free bytes of the pool, from the highest down. Returns the unit
 /// where the lowest one begins, `NOWHERE` if there is none. The bytes of the blocks stay.
 pub(crate) fn spell(table: &Table, bytes: &mut [u8]) -> u32
     requires { length bytes.old ≡ table.now.units * 1024 }
@@ -104,7 +103,7 @@ pub(crate) fn spell(table: &Table, bytes: &mut [u8]) -> u32
         let edge = top.base + top.units;
         if edge < end {
             let units = (end - edge) as u32;
-            write_run(bytes, edge, FreeRun { units, next });
+            write_gap(bytes, edge, GapStart { units, next });
             next = edge as u32;
         }
         end = top.base;
@@ -112,8 +111,7 @@ pub(crate) fn spell(table: &Table, bytes: &mut [u8]) -> u32
     next
 }
 
-/// The unit where the lowest free run of at least `wanted` units begins, None if there is none. It follows the free
-/// list.
+/// The unit where the lowest gap of at least `wanted` units begins, None if there is none. It follows the free list.
 pub(crate) fn first_fit(table: &Table, bytes: &[u8], wanted: usize) -> Option<usize>
     requires told { IsToldIn table.now bytes.now }
     requires some { 0 < wanted }
@@ -122,11 +120,11 @@ pub(crate) fn first_fit(table: &Table, bytes: &[u8], wanted: usize) -> Option<us
     table.recall();
     let mut at = table.first();
     while at != NOWHERE {
-        let run = run_at(bytes, at as usize);
-        if wanted <= run.units as usize {
+        let gap = gap_at(bytes, at as usize);
+        if wanted <= gap.units as usize {
             return Some(at as usize);
         }
-        at = run.next;
+        at = gap.next;
     }
     None
 }
@@ -140,9 +138,9 @@ pub(crate) fn free_units(table: &Table, bytes: &[u8]) -> usize
     let mut sum = 0usize;
     let mut at = table.first();
     while at != NOWHERE {
-        let run = run_at(bytes, at as usize);
-        sum += run.units as usize;
-        at = run.next;
+        let gap = gap_at(bytes, at as usize);
+        sum += gap.units as usize;
+        at = gap.next;
     }
     sum
 }
@@ -156,9 +154,9 @@ pub(crate) fn largest(table: &Table, bytes: &[u8]) -> usize
     let mut most = 0usize;
     let mut at = table.first();
     while at != NOWHERE {
-        let run = run_at(bytes, at as usize);
-        most = most.max(run.units as usize);
-        at = run.next;
+        let gap = gap_at(bytes, at as usize);
+        most = most.max(gap.units as usize);
+        at = gap.next;
     }
     most
 }
@@ -173,9 +171,9 @@ pub(crate) fn count_fitting(table: &Table, bytes: &[u8], units: usize) -> usize
     let mut count = 0usize;
     let mut at = table.first();
     while at != NOWHERE {
-        let run = run_at(bytes, at as usize);
-        count += run.units as usize / units;
-        at = run.next;
+        let gap = gap_at(bytes, at as usize);
+        count += gap.units as usize / units;
+        at = gap.next;
     }
     count
 }

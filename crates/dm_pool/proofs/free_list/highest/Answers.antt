@@ -1,7 +1,7 @@
 use Rattle.std.proofs.Common.{◌<◌, subst, arith}
 use Rattle.dm_pool.specs.inner.Order.{IsCut}
 use Rattle.dm_pool.proofs.Spelled.{none_below, top_below, cut_below}
-use Rattle.dm_pool.proofs.runs.highest.Goals as goal
+use Rattle.dm_pool.proofs.free_list.highest.Goals as goal
 
 pub returns-then-rest-eq0-clause-below : goal.returns-then-rest-eq0-clause-below
 returns-then-rest-eq0-clause-below c = λ end cut.

@@ -1,6 +1,6 @@
 use Rattle.dm_pool.specs.inner.Order.{IsCut}
-use Rattle.dm_pool.proofs.FreeRuns.{Spelling}
-use Rattle.dm_pool.proofs.runs.spell.Given as goal
+use Rattle.dm_pool.proofs.WrittenGaps.{Spelling}
+use Rattle.dm_pool.proofs.free_list.spell.Given as goal
 
 abbrev pub invariant-loop-end : goal.invariant-loop-end
 invariant-loop-end l = record {

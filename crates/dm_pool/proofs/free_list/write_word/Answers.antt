@@ -3,7 +3,7 @@ use Rattle.dm_region.specs.Parts.{part}
 use Rattle.dm_region.proofs.Written.{elsewhere}
 use Rattle.dm_pool.proofs.Blocks.{part_length}
 use Rattle.dm_region.proofs.Parts.{mid_part}
-use Rattle.dm_pool.proofs.runs.write_word.Goals as goal
+use Rattle.dm_pool.proofs.free_list.write_word.Goals as goal
 
 pub returns-clause-kept : goal.returns-clause-kept
 returns-clause-kept c = λ Q M far.
