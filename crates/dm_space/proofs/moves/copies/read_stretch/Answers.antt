@@ -2,8 +2,8 @@ use Rattle.std.proofs.Common.{◌+◌, ◌/◌, ◌%◌, ◌∙◌, ap, sym, ref
 use Rattle.std.specs.Prelude.{slice_index}
 use Rattle.dm_space.specs.Copies.{copied_in, block_copied_in}
 use Rattle.dm_space.proofs.moves.Inside.{page-below, single-of}
-use Rattle.dm_space.proofs.moves.Runs.{indexed, read-linear, read-pages, read-single}
-use Rattle.dm_space.proofs.moves.copies.read_run.Goals as goal
+use Rattle.dm_space.proofs.moves.Stretches.{indexed, read-linear, read-pages, read-single}
+use Rattle.dm_space.proofs.moves.copies.read_stretch.Goals as goal
 
 pub returns-in-Linear : goal.returns-in-Linear
 returns-in-Linear c =
@@ -19,7 +19,7 @@ returns-in-Pages c =
     c.copy_block_in.ensures ∙ ap (λ p. block_copied_in h p (c.at-from.result % 0x4000) a.at a.len) block
     ∙ ap (λ from. block_copied_in h (slice_index r.blocks ((r.start + a.k) / 0x4000)) (from % 0x4000) a.at a.len)
     c.at-from.ensures
-    ∙ read-pages h r a.k a.at a.len kind c.requires.inside c.requires.some c.requires.run
+    ∙ read-pages h r a.k a.at a.len kind c.requires.inside c.requires.some c.requires.stretch
 
 pub returns-in-Single : goal.returns-in-Single
 returns-in-Single c =

@@ -1,6 +1,6 @@
 use Rattle.std.proofs.Common.{sym, refl}
 use Rattle.dm_space.proofs.moves.Meets.{never, other_page}
-use Rattle.dm_space.proofs.moves.overlaps.runs_meet.Goals as goal
+use Rattle.dm_space.proofs.moves.overlaps.stretches_meet.Goals as goal
 
 pub returns-in-Page-q : goal.returns-in-Page-q
 returns-in-Page-q c = never _ _ _ _ c.args.n c.args.l c.in-Low.is c.in-Page-q.is (λ i j. refl)

@@ -2,8 +2,8 @@ use Rattle.std.proofs.Common.{◌+◌, ◌/◌, ◌%◌, ◌≤◌, length, ◌�
 use Rattle.std.specs.Prelude.{slice_index}
 use Rattle.dm_space.specs.Copies.{copied_out, block_copied_out}
 use Rattle.dm_space.proofs.moves.Inside.{page-below, single-of}
-use Rattle.dm_space.proofs.moves.Runs.{indexed, write-linear, write-pages, write-single}
-use Rattle.dm_space.proofs.moves.copies.write_run.Goals as goal
+use Rattle.dm_space.proofs.moves.Stretches.{indexed, write-linear, write-pages, write-single}
+use Rattle.dm_space.proofs.moves.copies.write_stretch.Goals as goal
 
 pub returns-in-Linear : goal.returns-in-Linear
 returns-in-Linear c =
@@ -24,7 +24,7 @@ returns-in-Pages c =
     c.copy_block_out.ensures ∙ ap (λ p. block_copied_out h a.at p (c.at-to.result % 0x4000) a.len) block
     ∙ ap (λ to. block_copied_out h a.at (slice_index r.blocks ((r.start + a.k) / 0x4000)) (to % 0x4000) a.len)
     c.at-to.ensures
-    ∙ write-pages h r a.k a.at a.len kind c.requires.inside c.requires.some c.requires.run room
+    ∙ write-pages h r a.k a.at a.len kind c.requires.inside c.requires.some c.requires.stretch room
 
 pub returns-in-Single : goal.returns-in-Single
 returns-in-Single c =

@@ -1,4 +1,4 @@
--- Runs of a span's bytes, and one run after another.
+-- Stretches of a span's bytes, and one stretch after another.
 use Rattle.std.proofs.Common.{◌≡◌, ℕ, zero, suc, ◌+◌, ◌/◌, ◌%◌, ◌<◌, ◌≤◌, List, [], ◌∷◌, ◌++◌, length, get_or, set, refl, sym, ◌∙◌, ap, subst, arith, inl, get_or-set_same}
 use Rattle.std.specs.Prelude.{slice_index}
 use Rattle.std.proofs.lemmas.List.{length-set, get_or_default}
@@ -10,7 +10,7 @@ use Rattle.dm_region.proofs.Bytes.{length-with_part}
 use Rattle.dm_space.specs.declared.place.Place.TheVariants.{Page}
 use Rattle.dm_space.specs.Copies.{values, bytes_written, copied_in, copied_out, block_copied_in, block_copied_out}
 use Rattle.dm_space.specs.Memory.{Memory, Held, place, peek, poke, byte_at, page_bytes, with_blocks, with_byte}
-use Rattle.dm_space.specs.inner.Runs.{with_run}
+use Rattle.dm_space.specs.inner.SideBySide.{with_stretch}
 use Rattle.dm_space.proofs.Copies.{length-values, values-more, values-part, part-more, none-written, one-more, same-content}
 use Rattle.dm_space.proofs.Places.{peek-place, page-there}
 use Rattle.dm_space.specs.declared.moves.spans.SpanKind.TheVariants.{Linear, Pages, Single}
@@ -59,25 +59,25 @@ write-linear h r k at n e = ap (λ (m : Memory). record h { memory = m })
 -- ---- blocks
 
 -- the n bytes of a span from its byte k on are those of a block from its byte o on, in each memory
-abbrev IsBlockRun : Span → ℕ → ℕ → ℕ → ℕ → Type 0
-IsBlockRun r k p o n = (t : Memory) (i : ℕ) → i < n → place_in t r (k + i) ≡ Page p (o + i)
+abbrev IsBlockStretch : Span → ℕ → ℕ → ℕ → ℕ → Type 0
+IsBlockStretch r k p o n = (t : Memory) (i : ℕ) → i < n → place_in t r (k + i) ≡ Page p (o + i)
 
-block-read : (m : Memory) (r : Span) (k p o n : ℕ) → IsBlockRun r k p o n → o + n ≤ length (page_bytes m p) →
+block-read : (m : Memory) (r : Span) (k p o n : ℕ) → IsBlockStretch r k p o n → o + n ≤ length (page_bytes m p) →
     part (page_bytes m p) o n ≡ values (byte_in m r) k n
-block-read m r k p o n run fits = sym (values-part (byte_in m r) k n (page_bytes m p) o fits
-    (λ i h. ap (byte_at m) (run m i h)))
+block-read m r k p o n stretch fits = sym (values-part (byte_in m r) k n (page_bytes m p) o fits
+    (λ i h. ap (byte_at m) (stretch m i h)))
 
 with_contents : Memory → List (List ℕ) → Memory
 with_contents m cs = with_blocks m (record m.blocks { contents = cs })
 
-block-stored : (vs : List ℕ) (m : Memory) (r : Span) (k p o : ℕ) → IsBlockRun r k p o (length vs) →
+block-stored : (vs : List ℕ) (m : Memory) (r : Span) (k p o : ℕ) → IsBlockStretch r k p o (length vs) →
     p < length m.blocks.contents → o + length vs ≤ length (page_bytes m p) →
-    span_written m r k vs ≡ with_run m (Page p o) (length vs) vs
+    span_written m r k vs ≡ with_stretch m (Page p o) (length vs) vs
 unfolding with_contents
-block-stored [] m r k p o run live fits =
+block-stored [] m r k p o stretch live fits =
     ap (with_contents m) (sym (ap (set m.blocks.contents p) (none-written (page_bytes m p) o)
     ∙ same-content m.blocks.contents p))
-block-stored (v ∷ vs) m r k p o run live fits =
+block-stored (v ∷ vs) m r k p o stretch live fits =
     let xs = page_bytes m p in
     let cs = m.blocks.contents in
     let t : Memory = with_blocks m (with_content m.blocks p (set xs o v)) in
@@ -85,10 +85,10 @@ block-stored (v ∷ vs) m r k p o run live fits =
     let there : o + 0 ≡ o = omega arith in
     let page : page_bytes t p ≡ set xs o v = get_or-set_same cs p (set xs o v) [] live in
     let first : with_byte m (place_in m r k) v ≡ t = ap (λ q. with_byte m q v) (ap (λ j. place_in m r j) here
-    ∙ run m 0 (omega arith) ∙ ap (Page p) there) in
-    let rest : IsBlockRun r (suc k) p (suc o) (length vs) = λ u i h.
+    ∙ stretch m 0 (omega arith) ∙ ap (Page p) there) in
+    let rest : IsBlockStretch r (suc k) p (suc o) (length vs) = λ u i h.
     let e : suc k + i ≡ k + suc i = omega arith in let f : o + suc i ≡ suc o + i = omega arith in
-    ap (λ j. place_in u r j) e ∙ run u (suc i) (omega arith) ∙ ap (Page p) f in
+    ap (λ j. place_in u r j) e ∙ stretch u (suc i) (omega arith) ∙ ap (Page p) f in
     ap (λ (x : Memory). span_written x r (suc k) vs) first
     ∙ block-stored vs t r (suc k) p (suc o) rest (omega (arith, length-set cs p (set xs o v), live)) (omega (
       arith,
@@ -100,34 +100,36 @@ block-stored (v ∷ vs) m r k p o run live fits =
     ∙ ap (with_contents m) (set_twice cs p (set xs o v) (with_part (set xs o v) (suc o) (length vs) vs))
     ∙ ap (λ (ys : List ℕ). with_contents m (set cs p ys)) (one-more xs vs o v (omega (arith, fits)))
 
-read-block : (h : Held) (r : Span) (k p o at n : ℕ) → IsBlockRun r k p o n → o + n ≤ length (page_bytes h.memory p) →
+read-block : (h : Held) (r : Span) (k p o at n : ℕ) → IsBlockStretch r k p o n →
+    o + n ≤ length (page_bytes h.memory p) →
     block_copied_in h p o at n ≡ read_in h r k at n
-read-block h r k p o at n run fits = ap (λ (xs : List ℕ). record h { scratch = with_part h.scratch at n xs })
-    (block-read h.memory r k p o n run fits)
+read-block h r k p o at n stretch fits = ap (λ (xs : List ℕ). record h { scratch = with_part h.scratch at n xs })
+    (block-read h.memory r k p o n stretch fits)
 
-write-block : (h : Held) (r : Span) (k p o at n : ℕ) → IsBlockRun r k p o n → 0 < n → at + n ≤ length h.scratch →
+write-block : (h : Held) (r : Span) (k p o at n : ℕ) → IsBlockStretch r k p o n → 0 < n → at + n ≤ length h.scratch →
     o + n ≤ length (page_bytes h.memory p) → block_copied_out h at p o n ≡ written_out h r k at n
-write-block h r k p o at n run some room fits =
+write-block h r k p o at n stretch some room fits =
     let vs = part h.scratch at n in
     let long : length vs ≡ n = part_length h.scratch at n room in
     let back : n ≡ length vs = sym long in
     let live = page-there h.memory.blocks.contents p 0 (omega (arith, fits, some)) in
     ap (λ (m : Memory). record h { memory = m })
-    (sym (block-stored vs h.memory r k p o (subst (IsBlockRun r k p o) back run) live (omega (arith, fits, long))
-    ∙ ap (λ j. with_run h.memory (Page p o) j vs) long))
+    (sym (block-stored vs h.memory r k p o (subst (IsBlockStretch r k p o) back stretch) live (omega
+    (arith, fits, long))
+    ∙ ap (λ j. with_stretch h.memory (Page p o) j vs) long))
 
--- the places of a run of pages, in each memory
-pages-run : (r : Span) (k n : ℕ) → r.kind ≡ Pages → (r.start + k) % 0x4000 + n ≤ 0x4000 →
-    IsBlockRun r k (slice_index r.blocks ((r.start + k) / 0x4000)) ((r.start + k) % 0x4000) n
-pages-run r k n e cell t i h =
+-- the places of a stretch of pages, in each memory
+pages-stretch : (r : Span) (k n : ℕ) → r.kind ≡ Pages → (r.start + k) % 0x4000 + n ≤ 0x4000 →
+    IsBlockStretch r k (slice_index r.blocks ((r.start + k) / 0x4000)) ((r.start + k) % 0x4000) n
+pages-stretch r k n e cell t i h =
     let a = r.start + k in
     let s : r.start + (k + i) ≡ a + i = omega arith in
     let q : (a + i) / 0x4000 ≡ a / 0x4000 = omega arith in
     let m : (a + i) % 0x4000 ≡ a % 0x4000 + i = omega arith in
     ap (λ kind. place_by_kind t kind r.blocks (r.start + (k + i))) e ∙ rw (s, q, m) refl
 
-single-run : (r : Span) (k n : ℕ) → r.kind ≡ Single → IsBlockRun r k (slice_index r.blocks 0) (r.start + k) n
-single-run r k n e t i h = let s : r.start + (k + i) ≡ r.start + k + i = omega arith in
+single-stretch : (r : Span) (k n : ℕ) → r.kind ≡ Single → IsBlockStretch r k (slice_index r.blocks 0) (r.start + k) n
+single-stretch r k n e t i h = let s : r.start + (k + i) ≡ r.start + k + i = omega arith in
     ap (λ kind. place_by_kind t kind r.blocks (r.start + (k + i))) e ∙ ap (Page (slice_index r.blocks 0)) s
 
 pub read-pages : (h : Held) (r : Span) (k at n : ℕ) → r.kind ≡ Pages → IsInside h.memory r (k + n) → 0 < n →
@@ -135,14 +137,18 @@ pub read-pages : (h : Held) (r : Span) (k at n : ℕ) → r.kind ≡ Pages → I
     → block_copied_in h (slice_index r.blocks ((r.start + k) / 0x4000)) ((r.start + k) % 0x4000) at n
     ≡ read_in h r k at n
 read-pages h r k at n e inside some cell =
-    read-block h r k _ _ at n (pages-run r k n e cell) (omega (arith, cell, (page-of h.memory r k n inside some e).1))
+    read-block h r k _ _ at n (pages-stretch r k n e cell) (omega (
+      arith,
+      cell,
+      (page-of h.memory r k n inside some e).1,
+    ))
 
 pub write-pages : (h : Held) (r : Span) (k at n : ℕ) → r.kind ≡ Pages → IsInside h.memory r (k + n) → 0 < n →
     (r.start + k) % 0x4000 + n ≤ 0x4000 → at + n ≤ length h.scratch
     → block_copied_out h at (slice_index r.blocks ((r.start + k) / 0x4000)) ((r.start + k) % 0x4000) n
     ≡ written_out h r k at n
 write-pages h r k at n e inside some cell room =
-    write-block h r k _ _ at n (pages-run r k n e cell) some room (omega (
+    write-block h r k _ _ at n (pages-stretch r k n e cell) some room (omega (
       arith,
       cell,
       (page-of h.memory r k n inside some e).1,
@@ -150,7 +156,7 @@ write-pages h r k at n e inside some cell room =
 
 pub read-single : (h : Held) (r : Span) (k at n : ℕ) → r.kind ≡ Single → IsInside h.memory r (k + n) →
     block_copied_in h (slice_index r.blocks 0) (r.start + k) at n ≡ read_in h r k at n
-read-single h r k at n e inside = read-block h r k _ _ at n (single-run r k n e) (omega (
+read-single h r k at n e inside = read-block h r k _ _ at n (single-stretch r k n e) (omega (
   arith,
   (single-of h.memory r (k + n) inside e).2,
 ))
@@ -158,12 +164,12 @@ read-single h r k at n e inside = read-block h r k _ _ at n (single-run r k n e)
 pub write-single : (h : Held) (r : Span) (k at n : ℕ) → r.kind ≡ Single → IsInside h.memory r (k + n) → 0 < n →
     at + n ≤ length h.scratch
     → block_copied_out h at (slice_index r.blocks 0) (r.start + k) n ≡ written_out h r k at n
-write-single h r k at n e inside some room = write-block h r k _ _ at n (single-run r k n e) some room (omega (
+write-single h r k at n e inside some room = write-block h r k _ _ at n (single-stretch r k n e) some room (omega (
   arith,
   (single-of h.memory r (k + n) inside e).2,
 ))
 
--- ---- one run after another
+-- ---- one stretch after another
 
 stored-more : (xs ys : List ℕ) (m : Memory) (r : Span) (k : ℕ) → span_written m r k (xs ++ ys)
     ≡ span_written (span_written m r k xs) r (k + length xs) ys
@@ -231,16 +237,17 @@ blocks-done h from to p q n e f is js some inside there =
       arith,
       (single-of m to n there f).2,
     )) in
-    let run : IsBlockRun from 0 p (from.start + 0) n = subst (λ b. IsBlockRun from 0 b (from.start + 0) n) (sym is)
-    (single-run from 0 n e) in
-    let goes : IsBlockRun to 0 q (to.start + 0) n = subst (λ b. IsBlockRun to 0 b (to.start + 0) n) (sym js)
-    (single-run to 0 n f) in
-    let read : xs ≡ bytes_in m from n = block-read m from 0 p (from.start + 0) n run in_from in
+    let stretch : IsBlockStretch from 0 p (from.start + 0) n = subst (λ b. IsBlockStretch from 0 b
+    (from.start + 0) n) (sym is)
+    (single-stretch from 0 n e) in
+    let goes : IsBlockStretch to 0 q (to.start + 0) n = subst (λ b. IsBlockStretch to 0 b (to.start + 0) n) (sym js)
+    (single-stretch to 0 n f) in
+    let read : xs ≡ bytes_in m from n = block-read m from 0 p (from.start + 0) n stretch in_from in
     let long : length xs ≡ n = part_length (page_bytes m p) (from.start + 0) n in_from in
     let back : n ≡ length xs = sym long in
     let live = page-there m.blocks.contents q 0 (omega (arith, in_to, some)) in
-    sym (block-stored xs m to 0 q (to.start + 0) (subst (IsBlockRun to 0 q (to.start + 0)) back goes) live
-    (omega (arith, in_to, long)) ∙ ap (λ j. with_run m (Page q (to.start + 0)) j xs) long)
+    sym (block-stored xs m to 0 q (to.start + 0) (subst (IsBlockStretch to 0 q (to.start + 0)) back goes) live
+    (omega (arith, in_to, long)) ∙ ap (λ j. with_stretch m (Page q (to.start + 0)) j xs) long)
     ∙ ap (span_written m to 0) read
 
 pub still-inside : (m : Memory) (t u : Held) (to from : Span) (at n len : ℕ) → t.memory ≡ m →

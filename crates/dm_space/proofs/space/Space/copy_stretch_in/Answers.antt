@@ -9,17 +9,17 @@ use Rattle.dm_space.specs.Copies.{values, copied_in}
 use Rattle.dm_space.specs.Memory.{Held, place, page_bytes}
 use Rattle.dm_space.specs.inner.Memory.{held}
 use Rattle.dm_space.specs.Rom.{rom}
-use Rattle.dm_space.proofs.Copies.{length-values, low-fits, page-fits, rom-fits, all-there, in-run}
+use Rattle.dm_space.proofs.Copies.{length-values, low-fits, page-fits, rom-fits, all-there, in-stretch}
 use Rattle.dm_space.proofs.Keeping.{held_scratch, front_lent}
 use Rattle.dm_space.proofs.Shifts.{shifts_as}
-use Rattle.dm_space.proofs.space.Space.copy_run_in.Goals as goal
+use Rattle.dm_space.proofs.space.Space.copy_stretch_in.Goals as goal
 
 pub copy-requires-clause-source : goal.copy-requires-clause-source
 copy-requires-clause-source c =
     let s = c.self.inside in
     let there = all-there (held s.store s.windows s.a20) c.args.linear c.args.len (Low c.in-Low.from) c.self.invariant.0
     (ap (λ (h : Held). place h.memory c.args.linear) c.self.view_is ∙ sym c.place.ensures.place
-    ∙ c.in-Low.is) c.requires.some c.requires.run c.requires.addresses in
+    ∙ c.in-Low.is) c.requires.some c.requires.stretch c.requires.addresses in
     (tt, low-fits (held s.store s.windows s.a20).memory c.in-Low.from c.args.len c.requires.some there)
 
 pub invariant_of-self : goal.invariant_of-self
@@ -27,7 +27,7 @@ invariant_of-self c =
     let s = c.self.inside in
     let there = all-there (held s.store s.windows s.a20) c.args.linear c.args.len (Low c.in-Low.from) c.self.invariant.0
     (ap (λ (h : Held). place h.memory c.args.linear) c.self.view_is ∙ sym c.place.ensures.place
-    ∙ c.in-Low.is) c.requires.some c.requires.run c.requires.addresses in
+    ∙ c.in-Low.is) c.requires.some c.requires.stretch c.requires.addresses in
     let source = low-fits (held s.store s.windows s.a20).memory c.in-Low.from c.args.len c.requires.some there in (
       held_scratch s.store s.windows s.a20 c.copy.new.self _ c.copy.ensures
           (length-with_part s.store.scratch (part s.store.low c.in-Low.from c.args.len) c.args.at c.args.len
@@ -42,7 +42,7 @@ copy-requires-in-Page-clause-source c =
     let s = c.self.inside in
     let there = all-there (held s.store s.windows s.a20) c.args.linear c.args.len (Page c.in-Page.block c.in-Page.from)
     c.self.invariant.0 (ap (λ (h : Held). place h.memory c.args.linear) c.self.view_is ∙ sym c.place.ensures.place
-    ∙ c.in-Page.is) c.requires.some c.requires.run c.requires.addresses in
+    ∙ c.in-Page.is) c.requires.some c.requires.stretch c.requires.addresses in
     let first = there 0 c.requires.some in (
       first.0,
       page-fits (held s.store s.windows s.a20).memory c.in-Page.block c.in-Page.from c.args.len c.requires.some
@@ -54,7 +54,7 @@ invariant_of-self-in-Page c =
     let s = c.self.inside in let m = (held s.store s.windows s.a20).memory in
     let there = all-there (held s.store s.windows s.a20) c.args.linear c.args.len (Page c.in-Page.block c.in-Page.from)
     c.self.invariant.0 (ap (λ (h : Held). place h.memory c.args.linear) c.self.view_is ∙ sym c.place.ensures.place
-    ∙ c.in-Page.is) c.requires.some c.requires.run c.requires.addresses in
+    ∙ c.in-Page.is) c.requires.some c.requires.stretch c.requires.addresses in
     let source = page-fits m c.in-Page.block c.in-Page.from c.args.len c.requires.some there in (
       held_scratch s.store s.windows s.a20 c.copy-in-Page.new.self _ c.copy-in-Page.ensures
           (length-with_part s.store.scratch (part (page_bytes m c.in-Page.block) c.in-Page.from c.args.len) c.args.at
@@ -70,25 +70,25 @@ read_rom-requires-clause-offset c =
     let s = c.self.inside in
     let there = all-there (held s.store s.windows s.a20) c.args.linear c.args.len (Rom c.in-Rom.from) c.self.invariant.0
     (ap (λ (h : Held). place h.memory c.args.linear) c.self.view_is ∙ sym c.place.ensures.place
-    ∙ c.in-Rom.is) c.requires.some c.requires.run c.requires.addresses in
+    ∙ c.in-Rom.is) c.requires.some c.requires.stretch c.requires.addresses in
     rom-fits (held s.store s.windows s.a20).memory c.in-Rom.from c.args.len c.requires.some there
 
 pub returns-in-Low : goal.returns-in-Low
 returns-in-Low c =
     let s = c.self.inside in
     ap (λ (t : Stored). held t s.windows s.a20) c.copy.ensures
-    ∙ in-run (held s.store s.windows s.a20) c.args.linear c.args.len (Low c.in-Low.from) c.self.invariant.0
+    ∙ in-stretch (held s.store s.windows s.a20) c.args.linear c.args.len (Low c.in-Low.from) c.self.invariant.0
     (ap (λ (h : Held). place h.memory c.args.linear) c.self.view_is ∙ sym c.place.ensures.place
-    ∙ c.in-Low.is) c.requires.some c.requires.run c.requires.addresses c.args.at
+    ∙ c.in-Low.is) c.requires.some c.requires.stretch c.requires.addresses c.args.at
     ∙ ap (λ (h : Held). copied_in h c.args.linear c.args.at c.args.len) c.self.view_is
 
 pub returns-in-Page : goal.returns-in-Page
 returns-in-Page c =
     let s = c.self.inside in
     ap (λ (t : Stored). held t s.windows s.a20) c.copy-in-Page.ensures
-    ∙ in-run (held s.store s.windows s.a20) c.args.linear c.args.len (Page c.in-Page.block c.in-Page.from)
+    ∙ in-stretch (held s.store s.windows s.a20) c.args.linear c.args.len (Page c.in-Page.block c.in-Page.from)
     c.self.invariant.0 (ap (λ (h : Held). place h.memory c.args.linear) c.self.view_is ∙ sym c.place.ensures.place
-    ∙ c.in-Page.is) c.requires.some c.requires.run c.requires.addresses c.args.at
+    ∙ c.in-Page.is) c.requires.some c.requires.stretch c.requires.addresses c.args.at
     ∙ ap (λ (h : Held). copied_in h c.args.linear c.args.at c.args.len) c.self.view_is
 
 pub returns-in-Rom : goal.returns-in-Rom
@@ -99,9 +99,9 @@ returns-in-Rom c =
     c.args.at c.args.len (omega (arith, c.requires.scratch, c.self.invariant.0.scratch_length))
     (length-values rom c.in-Rom.from c.args.len) c.scratch_mut.ensures.value c.read_rom.auto.bytes
     c.read_rom.ensures)
-    ∙ in-run (held s.store s.windows s.a20) c.args.linear c.args.len (Rom c.in-Rom.from) c.self.invariant.0
+    ∙ in-stretch (held s.store s.windows s.a20) c.args.linear c.args.len (Rom c.in-Rom.from) c.self.invariant.0
     (ap (λ (h : Held). place h.memory c.args.linear) c.self.view_is ∙ sym c.place.ensures.place
-    ∙ c.in-Rom.is) c.requires.some c.requires.run c.requires.addresses c.args.at
+    ∙ c.in-Rom.is) c.requires.some c.requires.stretch c.requires.addresses c.args.at
     ∙ ap (λ (h : Held). copied_in h c.args.linear c.args.at c.args.len) c.self.view_is
 
 pub returns-in-Nothing : goal.returns-in-Nothing
@@ -115,7 +115,7 @@ returns-in-Nothing c =
       c.self.invariant.0.scratch_length,
     )) (length-replicate c.args.len 0xFF) c.scratch_mut-in-Nothing.ensures.value
     c.read_nothing.auto.bytes c.read_nothing.ensures)
-    ∙ in-run (held s.store s.windows s.a20) c.args.linear c.args.len (Nothing) c.self.invariant.0
+    ∙ in-stretch (held s.store s.windows s.a20) c.args.linear c.args.len (Nothing) c.self.invariant.0
     (ap (λ (h : Held). place h.memory c.args.linear) c.self.view_is ∙ sym c.place.ensures.place
-    ∙ c.in-Nothing.is) c.requires.some c.requires.run c.requires.addresses c.args.at
+    ∙ c.in-Nothing.is) c.requires.some c.requires.stretch c.requires.addresses c.args.at
     ∙ ap (λ (h : Held). copied_in h c.args.linear c.args.at c.args.len) c.self.view_is
