@@ -6,5 +6,5 @@ mod Upwards
 mod Pairs
 mod Upper
 mod Elements
-mod Runs
+mod InStretch
 mod Stretched

@@ -10,7 +10,7 @@ use Rattle.std.proofs.lemmas.Option.{none-some, same_Some}
 use Rattle.std.proofs.lemmas.List.{get_or-set_same}
 use Rattle.std.proofs.lemmas.List.Sums.{sum_by-cons, sum_by-set}
 use Rattle.dm_pool.specs.declared.extent.Extent.{Extent}
-use Rattle.dm_pool.specs.Gaps.{Run, overlaps, is_clear, gaps, first_empty, first_fit, next_index, lowest, count_fitting}
+use Rattle.dm_pool.specs.Gaps.{Gap, overlaps, is_clear, gaps, first_empty, first_fit, next_index, lowest, count_fitting}
 use Rattle.dm_pool.specs.inner.Gaps.{IsCovered, AreGaps}
 use Rattle.dm_pool.specs.Blocks.{Blocks, with_block, zeros, placed, taken, without, at_base, new_base, resized, resized_from, fitted}
 use Rattle.dm_pool.specs.FreeList.{AreBased}
@@ -18,7 +18,7 @@ use Rattle.dm_pool.specs.Laws.{free_numbers, with_new, and_taken, taken_in_turn,
 use Rattle.dm_pool.proofs.Gaps.{hits, before, after, covered, past, below_or_not, clear_part, fit_is_lowest}
 use Rattle.dm_pool.proofs.Blocks.{vacant}
 use Rattle.dm_pool.proofs.Fits.{fit_here, fit_behind}
-use Rattle.dm_pool.proofs.FreeRuns.{lowered}
+use Rattle.dm_pool.proofs.WrittenGaps.{lowered}
 use Rattle.dm_pool.proofs.Maximal.{gaps_are, gaps_are_one}
 use Rattle.dm_pool.proofs.Told.{lowest_zero}
 
@@ -112,26 +112,26 @@ clear_beside (Some c ∷ bs) (suc i) b p u o h = let both = both_so (not (overla
     both_true both.0 (clear_beside bs i b p u o both.1)
 
 -- the gaps once the first one that holds u units has lost its low ones
-cut_gap : Run → ℕ → List Run → List Run
+cut_gap : Gap → ℕ → List Gap → List Gap
 cut_gap g u gs = if g.size == u then gs else record { low = g.low + u; size = g.size - u } ∷ gs
 
-cut : ℕ → List Run → List Run
+cut : ℕ → List Gap → List Gap
 cut u [] = []
 cut u (g ∷ gs) = if nat_le u g.size then cut_gap g u gs else g ∷ cut u gs
 
-cut_here : (u : ℕ) (g : Run) (gs : List Run) → u ≤ g.size → cut u (g ∷ gs) ≡ cut_gap g u gs
+cut_here : (u : ℕ) (g : Gap) (gs : List Gap) → u ≤ g.size → cut u (g ∷ gs) ≡ cut_gap g u gs
 unfolding cut
 cut_here u g gs h = ap (λ c. if c then cut_gap g u gs else g ∷ cut u gs) (le-leb u g.size h)
 
-cut_behind : (u : ℕ) (g : Run) (gs : List Run) → g.size < u → cut u (g ∷ gs) ≡ g ∷ cut u gs
+cut_behind : (u : ℕ) (g : Gap) (gs : List Gap) → g.size < u → cut u (g ∷ gs) ≡ g ∷ cut u gs
 unfolding cut
 cut_behind u g gs h = ap (λ c. if c then cut_gap g u gs else g ∷ cut u gs) (past u g.size h)
 
-cut_whole : (u : ℕ) (g : Run) (gs : List Run) → g.size ≡ u → cut_gap g u gs ≡ gs
+cut_whole : (u : ℕ) (g : Gap) (gs : List Gap) → g.size ≡ u → cut_gap g u gs ≡ gs
 unfolding cut_gap
 cut_whole u g gs e = ap (λ c. if c then gs else record { low = g.low + u; size = g.size - u } ∷ gs) (eq-eqb g.size u e)
 
-cut_part : (u : ℕ) (g : Run) (gs : List Run) → ¬ (g.size ≡ u) → cut_gap g u gs ≡ record {
+cut_part : (u : ℕ) (g : Gap) (gs : List Gap) → ¬ (g.size ≡ u) → cut_gap g u gs ≡ record {
   low = g.low + u;
   size = g.size - u;
 } ∷ gs
@@ -139,7 +139,7 @@ unfolding cut_gap
 cut_part u g gs ne = ap (λ c. if c then gs else record { low = g.low + u; size = g.size - u } ∷ gs) (ne_eqb g.size u ne)
 
 -- the first gap that holds a block lies where the gaps begin, or above
-fit_above : (bs : List (Option Extent)) (n k u p : ℕ) (gs : List Run) → AreGaps bs n k gs → first_fit gs u ≡ Some p →
+fit_above : (bs : List (Option Extent)) (n k u p : ℕ) (gs : List Gap) → AreGaps bs n k gs → first_fit gs u ≡ Some p →
     k ≤ p
 fit_above bs n k u p [] are e = absurd (none-some p e)
 fit_above bs n k u p (g ∷ gs) are e =
@@ -162,7 +162,7 @@ module _ (bs : List (Option Extent)) (n i : ℕ) (b : Extent) (lt : i < length b
   still_covered k h = covers_more bs i b k 1 free h
 
   -- the gaps above the block
-  above : (k : ℕ) (gs : List Run) → AreGaps bs n k gs → b.base + b.units ≤ k → AreGaps new n k gs
+  above : (k : ℕ) (gs : List Gap) → AreGaps bs n k gs → b.base + b.units ≤ k → AreGaps new n k gs
   above k [] are le = λ j lo hi. still_covered j (are j lo hi)
   above k (g ∷ gs) are le =
       let low = are.0 in
@@ -178,7 +178,7 @@ module _ (bs : List (Option Extent)) (n i : ℕ) (b : Extent) (lt : i < length b
       )
 
   -- a gap that is as large as the block is none any more, and one that is larger begins behind the block
-  cut_first : (k : ℕ) (g : Run) (gs : List Run) → g.low ≡ b.base → b.units ≤ g.size → 0 < b.units →
+  cut_first : (k : ℕ) (g : Gap) (gs : List Gap) → g.low ≡ b.base → b.units ≤ g.size → 0 < b.units →
       AreGaps bs n k (g ∷ gs) → AreGaps new n k (cut_gap g b.units gs)
   cut_first k g gs at le pos are =
       let low = are.0 in let room = are.4 in
@@ -213,7 +213,7 @@ module _ (bs : List (Option Extent)) (n i : ℕ) (b : Extent) (lt : i < length b
             )
       ]
 
-  cut_are : (k : ℕ) (gs : List Run) → 0 < b.units → first_fit gs b.units ≡ Some b.base → AreGaps bs n k gs →
+  cut_are : (k : ℕ) (gs : List Gap) → 0 < b.units → first_fit gs b.units ≡ Some b.base → AreGaps bs n k gs →
       AreGaps new n k (cut b.units gs)
   cut_are k [] pos e are = absurd (none-some b.base e)
   cut_are k (g ∷ gs) pos e are = elim (below_or_not g.size b.units) [
@@ -240,10 +240,10 @@ one_less : (u m : ℕ) → 0 < u → u ≤ m → (m - u) / u + 1 ≡ m / u
 one_less u m pos le = let back : m - u + u ≡ m = omega (arith, le) in sym (add-div_right (m - u) pos)
     ∙ ap (λ k. k / u) back
 
-count_of : (u : ℕ) (g : Run) (gs : List Run) → count_fitting u (g ∷ gs) ≡ g.size / u + count_fitting u gs
-count_of u g gs = sum_by-cons (λ (r : Run). r.size / u) g gs
+count_of : (u : ℕ) (g : Gap) (gs : List Gap) → count_fitting u (g ∷ gs) ≡ g.size / u + count_fitting u gs
+count_of u g gs = sum_by-cons (λ (r : Gap). r.size / u) g gs
 
-cut_count_first : (u : ℕ) (g : Run) (gs : List Run) → 0 < u → u ≤ g.size → count_fitting u (cut_gap g u gs) + 1
+cut_count_first : (u : ℕ) (g : Gap) (gs : List Gap) → 0 < u → u ≤ g.size → count_fitting u (cut_gap g u gs) + 1
     ≡ count_fitting u (g ∷ gs)
 cut_count_first u g gs pos le = elim (cases_eq g.size u) [
   | inl e ↦
@@ -251,12 +251,12 @@ cut_count_first u g gs pos le = elim (cases_eq g.size u) [
       let left = ap (count_fitting u) (cut_whole u g gs e) in
       omega (arith, whole, left, count_of u g gs)
   | inr ne ↦
-      let rest : Run = record { low = g.low + u; size = g.size - u } in
+      let rest : Gap = record { low = g.low + u; size = g.size - u } in
       let left = ap (count_fitting u) (cut_part u g gs ne) in
       omega (arith, one_less u g.size pos le, left, count_of u g gs, count_of u rest gs)
 ]
 
-cut_count : (u p : ℕ) (gs : List Run) → 0 < u → first_fit gs u ≡ Some p → count_fitting u (cut u gs) + 1
+cut_count : (u p : ℕ) (gs : List Gap) → 0 < u → first_fit gs u ≡ Some p → count_fitting u (cut u gs) + 1
     ≡ count_fitting u gs
 cut_count u p [] pos e = absurd (none-some p e)
 cut_count u p (g ∷ gs) pos e = elim (below_or_not g.size u) [
@@ -264,10 +264,10 @@ cut_count u p (g ∷ gs) pos e = elim (below_or_not g.size u) [
       let rest = cut_count u p gs pos (sym (fit_behind (g ∷ gs) g gs u refl small) ∙ e) in
       let left = ap (count_fitting u) (cut_behind u g gs small) in
       omega (arith, rest, left, count_of u g gs, count_of u g (cut u gs))
-  | inr large ↦ ap (λ (l : List Run). count_fitting u l + 1) (cut_here u g gs large) ∙ cut_count_first u g gs pos large
+  | inr large ↦ ap (λ (l : List Gap). count_fitting u l + 1) (cut_here u g gs large) ∙ cut_count_first u g gs pos large
 ]
 
-none_fit : (u : ℕ) (gs : List Run) → 0 < u → first_fit gs u ≡ None → count_fitting u gs ≡ 0
+none_fit : (u : ℕ) (gs : List Gap) → 0 < u → first_fit gs u ≡ None → count_fitting u gs ≡ 0
 none_fit u [] pos e = refl
 none_fit u (g ∷ gs) pos e = elim (below_or_not g.size u) [
   | inl small ↦
@@ -322,7 +322,7 @@ new_leaves s u i p based pos e f =
     record {
       based = new;
       numbers = one_taken s.places i b v.0 v.1;
-      fitting = ap (λ (l : List Run). count_fitting u l + 1) same ∙ cut_count u p gs pos fit;
+      fitting = ap (λ (l : List Gap). count_fitting u l + 1) same ∙ cut_count u p gs pos fit;
     }
 
 placed_leaves : (s : Blocks) (u : ℕ) (o q : Option ℕ) (i : ℕ) (t : Blocks) → AreBased s.places → 0 < u →

@@ -9,7 +9,7 @@ use Rattle.dm_region.proofs.Parts.{part_in}
 use Rattle.dm_region.proofs.Written.{part_length, part_more}
 use Rattle.dm_pool.specs.declared.extent.Extent.{Extent}
 use Rattle.dm_pool.specs.FreeList.{AreBased}
-use Rattle.dm_pool.specs.Gaps.{Run, is_clear, gaps, largest, free_units, count_fitting}
+use Rattle.dm_pool.specs.Gaps.{Gap, is_clear, gaps, largest, free_units, count_fitting}
 use Rattle.dm_pool.specs.inner.Gaps.{AreGaps}
 use Rattle.dm_pool.proofs.Maximal.{gaps_are, gaps_are_one}
 use Rattle.dm_pool.proofs.Stored.{none_placed}
@@ -64,7 +64,7 @@ pub none_based : (n : ℕ) → AreBased (no_layout n).places
 none_based n i b at = absurd (none-some b (sym (none_placed n i) ∙ at))
 
 -- the gaps of n units with no block
-abbrev one_gap : ℕ → List Run
+abbrev one_gap : ℕ → List Gap
 one_gap zero = []
 one_gap (suc n) = record { low = 0; size = suc n } ∷ []
 
@@ -91,11 +91,11 @@ one_largest (suc n) = omega arith
 
 one_free : (n : ℕ) → free_units (one_gap n) ≡ n
 one_free zero = refl
-one_free (suc n) = sum_by-cons (λ (g : Run). g.size) (record { low = 0; size = suc n }) [] ∙ omega arith
+one_free (suc n) = sum_by-cons (λ (g : Gap). g.size) (record { low = 0; size = suc n }) [] ∙ omega arith
 
 one_fitting : (n u : ℕ) → count_fitting u (one_gap n) ≡ n / u
 one_fitting zero u = sym (zero-div u)
-one_fitting (suc n) u = sum_by-cons (λ (g : Run). g.size / u) (record { low = 0; size = suc n }) [] ∙ omega arith
+one_fitting (suc n) u = sum_by-cons (λ (g : Gap). g.size / u) (record { low = 0; size = suc n }) [] ∙ omega arith
 
 pub fresh_largest : (n : ℕ) (ps : List (Option Extent)) → ps ≡ (no_layout n).places → largest (gaps ps n) ≡ n
 fresh_largest n ps e = ap largest (fresh_gaps n ps e) ∙ one_largest n

@@ -6,7 +6,7 @@ use Rattle.std.proofs.Math.Bool.{true≢false}
 use Rattle.std.proofs.lemmas.Bool.Decides.{leb_tells}
 use Rattle.std.specs.Cmp.Derive.{both_true}
 use Rattle.std.proofs.lemmas.Option.{none-some, same_Some}
-use Rattle.dm_pool.specs.Gaps.{overlaps, is_clear, are_free, first_passing, lowest, first_empty, first_fit, next_index, Run}
+use Rattle.dm_pool.specs.Gaps.{overlaps, is_clear, are_free, first_passing, lowest, first_empty, first_fit, next_index, Gap}
 use Rattle.dm_pool.specs.inner.Gaps.{IsCovered, AreGaps}
 use Rattle.dm_pool.specs.declared.extent.Extent.{Extent}
 
@@ -120,7 +120,7 @@ both_so : (a b : Bool) → (a && b) ≡ true → (a ≡ true) × (b ≡ true)
 both_so true b e = (refl, e)
 both_so false b e = absurd (true≢false (sym e))
 
--- a part of a clear run is clear
+-- a part of clear units is clear
 pub clear_part : (bs : List (Option Extent)) (p u q v : ℕ) → is_clear bs p u ≡ true → p ≤ q → q + v ≤ p + u →
     is_clear bs q v ≡ true
 clear_part [] p u q v h lo hi = refl
@@ -134,7 +134,7 @@ test : (b : Bool) → (b ≡ true) ⊎ (b ≡ false)
 test true = inl refl
 test false = inr refl
 
--- a run with a covered unit is not clear
+-- units of which one is covered are not clear
 pub unclear : (bs : List (Option Extent)) (k q u : ℕ) → IsCovered bs k → q ≤ k → k < q + u → is_clear bs q u ≡ false
 unclear bs k q u h lo hi = elim (test (is_clear bs q u)) [
   | inl y ↦
@@ -142,7 +142,7 @@ unclear bs k q u h lo hi = elim (test (is_clear bs q u)) [
   | inr e ↦ e
 ]
 
-fits_at : (bs : List (Option Extent)) (n u k : ℕ) (gs : List Run) → 0 < u → AreGaps bs n k gs →
+fits_at : (bs : List (Option Extent)) (n u k : ℕ) (gs : List Gap) → 0 < u → AreGaps bs n k gs →
     ((q : ℕ) → q < k → are_free bs n u q ≡ false) → first_fit gs u ≡ lowest bs n u
 fits_at bs n u k [] pos are miss = sym (not_found (are_free bs n u) (suc n) 0 (λ q le lt. elim (below_or_not q k) [
   | inl h ↦ miss q h
@@ -176,7 +176,7 @@ fits_at bs n u k (g ∷ gs) pos are miss =
           (clear_part bs g.low g.size g.low u are.3 (omega arith) (omega arith))) (λ q le lt. before' q lt))
     ]
 
--- the first run that fits begins at the lowest free place
-pub fit_is_lowest : (bs : List (Option Extent)) (n u : ℕ) (gs : List Run) → 0 < u → AreGaps bs n 0 gs →
+-- the first gap that fits begins at the lowest free place
+pub fit_is_lowest : (bs : List (Option Extent)) (n u : ℕ) (gs : List Gap) → 0 < u → AreGaps bs n 0 gs →
     first_fit gs u ≡ lowest bs n u
 fit_is_lowest bs n u gs pos are = fits_at bs n u 0 gs pos are (λ q lt. absurd (omega (arith, lt)))

@@ -3,9 +3,9 @@ pub mod Copied
 pub mod Takes
 pub mod Told
 pub mod Fits
-pub mod FreeList
+pub mod KeptList
 pub mod Fresh
-pub mod FreeRuns
+pub mod WrittenGaps
 pub mod Gaps
 pub mod Layouts
 pub mod Maximal

@@ -4,14 +4,14 @@ use Rattle.std.specs.Prelude.{if◌then◌else◌}
 use Rattle.std.proofs.Math.Bool.{true≢false}
 use Rattle.std.proofs.lemmas.Bool.{cases_lt, cases_eq, eq-eqb, ne_eqb}
 use Rattle.dm_pool.specs.declared.extent.Extent.{Extent}
-use Rattle.dm_pool.specs.Gaps.{Run, is_clear, with_unit, gaps_from, gaps}
+use Rattle.dm_pool.specs.Gaps.{Gap, is_clear, with_unit, gaps_from, gaps}
 use Rattle.dm_pool.specs.inner.Gaps.{IsCovered, AreGaps}
 use Rattle.dm_pool.specs.FreeList.{AreBased}
 use Rattle.dm_pool.proofs.Gaps.{clear, clear_part, before, after}
 use Rattle.dm_pool.proofs.Blocks.{clear_apart}
-use Rattle.dm_pool.proofs.FreeRuns.{lowered}
+use Rattle.dm_pool.proofs.WrittenGaps.{lowered}
 
--- a clear unit before a clear run
+-- a clear unit before clear units
 clear_more : (bs : List (Option Extent)) (k u : ℕ) → AreBased bs → is_clear bs k 1 ≡ true →
     is_clear bs (suc k) u ≡ true → is_clear bs k (suc u) ≡ true
 clear_more bs k u based one rest = clear bs k (suc u) (λ i b lt e. elim (clear_apart bs k 1 one i b e) [
@@ -28,7 +28,7 @@ clear_more bs k u based one rest = clear bs k (suc u) (λ i b lt e. elim (clear_
 both : (b : Bool) → b ≡ true → b ≡ false → ⊥
 both b t f = true≢false (sym t ∙ f)
 
-grown : (bs : List (Option Extent)) (n k : ℕ) (gs : List Run) (b : Bool) → AreBased bs → k < n → is_clear bs k 1 ≡ b →
+grown : (bs : List (Option Extent)) (n k : ℕ) (gs : List Gap) (b : Bool) → AreBased bs → k < n → is_clear bs k 1 ≡ b →
     AreGaps bs n (suc k) gs → AreGaps bs n k (with_unit b k gs)
 grown bs n k gs false based lt e are = lowered bs n (suc k) k gs (λ j lo hi. let same : k ≡ j = omega (arith, lo, hi) in
     subst (IsCovered bs) same e) (omega arith) are
@@ -90,11 +90,11 @@ gaps_are_from bs n (suc m) k based e = grown bs n k (gaps_from bs m (suc k)) (is
 pub gaps_are : (bs : List (Option Extent)) (n : ℕ) → AreBased bs → AreGaps bs n 0 (gaps bs n)
 gaps_are bs n based = gaps_are_from bs n n 0 based (omega arith)
 
--- a run with a unit is not covered where it begins
+-- clear units, one at least, are not covered where they begin
 not_covered : (bs : List (Option Extent)) (p u j : ℕ) → is_clear bs p u ≡ true → p ≤ j → j < p + u → IsCovered bs j → ⊥
 not_covered bs p u j h lo hi c = both (is_clear bs j 1) (clear_part bs p u j 1 h lo (omega (arith, hi))) c
 
-pub gaps_are_one : (bs : List (Option Extent)) (n k : ℕ) (gs hs : List Run) → AreGaps bs n k gs → AreGaps bs n k hs →
+pub gaps_are_one : (bs : List (Option Extent)) (n k : ℕ) (gs hs : List Gap) → AreGaps bs n k gs → AreGaps bs n k hs →
     gs ≡ hs
 gaps_are_one bs n k [] [] a b = refl
 gaps_are_one bs n k [] (h ∷ hs) a b = let some = b.2 in let room = b.4 in

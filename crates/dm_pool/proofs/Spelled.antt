@@ -7,7 +7,7 @@ use Rattle.dm_pool.specs.Blocks.{IsLaid}
 use Rattle.dm_pool.specs.FreeList.{AreBased}
 use Rattle.dm_pool.specs.inner.FreeList.{IsBelow}
 use Rattle.dm_pool.specs.inner.Order.{IsNth, IsOrder, IsCut}
-use Rattle.dm_pool.proofs.FreeRuns.{free_above}
+use Rattle.dm_pool.proofs.WrittenGaps.{free_above}
 
 -- all blocks, below the end of the pool
 pub cut_all : (units : ℕ) (places : List (Option Extent)) (order : List ℕ) → IsLaid units places →

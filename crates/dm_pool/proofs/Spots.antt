@@ -71,7 +71,7 @@ two_left (x ∷ []) ys v w long e = absurd (omega (arith, long))
 two_left (x ∷ y ∷ []) ys v w long e = ap (λ (l : List ℕ). refill 2 (x ∷ y ∷ []) (set (set l 0 v) 1 w)) e
 two_left (x ∷ y ∷ z ∷ xs) ys v w long e = absurd (omega (arith, long))
 
--- two bytes side by side, of which none is of a hole from a to b, are outside as one run
+-- two bytes side by side, of which none is of a hole from a to b, are outside as one stretch
 two_apart : (a b spot : ℕ) → (spot + 1 ≤ a) ⊎ ((b ≤ spot) ⊎ (b ≤ a)) → (spot + 1 + 1 ≤ a) ⊎ ((b ≤ spot + 1) ⊎ (b ≤ a)) →
     (spot + 2 ≤ a) ⊎ ((b ≤ spot) ⊎ (b ≤ a))
 two_apart a b spot (inr x) y = inr x

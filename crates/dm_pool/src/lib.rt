@@ -5,18 +5,18 @@
 
 mod block;
 mod extent;
+mod free_list;
 mod laws;
 mod part;
 mod pool;
-mod runs;
 mod sizes;
 mod store;
 mod table;
 
 pub use block::Block;
 pub use extent::{Extent, UNIT};
+pub use free_list::FreeList;
 pub use laws::{blocks_come, lowest_gap_is_first_fit};
 pub use part::Part;
-pub use runs::RunList;
 pub use sizes::Sizes;
 pub use store::{NewError, Store};

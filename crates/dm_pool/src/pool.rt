@@ -7,7 +7,7 @@ ghost use Rattle.dm_pool.specs.Blocks.{taken, without, new_base, resized, conten
 ghost use Rattle.dm_pool.specs.inner.Order.{blocks_in, IsToldIn};
 
 use crate::extent::{Extent, UNIT};
-use crate::runs::{first_fit, spell};
+use crate::free_list::{first_fit, spell};
 use crate::table::Table;
 
 /// The first unit of the lowest gap that holds `units` units, 0 for no unit; None if no gap holds them. `bytes` are
@@ -33,8 +33,8 @@ fn clear(bytes: &mut [u8], base: usize, units: usize)
     bytes[from..from + units * UNIT].fill(0);
 }
 
-/// Writes the free list anew for the blocks that the table has now: the runs into the free bytes of the pool, the first
-/// unit of the first run into the table. The blocks, their places and their bytes stay.
+/// Writes the free list anew for the blocks that the table has now: the gaps into the free bytes of the pool, the first
+/// unit of the first gap into the table. The blocks, their places and their bytes stay.
 fn retell(table: &mut Table, bytes: &mut [u8])
     requires { length bytes.old ≡ table.old.units * 1024 }
     ensures told { IsToldIn table.new bytes.new }

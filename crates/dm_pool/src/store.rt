@@ -15,11 +15,11 @@ ghost use Rattle.dm_pool.specs.inner.Stored.{IsKept, stored};
 
 use crate::block::Block;
 use crate::extent::{Extent, UNIT};
+use crate::free_list::FreeList;
 use crate::part::Part;
-use crate::runs::RunList;
 use crate::sizes::Sizes;
 use crate::table::Table;
-use crate::{pool, runs};
+use crate::{free_list, pool};
 use dm_region::Region;
 use std::alloc::{AllocError, Global};
 use std::marker::Model;
@@ -115,7 +115,7 @@ fn use_pool(region: &mut Region, table: &mut Table, in_use: &mut bool)
     }
     region.fill_down(POOL);
     let len = pool_len(table);
-    let first = runs::spell(table, region.part_mut(POOL, len));
+    let first = free_list::spell(table, region.part_mut(POOL, len));
     table.set_first(first);
     *in_use = true;
 }
@@ -435,7 +435,7 @@ impl Store {
     {
         if self.in_use {
             let len = pool_len(&self.table);
-            runs::largest(&self.table, self.region.part(POOL, len))
+            free_list::largest(&self.table, self.region.part(POOL, len))
         } else {
             // The whole pool is one gap.
             self.table.units()
@@ -448,7 +448,7 @@ impl Store {
     {
         if self.in_use {
             let len = pool_len(&self.table);
-            runs::free_units(&self.table, self.region.part(POOL, len))
+            free_list::free_units(&self.table, self.region.part(POOL, len))
         } else {
             self.table.units()
         }
@@ -456,8 +456,8 @@ impl Store {
 
     /// All bytes of the store, and where the free list of its pool begins, as a test of the free list reads them.
     /// Blocks do not overlap in the bytes of the pool. Once the pool is in use, the free ones of these can be read, and
-    /// list the gaps, rising, from the first run on; before, it has no block.
-    pub fn free_list(&self) -> RunList<'_>
+    /// list the gaps, rising, from the first gap on; before, it has no block.
+    pub fn free_list(&self) -> FreeList<'_>
         ensures region { result.region.now.bytes ≡ self.now.low ++ (self.now.scratch
             ++ drop 0x310000 result.region.now.bytes) }
         ensures sizes { (length self.now.low ≡ 0x110000) × (length self.now.scratch ≡ 0x200000) }
@@ -472,7 +472,7 @@ impl Store {
     {
         self.table.recall();
         let (in_use, first) = (self.in_use, self.table.first());
-        RunList {
+        FreeList {
             region: &self.region,
             in_use,
             first,
@@ -486,7 +486,7 @@ impl Store {
     {
         if self.in_use {
             let len = pool_len(&self.table);
-            runs::count_fitting(&self.table, self.region.part(POOL, len), units)
+            free_list::count_fitting(&self.table, self.region.part(POOL, len), units)
         } else {
             self.table.units() / units
         }

@@ -18,7 +18,7 @@ pub(crate) struct Table {
     places: [Option<Extent>; SLOTS],
     /// The numbers of the blocks that have units, rising by the place of the block.
     order: ArrayVec<u16, SLOTS>,
-    /// The unit where the first free run begins, `u32::MAX` for none.
+    /// The unit where the first gap begins, `u32::MAX` for none.
     first: u32,
 }
 
@@ -37,7 +37,7 @@ impl Model for Table {
     }) };
 }
 
-/// A table with no block for a pool of `units` units; where the first free run begins is not set yet.
+/// A table with no block for a pool of `units` units; where the first gap begins is not set yet.
 #[tactic(auto, unfolding(crate::specs::inner::Order::no_layout))]
 fn no_blocks(units: usize) -> Table
     requires { units < 2 ^ 31 }
@@ -149,7 +149,7 @@ fn same_order(order: &ArrayVec<u16, SLOTS>) -> ArrayVec<u16, SLOTS>
 }
 
 impl Table {
-    /// A table with no block for a pool of `units` units; where the first free run begins is not set yet.
+    /// A table with no block for a pool of `units` units; where the first gap begins is not set yet.
     pub(crate) fn new(units: usize) -> Table
         requires { units < 2 ^ 31 }
         ensures { result ≡ no_layout units }
@@ -157,7 +157,7 @@ impl Table {
         no_blocks(units)
     }
 
-    /// Another table with the same blocks, the same order, and the same first free run.
+    /// Another table with the same blocks, the same order, and the same first gap.
     pub(crate) fn duplicate(&self) -> Table
         ensures { result ≡ self.now }
     {
@@ -184,14 +184,14 @@ impl Table {
         self.units
     }
 
-    /// The unit where the first free run begins, `u32::MAX` for none.
+    /// The unit where the first gap begins, `u32::MAX` for none.
     pub(crate) fn first(&self) -> u32
         ensures { result ≡ self.now.first }
     {
         self.first
     }
 
-    /// Sets the unit where the first free run begins, `u32::MAX` for none.
+    /// Sets the unit where the first gap begins, `u32::MAX` for none.
     pub(crate) fn set_first(&mut self, first: u32)
         ensures { self.new ≡ record self.old { first = first } }
     {
@@ -259,8 +259,7 @@ impl Table {
         is_clear_but(&self.places, slot, from, units)
     }
 
-    /// Enters a block at `place` under `slot`, a number that has no block. Where the first free run begins is not
-    /// changed.
+    /// Enters a block at `place` under `slot`, a number that has no block. Where the first gap begins is not changed.
     pub(crate) fn put(&mut self, slot: usize, place: Extent)
         requires vacant { (slot < 576) × (get_or self.old.places slot None ≡ None) }
         requires within { place.base + place.units ≤ self.old.units }
@@ -274,7 +273,7 @@ impl Table {
         self.places[slot] = Some(place);
     }
 
-    /// Removes the block with the number `slot`. Where the first free run begins is not changed.
+    /// Removes the block with the number `slot`. Where the first gap begins is not changed.
     pub(crate) fn remove(&mut self, slot: usize)
         requires { (slot < 576) × ((b : _) × (get_or self.old.places slot None ≡ Some b)) }
         ensures places { self.new.places ≡ set self.old.places slot None }

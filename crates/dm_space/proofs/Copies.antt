@@ -1,4 +1,4 @@
--- Runs of places: what is read from one, and what is written to one
+-- Stretches of places: what is read from one, and what is written to one
 use Rattle.std.proofs.Common.{◌≡◌, ℕ, suc, zero, ◌+◌, ◌-◌, ◌*◌, ◌/◌, ◌%◌, ◌<◌, ◌≤◌, Bool, true, false, nat_lt, List, [], ◌∷◌, ◌++◌, Option, None, length, get_or, set, take, drop, replicate, refl, sym, ◌∙◌, ap, subst, arith, inl, inr, get_or-set_same}
 use Rattle.std.proofs.Math.Seq.{take-add}
 use Rattle.std.proofs.lemmas.Bool.{cases_lt}
@@ -15,7 +15,7 @@ use Rattle.dm_space.specs.declared.place.Place.TheVariants.{Low, Page, Rom, Noth
 use Rattle.dm_space.specs.Copies.{values, bytes_read, bytes_written, copied_in, copied_out}
 use Rattle.dm_space.specs.Memory.{Memory, Held, Fits, IsHeld, IsThere, place, peek, poke, byte_at, shown, page_bytes, with_blocks, with_byte}
 use Rattle.dm_space.specs.Rom.{rom}
-use Rattle.dm_space.specs.inner.Runs.{shift, run_bytes, with_run}
+use Rattle.dm_space.specs.inner.SideBySide.{shift, stretch_bytes, with_stretch}
 use Rattle.dm_space.proofs.Places.{peek-place, place-windows, there-place, shown-shift, page-there}
 
 -- lists of values
@@ -71,10 +71,10 @@ cell-same a i k h = elim (cases_lt a (0x4000 * k)) [
   | inr x ↦ grind (arith, nat_tests)
 ]
 
-window-run : (w : List (Option ℕ)) (a i : ℕ) → a % 0x4000 + i < 0x4000 → 0xE0000 ≤ a
+window-stretch : (w : List (Option ℕ)) (a i : ℕ) → a % 0x4000 + i < 0x4000 → 0xE0000 ≤ a
     → shown (slice_index_or w ((a + i - 0xE0000) / 0x4000) None) ((a + i - 0xE0000) % 0x4000)
     ≡ shift (shown (slice_index_or w ((a - 0xE0000) / 0x4000) None) ((a - 0xE0000) % 0x4000)) i
-window-run w a i h high =
+window-stretch w a i h high =
     let d = a - 0xE0000 in
     let x : a + i - 0xE0000 ≡ d + i = omega arith in
     let r : d % 0x4000 ≡ a % 0x4000 = omega arith in
@@ -105,7 +105,7 @@ by-tests m a i h top false false false true f eb ec ed ee ef = rw (
   ec,
   ed,
   ee,
-) (window-run m.windows a i h (grind (arith, nat_tests)))
+) (window-stretch m.windows a i h (grind (arith, nat_tests)))
 by-tests m a i h top false false false false true eb ec ed ee ef = (let low : 0xF0000 ≤ a = grind (arith, nat_tests) in
     rw (
       cell-same a i 0x30 h,
@@ -138,27 +138,28 @@ by-tests m a i h top false false false false false eb ec ed ee ef = (
     ) refl
     )
 
-pub place-run : (m : Memory) (a i : ℕ) → a % 0x4000 + i < 0x4000 → a + i < 0x10FFF0 →
+pub place-stretch : (m : Memory) (a i : ℕ) → a % 0x4000 + i < 0x4000 → a + i < 0x10FFF0 →
     place m (a + i) ≡ shift (place m a) i
-place-run m a i h top = by-tests m a i h top _ _ _ _ _ refl refl refl refl refl
+place-stretch m a i h top = by-tests m a i h top _ _ _ _ _ refl refl refl refl refl
 
 -- the n places from p on are the memory's
 abbrev pub AreThere : Memory → Place → ℕ → Type 0
 AreThere m p n = (i : ℕ) → i < n → IsThere m (shift p i)
 
 -- the n linear addresses from a on have the places from p on
-abbrev pub IsRun : Memory → ℕ → Place → ℕ → Type 0
-IsRun m a p n = (i : ℕ) → i < n → place m (a + i) ≡ shift p i
+abbrev pub IsStretch : Memory → ℕ → Place → ℕ → Type 0
+IsStretch m a p n = (i : ℕ) → i < n → place m (a + i) ≡ shift p i
 
-pub run-there : (m : Memory) (a : ℕ) (p : Place) (n : ℕ) → Fits m → IsRun m a p n → AreThere m p n
-run-there m a p n f r i h = subst (IsThere m) (r i h) (there-place m (a + i) f)
+pub stretch-there : (m : Memory) (a : ℕ) (p : Place) (n : ℕ) → Fits m → IsStretch m a p n → AreThere m p n
+stretch-there m a p n f r i h = subst (IsThere m) (r i h) (there-place m (a + i) f)
 
-pub run-of : (m : Memory) (a : ℕ) (p : Place) (n : ℕ) → place m a ≡ p → a % 0x4000 + n ≤ 0x4000 → a + n ≤ 0x10FFF0 →
-    IsRun m a p n
-run-of m a p n e h top i low = place-run m a i (omega arith) (omega arith) ∙ ap (λ q. shift q i) e
+pub stretch-of : (m : Memory) (a : ℕ) (p : Place) (n : ℕ) → place m a ≡ p → a % 0x4000 + n ≤ 0x4000 → a + n ≤ 0x10FFF0 →
+    IsStretch m a p n
+stretch-of m a p n e h top i low = place-stretch m a i (omega arith) (omega arith) ∙ ap (λ q. shift q i) e
 
-run-peek : (m : Memory) (a : ℕ) (p : Place) (n i : ℕ) → IsRun m a p n → i < n → peek m (a + i) ≡ byte_at m (shift p i)
-run-peek m a p n i r h = peek-place m (a + i) ∙ ap (byte_at m) (r i h)
+stretch-peek : (m : Memory) (a : ℕ) (p : Place) (n i : ℕ) → IsStretch m a p n → i < n →
+    peek m (a + i) ≡ byte_at m (shift p i)
+stretch-peek m a p n i r h = peek-place m (a + i) ∙ ap (byte_at m) (r i h)
 
 pub low-fits : (m : Memory) (b n : ℕ) → 0 < n → AreThere m (Low b) n → b + n ≤ length m.low
 low-fits m b n h t = let last = t (n - 1) (omega arith) in omega (arith, last, h)
@@ -166,14 +167,14 @@ low-fits m b n h t = let last = t (n - 1) (omega arith) in omega (arith, last, h
 pub page-fits : (m : Memory) (p k n : ℕ) → 0 < n → AreThere m (Page p k) n → k + n ≤ length (page_bytes m p)
 page-fits m p k n h t = let last = t (n - 1) (omega arith) in omega (arith, last.1, h)
 
-pub run-read : (m : Memory) (a : ℕ) (p : Place) (n : ℕ) → 0 < n → IsRun m a p n → AreThere m p n →
-    bytes_read m a n ≡ run_bytes m p n
-run-read m a (Low b) n h r t = values-part (peek m) a n m.low b (low-fits m b n h t)
-    (λ i low. run-peek m a (Low b) n i r low)
-run-read m a (Page p k) n h r t = values-part (peek m) a n (page_bytes m p) k (page-fits m p k n h t)
-    (λ i low. run-peek m a (Page p k) n i r low)
-run-read m a (Rom k) n h r t = values-same (peek m) rom a n k (λ i low. run-peek m a (Rom k) n i r low)
-run-read m a Nothing n h r t = values-one (peek m) a n 0xFF (λ i low. run-peek m a Nothing n i r low)
+pub stretch-read : (m : Memory) (a : ℕ) (p : Place) (n : ℕ) → 0 < n → IsStretch m a p n → AreThere m p n →
+    bytes_read m a n ≡ stretch_bytes m p n
+stretch-read m a (Low b) n h r t = values-part (peek m) a n m.low b (low-fits m b n h t)
+    (λ i low. stretch-peek m a (Low b) n i r low)
+stretch-read m a (Page p k) n h r t = values-part (peek m) a n (page_bytes m p) k (page-fits m p k n h t)
+    (λ i low. stretch-peek m a (Page p k) n i r low)
+stretch-read m a (Rom k) n h r t = values-same (peek m) rom a n k (λ i low. stretch-peek m a (Rom k) n i r low)
+stretch-read m a Nothing n h r t = values-one (peek m) a n 0xFF (λ i low. stretch-peek m a Nothing n i r low)
 
 -- what is written
 
@@ -196,7 +197,8 @@ one-more xs vs b v h =
     ap (λ k. take (suc b) (set xs b v) ++ (vs ++ drop k (set xs b v))) e
     ∙ set-part xs vs b v (b + suc (length vs)) h (omega arith)
 
-poke-at : (m : Memory) (a v : ℕ) (p : Place) (n : ℕ) → IsRun m a p n → 0 < n → poke m a v ≡ with_byte m (shift p 0) v
+poke-at : (m : Memory) (a v : ℕ) (p : Place) (n : ℕ) → IsStretch m a p n → 0 < n →
+    poke m a v ≡ with_byte m (shift p 0) v
 unfolding poke
 poke-at m a v p n r h = let e : a ≡ a + 0 = omega arith in ap (λ q. with_byte m q v) (ap (place m) e ∙ r 0 h)
 
@@ -206,24 +208,25 @@ shift-more (Page p k) i = ap (Page p) (omega arith)
 shift-more (Rom k) i = ap Rom (omega arith)
 shift-more Nothing i = refl
 
-run-more : (m t : Memory) (a : ℕ) (p : Place) (n : ℕ) → t.windows ≡ m.windows → IsRun m a p (suc n) →
-    IsRun t (suc a) (shift p 1) n
-run-more m t a p n w r i h =
+stretch-more : (m t : Memory) (a : ℕ) (p : Place) (n : ℕ) → t.windows ≡ m.windows → IsStretch m a p (suc n) →
+    IsStretch t (suc a) (shift p 1) n
+stretch-more m t a p n w r i h =
     let e : suc a + i ≡ a + suc i = omega arith in
     place-windows m t (suc a + i) w ∙ ap (place m) e ∙ r (suc i) (omega arith) ∙ shift-more p i
 
-low-run : (vs : List ℕ) (m : Memory) (a b : ℕ) → IsRun m a (Low b) (length vs) → b + length vs ≤ length m.low →
-    bytes_written m a vs ≡ with_run m (Low b) (length vs) vs
-low-run [] m a b r fits = ap (λ (l : List ℕ). record m { low = l }) (sym (none-written m.low b))
-low-run (v ∷ vs) m a b r fits =
+low-stretch : (vs : List ℕ) (m : Memory) (a b : ℕ) → IsStretch m a (Low b) (length vs) → b + length vs ≤ length m.low →
+    bytes_written m a vs ≡ with_stretch m (Low b) (length vs) vs
+low-stretch [] m a b r fits = ap (λ (l : List ℕ). record m { low = l }) (sym (none-written m.low b))
+low-stretch (v ∷ vs) m a b r fits =
     let t : Memory = record m { low = set m.low b v } in
     let here : b + 0 ≡ b = omega arith in
     let next : b + 1 ≡ suc b = omega arith in
     let first : poke m a v ≡ t = poke-at m a v (Low b) (suc (length vs)) r (omega arith)
     ∙ ap (λ k. with_byte m (Low k) v) here in
-    let run = subst (λ k. IsRun t (suc a) (Low k) (length vs)) next (run-more m t a (Low b) (length vs) refl r) in
+    let stretch = subst (λ k. IsStretch t (suc a) (Low k) (length vs)) next (stretch-more m t a (Low b)
+    (length vs) refl r) in
     ap (λ (x : Memory). bytes_written x (suc a) vs) first
-    ∙ low-run vs t (suc a) (suc b) run (omega (arith, length-set m.low b v, fits))
+    ∙ low-stretch vs t (suc a) (suc b) stretch (omega (arith, length-set m.low b v, fits))
     ∙ ap (λ (l : List ℕ). record m { low = l }) (one-more m.low vs b v (omega (arith, fits)))
 
 pub same-content : (cs : List (List ℕ)) (p : ℕ) → set cs p (get_or cs p []) ≡ cs
@@ -234,13 +237,14 @@ same-content (c ∷ cs) (suc p) = ap (λ l. c ∷ l) (same-content cs p)
 with_contents : Memory → List (List ℕ) → Memory
 with_contents m cs = with_blocks m (record m.blocks { contents = cs })
 
-page-run : (vs : List ℕ) (m : Memory) (a p k : ℕ) → IsRun m a (Page p k) (length vs) → p < length m.blocks.contents →
-    k + length vs ≤ length (page_bytes m p) → bytes_written m a vs ≡ with_run m (Page p k) (length vs) vs
+page-stretch : (vs : List ℕ) (m : Memory) (a p k : ℕ) → IsStretch m a (Page p k) (length vs) →
+    p < length m.blocks.contents →
+    k + length vs ≤ length (page_bytes m p) → bytes_written m a vs ≡ with_stretch m (Page p k) (length vs) vs
 unfolding with_contents
-page-run [] m a p k r live fits =
+page-stretch [] m a p k r live fits =
     ap (with_contents m) (sym (ap (set m.blocks.contents p) (none-written (page_bytes m p) k)
     ∙ same-content m.blocks.contents p))
-page-run (v ∷ vs) m a p k r live fits =
+page-stretch (v ∷ vs) m a p k r live fits =
     let xs = page_bytes m p in
     let cs = m.blocks.contents in
     let t : Memory = with_blocks m (with_content m.blocks p (set xs k v)) in
@@ -249,9 +253,10 @@ page-run (v ∷ vs) m a p k r live fits =
     let page : page_bytes t p ≡ set xs k v = get_or-set_same cs p (set xs k v) [] live in
     let first : poke m a v ≡ t = poke-at m a v (Page p k) (suc (length vs)) r (omega arith)
     ∙ ap (λ j. with_byte m (Page p j) v) here in
-    let run = subst (λ j. IsRun t (suc a) (Page p j) (length vs)) next (run-more m t a (Page p k) (length vs) refl r) in
+    let stretch = subst (λ j. IsStretch t (suc a) (Page p j) (length vs)) next (stretch-more m t a (Page p k)
+    (length vs) refl r) in
     ap (λ (x : Memory). bytes_written x (suc a) vs) first
-    ∙ page-run vs t (suc a) p (suc k) run (omega (arith, length-set cs p (set xs k v), live)) (omega (
+    ∙ page-stretch vs t (suc a) p (suc k) stretch (omega (arith, length-set cs p (set xs k v), live)) (omega (
       arith,
       ap length page,
       length-set xs k v,
@@ -261,49 +266,54 @@ page-run (v ∷ vs) m a p k r live fits =
     ∙ ap (with_contents m) (set_twice cs p (set xs k v) (with_part (set xs k v) (suc k) (length vs) vs))
     ∙ ap (λ (ys : List ℕ). with_contents m (set cs p ys)) (one-more xs vs k v (omega (arith, fits)))
 
-rom-run : (vs : List ℕ) (m : Memory) (a k : ℕ) → IsRun m a (Rom k) (length vs) → bytes_written m a vs ≡ m
-rom-run [] m a k r = refl
-rom-run (v ∷ vs) m a k r =
+rom-stretch : (vs : List ℕ) (m : Memory) (a k : ℕ) → IsStretch m a (Rom k) (length vs) → bytes_written m a vs ≡ m
+rom-stretch [] m a k r = refl
+rom-stretch (v ∷ vs) m a k r =
     ap (λ (x : Memory). bytes_written x (suc a) vs) (poke-at m a v (Rom k) (suc (length vs)) r (omega arith))
-    ∙ rom-run vs m (suc a) (k + 1) (run-more m m a (Rom k) (length vs) refl r)
+    ∙ rom-stretch vs m (suc a) (k + 1) (stretch-more m m a (Rom k) (length vs) refl r)
 
-nothing-run : (vs : List ℕ) (m : Memory) (a : ℕ) → IsRun m a Nothing (length vs) → bytes_written m a vs ≡ m
-nothing-run [] m a r = refl
-nothing-run (v ∷ vs) m a r =
+nothing-stretch : (vs : List ℕ) (m : Memory) (a : ℕ) → IsStretch m a Nothing (length vs) → bytes_written m a vs ≡ m
+nothing-stretch [] m a r = refl
+nothing-stretch (v ∷ vs) m a r =
     ap (λ (x : Memory). bytes_written x (suc a) vs) (poke-at m a v Nothing (suc (length vs)) r (omega arith))
-    ∙ nothing-run vs m (suc a) (run-more m m a Nothing (length vs) refl r)
+    ∙ nothing-stretch vs m (suc a) (stretch-more m m a Nothing (length vs) refl r)
 
-pub run-written : (vs : List ℕ) (m : Memory) (a : ℕ) (p : Place) → 0 < length vs → IsRun m a p (length vs) →
-    AreThere m p (length vs) → bytes_written m a vs ≡ with_run m p (length vs) vs
-run-written vs m a (Low b) h r t = low-run vs m a b r (low-fits m b (length vs) h t)
-run-written vs m a (Page p k) h r t = (let fits = page-fits m p k (length vs) h t in
-    page-run vs m a p k r (page-there m.blocks.contents p 0 (omega (arith, fits, h))) fits)
-run-written vs m a (Rom k) h r t = rom-run vs m a k r
-run-written vs m a Nothing h r t = nothing-run vs m a r
+pub stretch-written : (vs : List ℕ) (m : Memory) (a : ℕ) (p : Place) → 0 < length vs → IsStretch m a p (length vs) →
+    AreThere m p (length vs) → bytes_written m a vs ≡ with_stretch m p (length vs) vs
+stretch-written vs m a (Low b) h r t = low-stretch vs m a b r (low-fits m b (length vs) h t)
+stretch-written vs m a (Page p k) h r t = (let fits = page-fits m p k (length vs) h t in
+    page-stretch vs m a p k r (page-there m.blocks.contents p 0 (omega (arith, fits, h))) fits)
+stretch-written vs m a (Rom k) h r t = rom-stretch vs m a k r
+stretch-written vs m a Nothing h r t = nothing-stretch vs m a r
 
--- what is read of a run, or written to it, in the words of a copy
+-- what is read of a stretch, or written to it, in the words of a copy
 
 module _ (h : Held) (a n : ℕ) (p : Place) (is : IsHeld h) (at-p : place h.memory a ≡ p) (some : 0
     < n) (cell : a % 0x4000 + n ≤ 0x4000) (top : a + n ≤ 0x10FFF0) where
-  runs : IsRun h.memory a p n
-  runs = run-of h.memory a p n at-p cell top
+  stretches : IsStretch h.memory a p n
+  stretches = stretch-of h.memory a p n at-p cell top
 
   pub all-there : AreThere h.memory p n
-  all-there = run-there h.memory a p n is.fits runs
+  all-there = stretch-there h.memory a p n is.fits stretches
 
-  pub in-run : (at : ℕ) → record h { scratch = with_part h.scratch at n (run_bytes h.memory p n) } ≡ copied_in h a at n
-  in-run at = ap (λ (xs : List ℕ). record h { scratch = with_part h.scratch at n xs })
-      (sym (run-read h.memory a p n some runs all-there))
+  pub in-stretch : (at : ℕ) → record h { scratch = with_part h.scratch at n (stretch_bytes h.memory p n) }
+      ≡ copied_in h a at n
+  in-stretch at = ap (λ (xs : List ℕ). record h { scratch = with_part h.scratch at n xs })
+      (sym (stretch-read h.memory a p n some stretches all-there))
 
-  pub out-run : (at : ℕ) → at + n ≤ length h.scratch → record h { memory = with_run h.memory p n (part h.scratch at n) }
+  pub out-stretch : (at : ℕ) → at + n ≤ length h.scratch → record h {
+    memory =
+        with_stretch h.memory p n (part h.scratch at n);
+  }
       ≡ copied_out h at a n
-  out-run at fits =
+  out-stretch at fits =
       let vs = part h.scratch at n in
       let long : length vs ≡ n = part_length h.scratch at n fits in
       let back : n ≡ length vs = sym long in
-      let done = run-written vs h.memory a p (omega (arith, some, long)) (subst (IsRun h.memory a p) back runs)
+      let done = stretch-written vs h.memory a p (omega (arith, some, long)) (subst
+      (IsStretch h.memory a p) back stretches)
       (subst (AreThere h.memory p) back all-there) in
-      ap (λ (m : Memory). record h { memory = m }) (sym (done ∙ ap (λ k. with_run h.memory p k vs) long))
+      ap (λ (m : Memory). record h { memory = m }) (sym (done ∙ ap (λ k. with_stretch h.memory p k vs) long))
 
 pub rom-fits : (m : Memory) (k n : ℕ) → 0 < n → AreThere m (Rom k) n → k + n ≤ 0x10000
 rom-fits m k n h t = let last = t (n - 1) (omega arith) in omega (arith, last, h)

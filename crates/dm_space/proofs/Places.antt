@@ -9,7 +9,7 @@ use Rattle.dm_space.specs.declared.place.Place.TheVariants.{Low, Page, Rom, Noth
 use Rattle.dm_space.specs.Memory.{Memory, IsPage, Fits, IsThere, linear, place, peek, poke, shown, byte_at, with_byte, page_bytes}
 use Rattle.dm_space.specs.Places.{IsWritable, IsShaped}
 use Rattle.dm_space.specs.inner.Places.{IsPoked}
-use Rattle.dm_space.specs.inner.Runs.{shift}
+use Rattle.dm_space.specs.inner.SideBySide.{shift}
 
 -- the byte that a read gives is the one at the place
 pub peek-place : (m : Memory) (a : ℕ) → peek m a ≡ byte_at m (place m a)

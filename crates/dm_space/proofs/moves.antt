@@ -1,5 +1,5 @@
 pub mod Some
 pub mod Inside
-pub mod Runs
+pub mod Stretches
 pub mod Shapes
 pub mod Meets

@@ -2,6 +2,6 @@
 pub mod EightBytes
 pub mod Memory
 pub mod Places
-pub mod Runs
 pub mod Shifts
+pub mod SideBySide
 pub mod Stretches

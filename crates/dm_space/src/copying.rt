@@ -11,20 +11,20 @@ use dm_pool::{Block, Part};
 
 /// How many of the `left` bytes from a linear address on come before the next multiple of 4000h, and so lie in one part
 /// of the map.
-fn run_len(linear: usize, left: usize) -> usize
+fn stretch_len(linear: usize, left: usize) -> usize
     requires { 0 < left }
     ensures some { 0 < result }
     ensures left { result ≤ left }
-    ensures run { linear % 0x4000 + result ≤ 0x4000 }
+    ensures stretch { linear % 0x4000 + result ≤ 0x4000 }
 {
     (WINDOW - linear % WINDOW).min(left)
 }
 
 impl Space {
     /// Does what [`Space::copy_in`] does, for bytes that lie in one part of the map.
-    fn copy_run_in(&mut self, linear: usize, at: usize, len: usize)
+    fn copy_stretch_in(&mut self, linear: usize, at: usize, len: usize)
         requires some { 0 < len }
-        requires run { linear % 0x4000 + len ≤ 0x4000 }
+        requires stretch { linear % 0x4000 + len ≤ 0x4000 }
         requires addresses { linear + len ≤ 0x10FFF0 }
         requires scratch { at + len ≤ 0x200000 }
         ensures { self.new ≡ copied_in self.old linear at len }
@@ -42,9 +42,9 @@ impl Space {
     }
 
     /// Does what [`Space::copy_out`] does, for addresses that lie in one part of the map.
-    fn copy_run_out(&mut self, at: usize, linear: usize, len: usize)
+    fn copy_stretch_out(&mut self, at: usize, linear: usize, len: usize)
         requires some { 0 < len }
-        requires run { linear % 0x4000 + len ≤ 0x4000 }
+        requires stretch { linear % 0x4000 + len ≤ 0x4000 }
         requires addresses { linear + len ≤ 0x10FFF0 }
         requires scratch { at + len ≤ 0x200000 }
         ensures { self.new ≡ copied_out self.old at linear len }
@@ -70,9 +70,9 @@ impl Space {
         let _sizes = self.a20();
         let mut done = 0;
         while done < len {
-            let run = run_len(linear + done, len - done);
-            self.copy_run_in(linear + done, at + done, run);
-            done += run;
+            let count = stretch_len(linear + done, len - done);
+            self.copy_stretch_in(linear + done, at + done, count);
+            done += count;
         }
     }
 
@@ -86,9 +86,9 @@ impl Space {
         let _sizes = self.a20();
         let mut done = 0;
         while done < len {
-            let run = run_len(linear + done, len - done);
-            self.copy_run_out(at + done, linear + done, run);
-            done += run;
+            let count = stretch_len(linear + done, len - done);
+            self.copy_stretch_out(at + done, linear + done, count);
+            done += count;
         }
     }
 

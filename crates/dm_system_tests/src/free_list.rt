@@ -19,7 +19,7 @@ fn pool(store: &Store) -> Option<&[u8]> {
     }
 }
 
-/// The first eight bytes of a unit of the pool, where a free run keeps its length and the unit of the next one; zeros
+/// The first eight bytes of a unit of the pool, where a gap keeps its length and the unit of the next one; zeros
 /// before the pool is in use.
 fn beginning(store: &Store, unit: usize) -> [u8; 8] {
     let mut bytes = [0; 8];
@@ -48,11 +48,11 @@ fn base_of(store: &Store, block: Option<Block>) -> Option<usize> {
     }
 }
 
-/// What the last free run has in place of the next one's unit.
+/// What the last gap has in place of the next one's unit.
 const NO_UNIT: [u8; 4] = [0xFF; 4];
 
-/// Compares the run at a unit with its length and the next one's unit.
-fn has_run(rt: &impl Abort, what: &str, store: &Store, unit: usize, len: u8, next: [u8; 4]) {
+/// Compares the gap at a unit with its length and the next one's unit.
+fn has_gap(rt: &impl Abort, what: &str, store: &Store, unit: usize, len: u8, next: [u8; 4]) {
     let wanted = [len, 0, 0, 0, next[0], next[1], next[2], next[3]];
     same(rt, what, beginning(store, unit), wanted);
 }
@@ -67,25 +67,25 @@ fn free_bytes_tell_the_gaps(rt: HostRuntime) -> Result<(), Fail> {
     let mut store = Store::new(rt.alloc(), sizes)?;
     same(&rt, "a new pool", store.free_list().in_use, false);
     let first = store.take(1);
-    has_run(&rt, "one run of three units", &store, 1, 3, NO_UNIT);
-    same(&rt, "the first run", store.free_list().first, 1);
+    has_gap(&rt, "one gap of three units", &store, 1, 3, NO_UNIT);
+    same(&rt, "the first gap", store.free_list().first, 1);
     give(&mut store, first);
-    has_run(&rt, "one run of four units", &store, 0, 4, NO_UNIT);
+    has_gap(&rt, "one gap of four units", &store, 0, 4, NO_UNIT);
     let _first = store.take(1);
     let second = store.take(1);
     let third = store.take(1);
     let fourth = store.take(1);
     give(&mut store, second);
-    has_run(&rt, "a run of one unit", &store, 1, 1, NO_UNIT);
+    has_gap(&rt, "a gap of one unit", &store, 1, 1, NO_UNIT);
     give(&mut store, fourth);
-    has_run(&rt, "the next run is at unit 3", &store, 1, 1, [3, 0, 0, 0]);
-    has_run(&rt, "the last run", &store, 3, 1, NO_UNIT);
+    has_gap(&rt, "the next gap is at unit 3", &store, 1, 1, [3, 0, 0, 0]);
+    has_gap(&rt, "the last gap", &store, 3, 1, NO_UNIT);
     give(&mut store, third);
-    has_run(&rt, "three units are one run", &store, 1, 3, NO_UNIT);
+    has_gap(&rt, "three units are one gap", &store, 1, 3, NO_UNIT);
     let two = store.take(2);
     same(&rt, "units 1 and 2", base_of(&store, two), Some(1));
-    has_run(&rt, "zeros", &store, 1, 0, [0; 4]);
-    has_run(&rt, "the run that is left", &store, 3, 1, NO_UNIT);
+    has_gap(&rt, "zeros", &store, 1, 0, [0; 4]);
+    has_gap(&rt, "the gap that is left", &store, 3, 1, NO_UNIT);
     same(&rt, "no more two units", store.take(2).is_none(), true);
     let one = store.take(1);
     same(&rt, "unit 3", base_of(&store, one), Some(3));

@@ -9,7 +9,7 @@ use Rattle.std.proofs.lemmas.Option.{none-some}
 use Rattle.dm_pool.specs.declared.extent.Extent.{Extent}
 use Rattle.dm_pool.specs.Blocks.{Blocks, taken, placed}
 use Rattle.dm_pool.specs.FreeList.{AreBased}
-use Rattle.dm_pool.specs.Gaps.{Run, gaps, lowest, largest, first_fit, first_empty, next_index}
+use Rattle.dm_pool.specs.Gaps.{Gap, gaps, lowest, largest, first_fit, first_empty, next_index}
 use Rattle.dm_pool.proofs.Gaps.{fit_is_lowest}
 use Rattle.dm_pool.proofs.Maximal.{gaps_are}
 use Rattle.dm_pool.proofs.Told.{lowest_zero}
@@ -27,13 +27,13 @@ use Rattle.dm_xms.proofs.Consistent.{set_at, taken_new, not_live, allocated}
 
 -- ---- where no gap holds a block, each gap is smaller
 
-smaller : (g : Run) (gs : List Run) (u : ℕ) (b : Bool) → nat_le u g.size ≡ b → (first_fit gs u ≡ None →
+smaller : (g : Gap) (gs : List Gap) (u : ℕ) (b : Bool) → nat_le u g.size ≡ b → (first_fit gs u ≡ None →
     largest gs < u) → cond b (Some g.low) (first_fit gs u) ≡ None → max g.size (largest gs) < u
 smaller g gs u true e rest none = absurd (none-some g.low (sym none))
 smaller g gs u false e rest none = let le = rest none in let lt : g.size < u = grind (arith, nat_tests, e) in
     omega (arith, le, lt)
 
-none_fits : (gs : List Run) (u : ℕ) → 0 < u → first_fit gs u ≡ None → largest gs < u
+none_fits : (gs : List Gap) (u : ℕ) → 0 < u → first_fit gs u ≡ None → largest gs < u
 none_fits [] u pos none = omega (arith, pos)
 none_fits (g ∷ gs) u pos none = smaller g gs u (nat_le u g.size) refl (none_fits gs u pos) none
 

@@ -4,11 +4,11 @@ use Rattle.std.specs.Prelude.{if◌then◌else◌, slice_index_or}
 use Rattle.std.proofs.lemmas.Option.{none-some, same_Some}
 use Rattle.std.proofs.lemmas.Bool.{cases_lt, cases_eq, eq-eqb, ne_eqb}
 use Rattle.dm_pool.specs.declared.extent.Extent.{Extent}
-use Rattle.dm_pool.specs.Gaps.{Run, overlaps, is_clear, first_fit, gaps, lowest}
+use Rattle.dm_pool.specs.Gaps.{Gap, overlaps, is_clear, first_fit, gaps, lowest}
 use Rattle.dm_pool.specs.inner.Gaps.{AreGaps, IsCovered}
 use Rattle.dm_pool.specs.FreeList.{AreBased}
 use Rattle.dm_pool.proofs.Gaps.{hits, before, after, covered, clear, fit_is_lowest}
-use Rattle.dm_pool.proofs.FreeRuns.{lowered}
+use Rattle.dm_pool.proofs.WrittenGaps.{lowered}
 use Rattle.dm_pool.proofs.Maximal.{gaps_are, gaps_are_one}
 use Rattle.dm_xms.specs.declared.tables.Upper.{Upper}
 use Rattle.dm_xms.specs.inner.Tables.{Rise}
@@ -75,7 +75,7 @@ free_up_to bs k l h each = clear bs k (l - k) by
     by i b lt at = away b (each i b at)
 
 -- a gap in front of those behind it
-in_front : (bs : List (Option Extent)) (n k l : ℕ) (gs : List Run) → k < l → l ≤ n → is_clear bs k (l - k) ≡ true →
+in_front : (bs : List (Option Extent)) (n k l : ℕ) (gs : List Gap) → k < l → l ≤ n → is_clear bs k (l - k) ≡ true →
     (l < n → IsCovered bs l) → AreGaps bs n l gs → AreGaps bs n k (record { low = k; size = l - k } ∷ gs)
 in_front bs n k l gs h m free cover are =
     let e : l ≡ k + (l - k) = omega (arith, h) in (
@@ -88,7 +88,7 @@ in_front bs n k l gs h m free cover are =
       subst (λ z. AreGaps bs n z gs) e are,
     )
 
-front : (bs : List (Option Extent)) (n k l : ℕ) (gs : List Run) → k ≤ l → l ≤ n → is_clear bs k (l - k) ≡ true →
+front : (bs : List (Option Extent)) (n k l : ℕ) (gs : List Gap) → k ≤ l → l ≤ n → is_clear bs k (l - k) ≡ true →
     (l < n → IsCovered bs l) → AreGaps bs n l gs → AreGaps bs n k (with_gap k l gs)
 front bs n k l gs h m free cover are = elim (cases_eq k l) [
   | inl e ↦

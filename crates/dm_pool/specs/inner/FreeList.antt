@@ -3,12 +3,12 @@ use Rattle.std.specs.Prelude.{ℕ, ◌+◌, ◌-◌, ◌*◌, ◌<◌, ◌≤◌
 use Rattle.dm_region.specs.Parts.{part}
 use Rattle.dm_pool.specs.declared.extent.Extent.{Extent}
 use Rattle.dm_pool.specs.Blocks.{IsPool}
-use Rattle.dm_pool.specs.Gaps.{Run, is_clear}
+use Rattle.dm_pool.specs.Gaps.{Gap, is_clear}
 use Rattle.dm_pool.specs.inner.Gaps.{AreGaps}
 use Rattle.dm_pool.specs.FreeList.{Spells, AreBased}
 
--- the N bytes from byte P of the pool on touch none of the first 8 bytes of any of the runs
-abbrev pub Away : ℕ → ℕ → List Run → Type 0
+-- the N bytes from byte P of the pool on touch none of the first 8 bytes of any of the gaps
+abbrev pub Away : ℕ → ℕ → List Gap → Type 0
 Away P N [] = Unit {0}
 Away P N (g ∷ gs) = ((g.low * 1024 + 8 ≤ P) ⊎ (P + N ≤ g.low * 1024)) × Away P N gs
 
@@ -26,9 +26,9 @@ pub record IsBelow (places : List (Option Extent)) (end : ℕ) (b : Extent) : Ty
 -- the bytes xs of a pool list its gaps from the unit `from` on, and the first of these begins at the unit `first`,
 -- FFFFFFFFh if there is none
 pub record Tells (places : List (Option Extent)) (units from first : ℕ) (xs : List ℕ) : Type 0 where
-  pub runs : List Run
-  pub gaps : AreGaps places units from runs
-  pub told : Spells xs first runs
+  pub listed : List Gap
+  pub gaps : AreGaps places units from listed
+  pub told : Spells xs first listed
 
 -- a pool whose free bytes list all its gaps, the first of which begins at the unit `first`, FFFFFFFFh if there is none
 pub record IsTold (units : ℕ) (places : List (Option Extent)) (bytes : List ℕ) (first : ℕ) : Type 0 where

@@ -6,7 +6,7 @@ use Rattle.dm_pool.specs.FreeList.{AreBased}
 use Rattle.dm_pool.specs.inner.FreeList.{Tells}
 
 -- a table: the units of the pool, the places of the blocks by number, the numbers of those that have units as they lie,
--- and the unit where the first free run begins (FFFFFFFFh for none)
+-- and the unit where the first gap begins (FFFFFFFFh for none)
 pub record Layout : Type 0 where
   pub units : ℕ
   pub places : List (Option Extent)
@@ -38,7 +38,7 @@ pub record IsTable (l : Layout) : Type 0 where
   pub based : AreBased l.places
   pub order : IsOrder l.places l.order
 
--- a table with no block, for a pool of `units` units; where its first free run begins is not set yet
+-- a table with no block, for a pool of `units` units; where its first gap begins is not set yet
 unfoldable pub no_layout : ℕ → Layout
 no_layout units = record { units = units; places = replicate 576 None; order = []; first = 0xFFFFFFFF }
 
@@ -48,7 +48,7 @@ pub record IsCut (places : List (Option Extent)) (order : List ℕ) (rest end : 
   pub lower : (p : ℕ) (b : Extent) → p < rest → IsNth places order p b → b.base + b.units ≤ end
   pub upper : (p : ℕ) (b : Extent) → rest ≤ p → p < length order → IsNth places order p b → end ≤ b.base
 
--- the pool has 1 KiB for each unit of the table, and its free bytes list the gaps from the table's first free run on
+-- the pool has 1 KiB for each unit of the table, and its free bytes list the gaps from the table's first gap on
 pub record IsToldIn (l : Layout) (bytes : List ℕ) : Type 0 where
   pub whole : length bytes ≡ l.units * 1024
   pub tells : Tells l.places l.units 0 l.first bytes

@@ -7,7 +7,7 @@ use Rattle.std.proofs.lemmas.List.{get_or-set_other}
 use Rattle.std.proofs.lemmas.List.Sums.{sum_by-cons, count_by-le-length}
 use Rattle.std.proofs.lemmas.Option.{none-some, same_Some}
 use Rattle.dm_pool.specs.declared.extent.Extent.{Extent}
-use Rattle.dm_pool.proofs.FreeRuns.{below_length}
+use Rattle.dm_pool.proofs.WrittenGaps.{below_length}
 use Rattle.dm_ems.specs.declared.tables.Page.{Page}
 use Rattle.dm_ems.specs.Tables.{expanded}
 use Rattle.dm_ems.specs.inner.Consistent as expanded_memory

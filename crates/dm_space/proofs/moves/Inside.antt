@@ -5,8 +5,8 @@ use Rattle.dm_pool.specs.declared.extent.Extent.{Extent}
 use Rattle.dm_pool.specs.Blocks.{IsLive}
 use Rattle.dm_space.specs.Memory.{Memory, IsPage, page_bytes}
 use Rattle.dm_space.specs.Places.{IsShaped}
-use Rattle.dm_space.specs.inner.Runs.{shift}
-use Rattle.dm_space.proofs.Copies.{place-run}
+use Rattle.dm_space.specs.inner.SideBySide.{shift}
+use Rattle.dm_space.proofs.Copies.{place-stretch}
 use Rattle.dm_space.specs.declared.moves.spans.SpanKind.{SpanKind}
 use Rattle.dm_space.specs.declared.moves.spans.SpanKind.TheVariants.{Linear, Pages, Single}
 use Rattle.dm_space.specs.moves.Spans.{Span, place_by_kind, place_in, IsWithin, IsInside}
@@ -81,20 +81,21 @@ single-of m r n i e = subst (Of m r n) e i.within
 
 -- ---- places side by side
 
-spot-run : (m : Memory) (kind : SpanKind) (blocks : List ℕ) (a i : ℕ) → a % 0x4000 + i < 0x4000 →
+spot-stretch : (m : Memory) (kind : SpanKind) (blocks : List ℕ) (a i : ℕ) → a % 0x4000 + i < 0x4000 →
     IsWithin m kind blocks (a + i + 1) → place_by_kind m kind blocks (a + i) ≡ shift (place_by_kind m kind blocks a) i
-spot-run m Linear blocks a i h w = place-run m a i h (omega (arith, w))
-spot-run m Pages blocks a i h w =
+spot-stretch m Linear blocks a i h w = place-stretch m a i h (omega (arith, w))
+spot-stretch m Pages blocks a i h w =
     let q : (a + i) / 0x4000 ≡ a / 0x4000 = omega arith in
     let r : (a + i) % 0x4000 ≡ a % 0x4000 + i = omega arith in
     rw (q, r) refl
-spot-run m Single blocks a i h w = refl
+spot-stretch m Single blocks a i h w = refl
 
-pub place-in-run : (m : Memory) (r : Span) (k n i : ℕ) → IsInside m r (k + n) → (r.start + k) % 0x4000 + n ≤ 0x4000 →
+pub place-in-stretch : (m : Memory) (r : Span) (k n i : ℕ) → IsInside m r (k + n) →
+    (r.start + k) % 0x4000 + n ≤ 0x4000 →
     i < n → place_in m r (k + i) ≡ shift (place_in m r k) i
-place-in-run m r k n i inside cell h =
+place-in-stretch m r k n i inside cell h =
     let e : r.start + (k + i) ≡ r.start + k + i = omega arith in
     let top : r.start + k + i + 1 ≤ r.start + (k + n) = omega arith in
     ap (place_by_kind m r.kind r.blocks) e
-    ∙ spot-run m r.kind r.blocks (r.start + k) i (omega arith) (within-less m r.kind r.blocks (r.start + k + i + 1)
+    ∙ spot-stretch m r.kind r.blocks (r.start + k) i (omega arith) (within-less m r.kind r.blocks (r.start + k + i + 1)
     (r.start + (k + n)) top inside.within)

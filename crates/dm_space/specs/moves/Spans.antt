@@ -9,7 +9,7 @@ use Rattle.dm_space.specs.Copies.{values}
 use Rattle.dm_space.specs.declared.moves.spans.SpanKind.{SpanKind}
 use Rattle.dm_space.specs.declared.moves.spans.SpanKind.TheVariants.{Linear, Pages, Single}
 
--- a run of bytes: what it lies in, and where it begins; how many bytes it has is given where it is used
+-- a stretch of bytes: what it lies in, and where it begins; how many bytes it has is given where it is used
 pub record Span : Type 0 where
   pub kind : SpanKind
   -- where it begins: a linear address; a byte of the pages, counted from the first one on; a byte of the one block

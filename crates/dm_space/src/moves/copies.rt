@@ -9,21 +9,21 @@ use crate::moves::spans::{PAGE, Span, SpanKind};
 
 /// How many of the next `left` bytes of a span come before the next multiple of 4000h: their places lie side by side.
 /// `at` is where the first of them stands, as [`Span::at`] counts.
-pub(crate) fn run_len(at: usize, left: usize) -> usize
+pub(crate) fn stretch_len(at: usize, left: usize) -> usize
     requires { 0 < left }
     ensures some { 0 < result }
     ensures left { result ≤ left }
-    ensures run { at % 0x4000 + result ≤ 0x4000 }
+    ensures stretch { at % 0x4000 + result ≤ 0x4000 }
 {
     (PAGE - at % PAGE).min(left)
 }
 
 /// Copies `len` bytes of a span, from its byte `k` on, into the scratch bytes from `at` on. The bytes lie between two
 /// multiples of 4000h. The memory and the other scratch bytes stay.
-fn read_run(space: &mut Space, span: &Span<'_>, k: usize, at: usize, len: usize)
+fn read_stretch(space: &mut Space, span: &Span<'_>, k: usize, at: usize, len: usize)
     requires inside { IsInside space.old.memory span.now (k + len) }
     requires some { 0 < len }
-    requires run { (span.now.start + k) % 0x4000 + len ≤ 0x4000 }
+    requires stretch { (span.now.start + k) % 0x4000 + len ≤ 0x4000 }
     requires scratch { at + len ≤ 0x200000 }
     ensures { space.new ≡ read_in space.old span.now k at len }
 {
@@ -38,10 +38,10 @@ fn read_run(space: &mut Space, span: &Span<'_>, k: usize, at: usize, len: usize)
 
 /// Writes `len` scratch bytes from `at` on to a span, from its byte `k` on, upwards. The bytes written lie between two
 /// multiples of 4000h. The scratch bytes stay.
-fn write_run(space: &mut Space, span: &Span<'_>, k: usize, at: usize, len: usize)
+fn write_stretch(space: &mut Space, span: &Span<'_>, k: usize, at: usize, len: usize)
     requires inside { IsInside space.old.memory span.now (k + len) }
     requires some { 0 < len }
-    requires run { (span.now.start + k) % 0x4000 + len ≤ 0x4000 }
+    requires stretch { (span.now.start + k) % 0x4000 + len ≤ 0x4000 }
     requires scratch { at + len ≤ 0x200000 }
     ensures { space.new ≡ written_out space.old span.now k at len }
 {
@@ -64,9 +64,9 @@ fn read(space: &mut Space, span: &Span<'_>, at: usize, len: usize)
     let _sizes = space.a20();
     let mut done = 0;
     while done < len {
-        let run = run_len(span.at(done), len - done);
-        read_run(space, span, done, at + done, run);
-        done += run;
+        let count = stretch_len(span.at(done), len - done);
+        read_stretch(space, span, done, at + done, count);
+        done += count;
     }
 }
 
@@ -79,9 +79,9 @@ fn write(space: &mut Space, at: usize, span: &Span<'_>, len: usize)
     let _sizes = space.a20();
     let mut done = 0;
     while done < len {
-        let run = run_len(span.at(done), len - done);
-        write_run(space, span, done, at + done, run);
-        done += run;
+        let count = stretch_len(span.at(done), len - done);
+        write_stretch(space, span, done, at + done, count);
+        done += count;
     }
 }
 

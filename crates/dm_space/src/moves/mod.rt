@@ -2,7 +2,7 @@
 //! 57h alone two spans are also exchanged, or tested for an overlap.
 //!
 //! A span is read whole into the scratch bytes of the space before a byte of another is written; `move_blocks` does
-//! without them. Bytes are copied by runs, whose places lie side by side.
+//! without them. Bytes are copied by stretches, whose places lie side by side.
 
 mod buffers;
 mod copies;

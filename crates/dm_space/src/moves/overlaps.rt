@@ -2,11 +2,11 @@
 //! 57h).
 
 ghost use Rattle.std.specs.Prelude.{◌≡◌, ◌==◌, ◌+◌, ◌<◌};
-ghost use Rattle.dm_space.specs.inner.Runs.{shift};
+ghost use Rattle.dm_space.specs.inner.SideBySide.{shift};
 ghost use Rattle.dm_space.specs.moves.Overlaps.{is_shared, any_two, overlap};
 ghost use Rattle.dm_space.specs.moves.Spans.{place_in, IsInside};
 
-use crate::moves::copies::run_len;
+use crate::moves::copies::stretch_len;
 use crate::moves::spans::Span;
 use crate::{Place, Space};
 
@@ -21,7 +21,7 @@ fn meet(a: usize, n: usize, b: usize, l: usize) -> bool
 
 /// Whether the `n` places side by side from `p` on and the `l` places from `q` on have one in common that is memory or
 /// ROM.
-fn runs_meet(p: Place, n: usize, q: Place, l: usize) -> bool
+fn stretches_meet(p: Place, n: usize, q: Place, l: usize) -> bool
     requires n { 0 < n }
     requires l { 0 < l }
     ensures { result ≡ any_two n l (λ i j. is_shared (shift p i) (shift q j)) }
@@ -63,18 +63,18 @@ fn runs_meet(p: Place, n: usize, q: Place, l: usize) -> bool
 
 /// Whether the `n` places side by side from `p` on and the first `len` bytes of a span share a place that is memory or
 /// ROM.
-fn run_meets(space: &Space, p: &Place, n: usize, span: &Span<'_>, len: usize) -> bool
+fn stretch_meets(space: &Space, p: &Place, n: usize, span: &Span<'_>, len: usize) -> bool
     requires n { 0 < n }
     requires inside { IsInside space.now.memory span.now len }
     ensures { result ≡ any_two n len (λ i j. is_shared (shift p.now i) (place_in space.now.memory span.now j)) }
 {
     let mut done = 0;
     while done < len {
-        let run = run_len(span.at(done), len - done);
-        if runs_meet(*p, n, span.place(space, done), run) {
+        let count = stretch_len(span.at(done), len - done);
+        if stretches_meet(*p, n, span.place(space, done), count) {
             return true;
         }
-        done += run;
+        done += count;
     }
     false
 }
@@ -88,11 +88,11 @@ pub fn overlap(space: &Space, from: &Span<'_>, to: &Span<'_>, len: usize) -> boo
 {
     let mut done = 0;
     while done < len {
-        let run = run_len(from.at(done), len - done);
-        if run_meets(space, &from.place(space, done), run, to, len) {
+        let count = stretch_len(from.at(done), len - done);
+        if stretch_meets(space, &from.place(space, done), count, to, len) {
             return true;
         }
-        done += run;
+        done += count;
     }
     false
 }

@@ -1,4 +1,4 @@
-//! Spans: runs of bytes at linear addresses, in pages of expanded memory, or in one block.
+//! Spans: stretches of bytes at linear addresses, in pages of expanded memory, or in one block.
 
 ghost use Rattle.std.specs.Prelude.{◌≡◌, ◌+◌, ◌^◌, ◌<◌, ◌∷◌, []};
 ghost use Rattle.dm_space.specs.moves.Spans.{span, place_in, IsInside};

@@ -1,6 +1,6 @@
 use Rattle.std.proofs.Common.{ap, ◌∙◌, arith}
 use Rattle.dm_space.specs.Memory.{Held}
-use Rattle.dm_space.proofs.moves.Runs.{still-inside, exchange-done}
+use Rattle.dm_space.proofs.moves.Stretches.{still-inside, exchange-done}
 use Rattle.dm_space.proofs.moves.copies.exchange_bytes.Goals as goal
 
 pub write-requires-2-clause-inside : goal.write-requires-2-clause-inside

@@ -2,7 +2,7 @@ use Rattle.std.proofs.Common.{◌+◌, ◌∙◌, ap, refl, arith}
 use Rattle.dm_pool.specs.Blocks.{moved_bytes}
 use Rattle.dm_space.specs.Memory.{Held, with_blocks}
 use Rattle.dm_space.proofs.moves.Inside.{single-of}
-use Rattle.dm_space.proofs.moves.Runs.{indexed, blocks-done}
+use Rattle.dm_space.proofs.moves.Stretches.{indexed, blocks-done}
 use Rattle.dm_space.proofs.moves.copies.move_blocks.Goals as goal
 
 pub returns-clause-memory : goal.returns-clause-memory

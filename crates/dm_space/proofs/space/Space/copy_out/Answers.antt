@@ -6,16 +6,17 @@ use Rattle.dm_space.proofs.space.Space.copy_out.Goals as goal
 
 pub loop-done-preserved : goal.loop-done-preserved
 loop-done-preserved c =
-    let done = c.loop-done.done in let run = c.run_len-run.result in
+    let done = c.loop-done.done in let count = c.stretch_len-count.result in
     record {
-      within = omega (arith, c.loop-done.invariant.within, c.run_len-run.ensures.left);
-      copied = c.copy_run_out.ensures ∙ ap (λ (h : Held). copied_out h (c.args.at + done) (c.args.linear + done) run)
+      within = omega (arith, c.loop-done.invariant.within, c.stretch_len-count.ensures.left);
+      copied = c.copy_stretch_out.ensures ∙ ap (λ (h : Held). copied_out h (c.args.at + done)
+          (c.args.linear + done) count)
           c.loop-done.invariant.copied
-          ∙ out-more c.args.self.now c.args.linear c.args.at done run (omega (
+          ∙ out-more c.args.self.now c.args.linear c.args.at done count (omega (
             arith,
             c.requires.scratch,
             c.loop-done.invariant.within,
-            c.run_len-run.ensures.left,
+            c.stretch_len-count.ensures.left,
             c.a20-sizes.ensures.held.scratch_length,
           ));
     }
