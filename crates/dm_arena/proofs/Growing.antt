@@ -1,4 +1,4 @@
--- A block with the run of free blocks after it.
+-- A block with the free blocks right after it.
 use Rattle.std.proofs.Common.{Bool, ◌≡◌, ℕ, ◌<◌, ◌≤◌, true, false, List, [], ◌∷◌, ◌++◌, inl, inr, refl, sym, ◌∙◌, ap, ap₂, subst, arith, append_assoc}
 use Rattle.std.specs.Prelude.{option_to_list}
 use Rattle.dm_space.specs.Memory.{Memory}
@@ -12,7 +12,7 @@ use Rattle.dm_arena.specs.inner.Walks.{Fills, IsReplaceable, IsReplaced, IsGrown
 use Rattle.dm_blocks.specs.Chain.{is_free}
 use Rattle.dm_arena.specs.Blocks.{merge, cut_block, cut_low}
 use Rattle.dm_arena.specs.inner.Blocks.{cut_list}
-use Rattle.dm_arena.specs.Owned.{BlockRunAt, absorb, AllFree, BeginsTaken, is_link_block, resized}
+use Rattle.dm_arena.specs.Owned.{BlockAndFreeAt, absorb, AllFree, BeginsTaken, is_link_block, resized}
 use Rattle.dm_arena.specs.inner.Standing.{AreOutside, IsNew, MaySplit}
 use Rattle.dm_blocks.proofs.Chains.{has_left, has_right, has_either, spells_end, spells_above, spells_below, clear_within}
 use Rattle.dm_arena.proofs.Ends.{fills_above, fills_below}
@@ -104,19 +104,19 @@ module _ (up : Bool) where
     },
   )
 
-  -- the arena L, the block of e in it, and g, which is the block with its run
+  -- the arena L, the block of e in it, and g, which is the block with the free blocks right after it
   module _ (S : Memory) (start : ℕ) (L : List Header) (segment n : ℕ) (e g : ListedHeader) (P K R Q : List Header)
       (a : IsArena S start L) (f : IsFoundAt S L segment e P K) (x : IsGrown up S e K g R Q) (stops : BeginsTaken up Q)
       (other : is_link_block up segment ≡ false) where
     pub is : L ≡ P ++ e.header ∷ (R ++ Q)
     is = f.is ∙ ap (λ X. P ++ e.header ∷ X) x.is
 
-    abbrev pub run_at : BlockRunAt up S start segment
-    run_at = record {
+    abbrev pub with_free : BlockAndFreeAt up S start segment
+    with_free = record {
       list = L;
       before = P;
       block = e.header;
-      run = R;
+      free_after = R;
       after = Q;
       arena = a;
       is = is;
@@ -156,7 +156,7 @@ module _ (up : Bool) where
       ]
     ]
 
-    -- the headers that stay: those that are not within the block with its run
+    -- the headers that stay: those that are not within the block with the free blocks right after it
     pub outside : (t : ℕ) → t ≡ next g.header → AreOutside L e.header.segment t (P ++ e.header ∷ Q)
     outside t ist = record {
       has = λ h w o. (let F : List Header → Type 0 = λ X. HasHeader X h in
@@ -215,10 +215,11 @@ module _ (up : Bool) where
         }
 
         pub resizes : IsClear S (P ++ (cut_list c ++ Q)) → (T : Memory) → IsReplaced S start P Q (cut_list c) T →
-            (r : BlockRunAt up S start segment) × (n ≤ (absorb r.block r.run).size) × Becomes S start (resized r n) T
+            (r : BlockAndFreeAt up S start segment) × (n ≤ (absorb r.block r.free_after).size) × Becomes S start
+            (resized r n) T
         resizes k T r =
             let F : List Header → Type 0 = λ X. Becomes S start (P ++ (X ++ Q)) T in (
-              run_at,
+              with_free,
               (let y = size_is in omega arith),
               subst F list_is (record {
                 clear = k;
@@ -231,11 +232,11 @@ module _ (up : Bool) where
               }),
             )
 
-        pub unresized : (MaySplit S (P ++ e.header ∷ Q) c.second → ⊥) → (r : BlockRunAt up S start segment) ×
-            (n ≤ (absorb r.block r.run).size) × (IsClear S (resized r n) → ⊥)
+        pub unresized : (MaySplit S (P ++ e.header ∷ Q) c.second → ⊥) → (r : BlockAndFreeAt up S start segment) ×
+            (n ≤ (absorb r.block r.free_after).size) × (IsClear S (resized r n) → ⊥)
         unresized m =
             let F : List Header → Type 0 = λ X. IsClear S (P ++ (X ++ Q)) in (
-              run_at,
+              with_free,
               (let y = size_is in omega arith),
               λ k. unclear-cut S P e.header Q c.first c.second fills.0 resized_new m (subst F (sym list_is) k),
             )

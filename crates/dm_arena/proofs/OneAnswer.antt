@@ -6,7 +6,7 @@ use Rattle.dm_arena.specs.declared.refusal.ArenaRefusal.{ArenaRefusal}
 use Rattle.dm_arena.specs.declared.refusal.ArenaRefusal.TheVariants.{Destroyed, Short, NoBlock}
 use Rattle.dm_arena.specs.declared.fit.Strategy.{Strategy}
 use Rattle.dm_blocks.specs.Chain.{first_header, link_header, HasHeader, IsArenaBehind, IsChain, IsClear, IsArena, Becomes, DiffersInHeaders, is_parted}
-use Rattle.dm_arena.specs.Owned.{BlockAt, IsNoBlock, is_link_block, ReleasesOne, ReleasesBoth, freed, Frees, FreeRefused, absorb, AllFree, BeginsTaken, BlockRunAt, resized, Resizes, ResizeRefused, released, ReleaseRefused, Releases}
+use Rattle.dm_arena.specs.Owned.{BlockAt, IsNoBlock, is_link_block, ReleasesOne, ReleasesBoth, freed, Frees, FreeRefused, absorb, AllFree, BeginsTaken, BlockAndFreeAt, resized, Resizes, ResizeRefused, released, ReleaseRefused, Releases}
 use Rattle.dm_blocks.specs.Chain.{is_free}
 use Rattle.dm_arena.specs.Blocks.{in_effect, join, largest, fits, prefers, IsIn, cut_block, cut_low, taken_segment}
 use Rattle.dm_arena.specs.inner.Walks.{Fills}
@@ -167,53 +167,53 @@ module _ (up : Bool) where
   freeing_unique S segment (Err d) (Err e) T U x y =
       (ap (λ (z : ArenaRefusal). Err z) (free_refused_same S segment d e x.1 y.1), x.0 ∙ sym y.0)
 
-  -- the block at a segment with its run
+  -- the block at a segment with the free blocks right after it
   head-free : (r : Header) (Q R X : List Header) → Q ≡ r ∷ X → BeginsTaken up Q → is_free up r ≡ true → ⊥
   head-free r Q R X e t f = (let F : List Header → Type 0 = λ Y. BeginsTaken up Y in let z : is_free up r ≡ false =
       subst F e t in let w : true ≡ false = sym f ∙ z in cc)
 
-  run_unique : (R Q R' Q' : List Header) → R ++ Q ≡ R' ++ Q' → AllFree up R → AllFree up R' → BeginsTaken up Q →
+  free_unique : (R Q R' Q' : List Header) → R ++ Q ≡ R' ++ Q' → AllFree up R → AllFree up R' → BeginsTaken up Q →
       BeginsTaken up Q' → (R ≡ R') × (Q ≡ Q')
-  run_unique [] Q [] Q' e f f' t t' = (refl, e)
-  run_unique [] Q (r ∷ R') Q' e f f' t t' = absurd (head-free r Q [] (R' ++ Q') e t f'.0)
-  run_unique (r ∷ R) Q [] Q' e f f' t t' = absurd (head-free r Q' [] (R ++ Q) (sym e) t' f.0)
-  run_unique (r ∷ R) Q (r' ∷ R') Q' e f f' t t' = (let x = run_unique R Q R' Q' (tail-same _ _ _ _ e) f.1 f'.1 t t' in
+  free_unique [] Q [] Q' e f f' t t' = (refl, e)
+  free_unique [] Q (r ∷ R') Q' e f f' t t' = absurd (head-free r Q [] (R' ++ Q') e t f'.0)
+  free_unique (r ∷ R) Q [] Q' e f f' t t' = absurd (head-free r Q' [] (R ++ Q) (sym e) t' f.0)
+  free_unique (r ∷ R) Q (r' ∷ R') Q' e f f' t t' = (let x = free_unique R Q R' Q' (tail-same _ _ _ _ e) f.1 f'.1 t t' in
       (ap₂ (λ y z. y ∷ z) (head-same _ _ _ _ e) x.0, x.1))
 
-  module _ (S : Memory) (segment : ℕ) (b c : BlockRunAt up S first_header segment) where
-    split : (b.before ≡ c.before) × (b.block ≡ c.block) × (b.run ++ b.after ≡ c.run ++ c.after)
-    split = split_at S b.list c.list b.before b.block (b.run ++ b.after) c.before c.block (c.run
+  module _ (S : Memory) (segment : ℕ) (b c : BlockAndFreeAt up S first_header segment) where
+    split : (b.before ≡ c.before) × (b.block ≡ c.block) × (b.free_after ++ b.after ≡ c.free_after ++ c.after)
+    split = split_at S b.list c.list b.before b.block (b.free_after ++ b.after) c.before c.block (c.free_after
         ++ c.after) segment b.arena c.arena b.is c.is b.at c.at
 
-    runs : (b.run ≡ c.run) × (b.after ≡ c.after)
-    runs = run_unique b.run b.after c.run c.after split.2 b.free c.free b.stops c.stops
+    after-same : (b.free_after ≡ c.free_after) × (b.after ≡ c.after)
+    after-same = free_unique b.free_after b.after c.free_after c.after split.2 b.free c.free b.stops c.stops
 
-    absorbed-same : absorb b.block b.run ≡ absorb c.block c.run
-    absorbed-same = ap₂ (λ x R. absorb x R) split.1 runs.0
+    absorbed-same : absorb b.block b.free_after ≡ absorb c.block c.free_after
+    absorbed-same = ap₂ (λ x R. absorb x R) split.1 after-same.0
 
-    size-same : (absorb b.block b.run).size ≡ (absorb c.block c.run).size
+    size-same : (absorb b.block b.free_after).size ≡ (absorb c.block c.free_after).size
     size-same = ap (λ x. x.size) absorbed-same
 
     resized-same : (n : ℕ) → resized b n ≡ resized c n
     resized-same n = ap₂ (λ P R. P ++ R) split.0 (ap₂ (λ C Q. C
-        ++ Q) (ap₂ (λ o x. cut_low n o x) (ap (λ x. x.owner) split.1) absorbed-same) runs.1)
+        ++ Q) (ap₂ (λ o x. cut_low n o x) (ap (λ x. x.owner) split.1) absorbed-same) after-same.1)
 
-  run_refused : (S : Memory) (segment n : ℕ) (b : BlockRunAt up S first_header segment) →
-      n ≤ (absorb b.block b.run).size → IsClear S (resized b n) → (e : ArenaRefusal) →
+  grown_refused : (S : Memory) (segment n : ℕ) (b : BlockAndFreeAt up S first_header segment) →
+      n ≤ (absorb b.block b.free_after).size → IsClear S (resized b n) → (e : ArenaRefusal) →
       ResizeRefused up S first_header segment n e → ⊥
-  run_refused S segment n b h k Destroyed (inl none) = none b.list b.arena
-  run_refused S segment n b h k Destroyed (inr r) = (let F : List Header → Type 0 = λ X. IsClear S X in
+  grown_refused S segment n b h k Destroyed (inl none) = none b.list b.arena
+  grown_refused S segment n b h k Destroyed (inr r) = (let F : List Header → Type 0 = λ X. IsClear S X in
       r.2 (subst F (resized-same S segment b r.0 n) k))
-  run_refused S segment n b h k (Short most) r = (let x = size-same S segment b r.0 in let y = r.1 in let z = r.2 in
+  grown_refused S segment n b h k (Short most) r = (let x = size-same S segment b r.0 in let y = r.1 in let z = r.2 in
       omega arith)
-  run_refused S segment n b h k NoBlock r = (let F : List Header → Type 0 = λ X. IsNoBlock up X segment in
-      no_block up b.list b.before b.block (b.run ++ b.after) segment b.is b.at b.other
+  grown_refused S segment n b h k NoBlock r = (let F : List Header → Type 0 = λ X. IsNoBlock up X segment in
+      no_block up b.list b.before b.block (b.free_after ++ b.after) segment b.is b.at b.other
       (subst F (arena_unique S first_header r.0 b.list r.1 b.arena) r.2))
 
-  run_none : (S : Memory) (segment n : ℕ) (b : BlockRunAt up S first_header segment) →
+  grown_none : (S : Memory) (segment n : ℕ) (b : BlockAndFreeAt up S first_header segment) →
       ResizeRefused up S first_header segment n NoBlock → ⊥
-  run_none S segment n b r = (let F : List Header → Type 0 = λ X. IsNoBlock up X segment in
-      no_block up b.list b.before b.block (b.run ++ b.after) segment b.is b.at b.other
+  grown_none S segment n b r = (let F : List Header → Type 0 = λ X. IsNoBlock up X segment in
+      no_block up b.list b.before b.block (b.free_after ++ b.after) segment b.is b.at b.other
       (subst F (arena_unique S first_header r.0 b.list r.1 b.arena) r.2))
 
   resize_destroyed_short : (S : Memory) (segment n most : ℕ) → ResizeRefused up S first_header segment n Destroyed →
@@ -225,7 +225,7 @@ module _ (up : Bool) where
   resize_destroyed_none : (S : Memory) (segment n : ℕ) → ResizeRefused up S first_header segment n Destroyed →
       ResizeRefused up S first_header segment n NoBlock → ⊥
   resize_destroyed_none S segment n (inl none) r = none r.0 r.1
-  resize_destroyed_none S segment n (inr d) r = run_none S segment n d.0 r
+  resize_destroyed_none S segment n (inr d) r = grown_none S segment n d.0 r
 
   resize_refused_same : (S : Memory) (segment n : ℕ) (d e : ArenaRefusal) →
       ResizeRefused up S first_header segment n d → ResizeRefused up S first_header segment n e → d ≡ e
@@ -235,9 +235,9 @@ module _ (up : Bool) where
   resize_refused_same S segment n (Short most) Destroyed x y = absurd (resize_destroyed_short S segment n most y x)
   resize_refused_same S segment n (Short most) (Short least) x y = ap (λ (z : ℕ). Short z) (x.1
       ∙ size-same S segment x.0 y.0 ∙ sym y.1)
-  resize_refused_same S segment n (Short most) NoBlock x y = absurd (run_none S segment n x.0 y)
+  resize_refused_same S segment n (Short most) NoBlock x y = absurd (grown_none S segment n x.0 y)
   resize_refused_same S segment n NoBlock Destroyed x y = absurd (resize_destroyed_none S segment n y x)
-  resize_refused_same S segment n NoBlock (Short most) x y = absurd (run_none S segment n y.0 x)
+  resize_refused_same S segment n NoBlock (Short most) x y = absurd (grown_none S segment n y.0 x)
   resize_refused_same S segment n NoBlock NoBlock x y = refl
 
   pub resizing_unique : (S : Memory) (segment n : ℕ) (r q : Result (Unit {0}) ArenaRefusal) (T U : Memory) →
@@ -245,8 +245,8 @@ module _ (up : Bool) where
   resizing_unique S segment n (Ok a) (Ok b) T U x y =
       let F : List Header → Type 0 = λ X. Becomes S first_header X U in
       (refl, becomes_unique S first_header _ T U x.2 (subst F (sym (resized-same S segment x.0 y.0 n)) y.2))
-  resizing_unique S segment n (Ok a) (Err e) T U x y = absurd (run_refused S segment n x.0 x.1 x.2.clear e y.1)
-  resizing_unique S segment n (Err e) (Ok b) T U x y = absurd (run_refused S segment n y.0 y.1 y.2.clear e x.1)
+  resizing_unique S segment n (Ok a) (Err e) T U x y = absurd (grown_refused S segment n x.0 x.1 x.2.clear e y.1)
+  resizing_unique S segment n (Err e) (Ok b) T U x y = absurd (grown_refused S segment n y.0 y.1 y.2.clear e x.1)
   resizing_unique S segment n (Err d) (Err e) T U x y =
       (ap (λ (z : ArenaRefusal). Err z) (resize_refused_same S segment n d e x.1 y.1), x.0 ∙ sym y.0)
 

@@ -12,15 +12,15 @@ use Rattle.dm_blocks.specs.Listing.{Leads, LeadsOn, StandsAfter}
 use Rattle.dm_blocks.proofs.LowPart.{stands-up}
 use Rattle.dm_arena.specs.declared.fit.Strategy.{Strategy}
 use Rattle.dm_arena.specs.declared.fit.Choice.{Choice}
-use Rattle.dm_arena.specs.declared.joined.Run.{Run}
+use Rattle.dm_arena.specs.declared.joined.JoinedBlock.{JoinedBlock}
 use Rattle.dm_arena.specs.declared.survey.Survey.{Survey}
 use Rattle.dm_arena.specs.Blocks.{join, largest, merge}
 use Rattle.dm_arena.specs.inner.Walks.{pick, IsChoosing, IsJoinedFront, IsJoining}
-use Rattle.dm_arena.specs.inner.Survey.{IsRunFront, IsRunOpen, IsJoinedTo, MayJoin, IsSurveying, IsSurvey}
+use Rattle.dm_arena.specs.inner.Survey.{IsJoinedBlock, IsJoiningBlock, IsJoinedTo, MayJoin, IsSurveying, IsSurvey}
 use Rattle.dm_arena.proofs.Reading.{joining_start, joining_more, exit_last, exit_taken, exit_before_taken, next_spelled}
 use Rattle.dm_arena.proofs.Choosing.{met_more, all_block, all_largest, choosing_all, left-all}
 
--- a walk goes on over a run
+-- a walk goes on over adjacent free blocks
 pub proceeds_then : (S : Memory) (h t u v w : ℕ) (l m : Bool) → LeadsOn S h l t → l ≡ false → t ≡ u → LeadsOn S u m v →
     v ≡ w → LeadsOn S h m w
 proceeds_then S h t u v w l m p f e q g = λ P x.
@@ -28,7 +28,7 @@ proceeds_then S h t u v w l m p f e q g = λ P x.
     let there : Leads S [] first_header up.0 u = subst (λ k. Leads S [] first_header up.0 k) e up.1 in
     subst (λ k. StandsAfter S m k) g (q up.0 there))
 
--- whether a run was met
+-- whether adjacent free blocks were met
 pub or_true : (s r b : Bool) → s ≡ true → b ≡ s → b ≡ s || r
 or_true s r b e f = rw (f, e) refl
 
@@ -41,22 +41,22 @@ or_none false = refl
 
 module _ (up : Bool) where
   pub open_start : (S : Memory) (L : List Header) (e : ListedHeader) → (K : List Header) × IsFront S L e K →
-      (K : List Header) × IsRunOpen up S L e false K
+      (K : List Header) × IsJoiningBlock up S L e false K
   unfolding joining_start
   open_start S L e (K, f) = (K, record { joining = (joining_start up S L e (K, f)).1; single = f.is })
 
   pub open_more : (S : Memory) (L : List Header) (e a : ListedHeader) (several : Bool) (K : List Header) →
-      IsRunOpen up S L e several K → e.last ≡ false → is_free up e.header ≡ true → is_free up a.header ≡ true →
+      IsJoiningBlock up S L e several K → e.last ≡ false → is_free up e.header ≡ true → is_free up a.header ≡ true →
       a.header.segment ≡ next e.header → (t : ℕ) → t ≡ next e.header → ((M : List Header) → IsSpelledFrom S t M →
       (N : List Header) × IsFront S M a N) → (N : List Header) ×
-      IsRunOpen up S L (record { header = merge e.header a.header; last = a.last }) true N
+      IsJoiningBlock up S L (record { header = merge e.header a.header; last = a.last }) true N
   open_more S L e a several K o l fe fa there t ist front =
       let m = joining_more up S L e a K o.joining l fe fa there t ist front in
       (m.0, record { joining = m.1; single = tt })
 
   pub close_last : (S : Memory) (L : List Header) (e : ListedHeader) (several : Bool) → e.last ≡ true →
-      (K : List Header) × IsRunOpen up S L e several K → (K : List Header) ×
-      IsRunFront up S L (record { entry = e; several = several }) K
+      (K : List Header) × IsJoiningBlock up S L e several K → (K : List Header) ×
+      IsJoinedBlock up S L (record { listed = e; several = several }) K
   unfolding exit_last
   close_last S L e several l ([], o) = (
     [],
@@ -68,8 +68,8 @@ module _ (up : Bool) where
   close_last S L e several l (c ∷ K, o) = absurd (let x : true ≡ false = sym l ∙ o.joining.last in cc)
 
   pub close_taken : (S : Memory) (L : List Header) (e : ListedHeader) (several : Bool) → is_free up e.header ≡ false →
-      (K : List Header) × IsRunOpen up S L e several K → (K : List Header) ×
-      IsRunFront up S L (record { entry = e; several = several }) K
+      (K : List Header) × IsJoiningBlock up S L e several K → (K : List Header) ×
+      IsJoinedBlock up S L (record { listed = e; several = several }) K
   unfolding exit_taken
   close_taken S L e several f ([], o) = (
     [],
@@ -89,7 +89,11 @@ module _ (up : Bool) where
   pub close_before_taken : (S : Memory) (L : List Header) (e a : ListedHeader) (several : Bool) → e.last ≡ false →
       is_free up e.header ≡ true → is_free up a.header ≡ false → (t : ℕ) → t ≡ next e.header →
       ((M : List Header) → IsSpelledFrom S t M → (N : List Header) × IsFront S M a N) → (K : List Header) ×
-      IsRunOpen up S L e several K → (K : List Header) × IsRunFront up S L (record { entry = e; several = several }) K
+      IsJoiningBlock up S L e several K → (K : List Header) × IsJoinedBlock up S L (record {
+        listed = e;
+        several =
+            several;
+      }) K
   unfolding exit_before_taken
   close_before_taken S L e a several l fe fa t ist front ([], o) = absurd (let x : false ≡ true = sym l
       ∙ o.joining.last in cc)
@@ -101,10 +105,10 @@ module _ (up : Bool) where
     },
   )
 
-  -- a block that is taken is no run
+  -- a block that is taken is joined with no other
   pub taken_front : (S : Memory) (L : List Header) (e : ListedHeader) → is_free up e.header ≡ false →
-      (K : List Header) × IsFront S L e K → (K : List Header) × IsRunFront up S L (record {
-        entry = e;
+      (K : List Header) × IsFront S L e K → (K : List Header) × IsJoinedBlock up S L (record {
+        listed = e;
         several = false;
       }) K
   taken_front S L e f x = close_taken S L e false f (open_start S L e x)
@@ -126,11 +130,11 @@ module _ (up : Bool) where
     };
   }
 
-  may_step : (several run : Bool) (S : Memory) (L : List Header) (from h : ℕ) (K : List Header) (e : ListedHeader)
+  may_step : (several joined : Bool) (S : Memory) (L : List Header) (from h : ℕ) (K : List Header) (e : ListedHeader)
       (N : List Header) (t : ℕ) → MayJoin up several S L from h K → IsSpelledFrom S h K →
-      IsSpelledFrom S first_header L → join up K ≡ e.header ∷ join up N → OnFalse run (K ≡ e.header ∷ N) →
-      MayJoin up (several || run) S L (if several || run then from else t) t N
-  may_step true run S L from h K e N t m k l j s = m
+      IsSpelledFrom S first_header L → join up K ≡ e.header ∷ join up N → OnFalse joined (K ≡ e.header ∷ N) →
+      MayJoin up (several || joined) S L (if several || joined then from else t) t N
+  may_step true joined S L from h K e N t m k l j s = m
   may_step false true S L from h K e N t m k l j s = joined_by false S L from h K m k l
   may_step false false S L from h K e N t m k l j s = (
     refl,
@@ -150,26 +154,27 @@ module _ (up : Bool) where
 
   module _ (S : Memory) (L : List Header) (st : Strategy) (n : ℕ) (several : Bool) (from h : ℕ) (choice : Choice)
       (K : List Header) (c : IsSurveying up S L st n several from h choice K) (l : IsSpelledFrom S first_header L)
-      (r : Run) (N : List Header) (f : IsRunFront up S K r N) (more : Choice) (block : more.block
-      ≡ pick up st n choice.block (option_to_list (Some r.entry.header))) (most : more.largest
-      ≡ max choice.largest (largest up st (option_to_list (Some r.entry.header)))) where
-    pub survey_more : r.entry.last ≡ false → (t u : ℕ) (b : Bool) → t ≡ next r.entry.header → b ≡ several || r.several →
+      (r : JoinedBlock) (N : List Header) (f : IsJoinedBlock up S K r N) (more : Choice) (block : more.block
+      ≡ pick up st n choice.block (option_to_list (Some r.listed.header))) (most : more.largest
+      ≡ max choice.largest (largest up st (option_to_list (Some r.listed.header)))) where
+    pub survey_more : r.listed.last ≡ false → (t u : ℕ) (b : Bool) → t ≡ next r.listed.header →
+        b ≡ several || r.several →
         u ≡ (if b then from else t) → (M : List Header) × IsSurveying up S L st n b u t more M
     unfolding met_more
     survey_more e t u b ist isb isu =
-        let x = met_more up S L st n None h choice K c.choosing r.entry N f.front more block most e t ist in
-        let step = may_step several r.several S L from h K r.entry N t c.joins c.choosing.spelled l f.front.is
+        let x = met_more up S L st n None h choice K c.choosing r.listed N f.front more block most e t ist in
+        let step = may_step several r.several S L from h K r.listed N t c.joins c.choosing.spelled l f.front.is
         f.single in
         let at : MayJoin up b S L (if b then from else t) t N = subst (λ v. MayJoin up v S L (if v then from else
         t) t N) (sym isb) step in
         (N, record { choosing = x.1; joins = subst (λ v. MayJoin up b S L v t N) (sym isu) at })
 
-    pub survey_whole : r.entry.last ≡ true → (s : Survey) → s ≡ record { choice = more; from = from } →
+    pub survey_whole : r.listed.last ≡ true → (s : Survey) → s ≡ record { choice = more; from = from } →
         IsSurvey up S L st n s
     survey_whole e s is = rw is (record {
-      block_is = all_block up S L st n None h choice K c.choosing r.entry N f.front more block most e
+      block_is = all_block up S L st n None h choice K c.choosing r.listed N f.front more block most e
           ∙ ap (pick up st n None) (left-all (join up L));
-      largest_is = all_largest up S L st n None h choice K c.choosing r.entry N f.front more block most e
+      largest_is = all_largest up S L st n None h choice K c.choosing r.listed N f.front more block most e
           ∙ ap (largest up st) (left-all (join up L));
       joined = joined_by several S L from h K c.joins c.choosing.spelled l;
     })

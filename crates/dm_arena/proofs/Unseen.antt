@@ -9,7 +9,7 @@ use Rattle.dm_arena.specs.declared.refusal.ArenaRefusal.TheVariants.{Destroyed, 
 use Rattle.dm_arena.specs.declared.fit.Strategy.{Strategy}
 use Rattle.dm_blocks.specs.Chain.{first_header, link_header, word, IsHeader, Spells, IsChain, IsClear, IsArena, IsArenaBehind, NoArena, NoArenaBehind, Becomes, DiffersInHeaders, next}
 use Rattle.dm_arena.specs.Allocation.{Taking, with_cut, Allocates, AllocateRefused}
-use Rattle.dm_arena.specs.Owned.{BlockAt, Frees, FreeRefused, BlockRunAt, resized, Resizes, ResizeRefused, ReleaseRefused, Releases, released}
+use Rattle.dm_arena.specs.Owned.{BlockAt, Frees, FreeRefused, BlockAndFreeAt, resized, Resizes, ResizeRefused, ReleaseRefused, Releases, released}
 use Rattle.dm_arena.specs.Pair.{Pairing, Planned, IsPair, with_pair, Placed, Pairs, PairRefused}
 use Rattle.dm_arena.specs.Linking.{BecomesLinked, BecomesUnlinked, IsSo, LinkRefused, Links, TellsLinked}
 use Rattle.dm_arena.specs.inner.Unseen.{IgnoresUnseen}
@@ -173,13 +173,13 @@ module _ (up : Bool) where
     other = b.other;
   }
 
-  abbrev run-same : (A B : Memory) → Shows A B → {start segment : ℕ} → BlockRunAt up A start segment →
-      BlockRunAt up B start segment
-  run-same A B v {start} b = record {
+  abbrev block_and_free-same : (A B : Memory) → Shows A B → {start segment : ℕ} → BlockAndFreeAt up A start segment →
+      BlockAndFreeAt up B start segment
+  block_and_free-same A B v {start} b = record {
     list = b.list;
     before = b.before;
     block = b.block;
-    run = b.run;
+    free_after = b.free_after;
     after = b.after;
     arena = arena-same A B v start b.list b.arena;
     is = b.is;
@@ -247,17 +247,17 @@ module _ (up : Bool) where
         ResizeRefused up S first_header segment n e → ResizeRefused up (f S) first_header segment n e
     resize_refused-unseen S segment n Destroyed (inl none) = inl (none-unseen f u S first_header none)
     resize_refused-unseen S segment n Destroyed (inr r) = inr (
-      run-same S (f S) (there f u S) r.0,
+      block_and_free-same S (f S) (there f u S) r.0,
       r.1,
       unclear-unseen f u S (resized r.0 n) r.2,
     )
-    resize_refused-unseen S segment n (Short most) r = (run-same S (f S) (there f u S) r.0, r.1, r.2)
+    resize_refused-unseen S segment n (Short most) r = (block_and_free-same S (f S) (there f u S) r.0, r.1, r.2)
     resize_refused-unseen S segment n NoBlock r = (r.0, arena-same S (f S) (there f u S) first_header r.0 r.1, r.2)
 
     pub resizing-unseen : (S T : Memory) (segment n : ℕ) (r : Result (Unit {0}) ArenaRefusal) →
         Resizes up S segment n r T → Resizes up (f S) segment n r (f T)
     resizing-unseen S T segment n (Ok x) a = (
-      run-same S (f S) (there f u S) a.0,
+      block_and_free-same S (f S) (there f u S) a.0,
       a.1,
       becomes-unseen f u S first_header _ T a.2,
     )

@@ -14,13 +14,13 @@ use Rattle.dm_arena.specs.declared.fit.Strategy.{Strategy}
 abbrev pub merge : Header → Header → Header
 merge b c = record b { size = b.size + (1 + c.size) }
 
--- the list of b and then L, with each run of free blocks joined into one
+-- the list of b and then L, with adjacent free blocks joined into one
 abbrev pub join_after : Bool → Header → List Header → List Header
 join_after upper b [] = b ∷ []
 join_after upper b (c ∷ L) = cond (is_free upper b && is_free upper c) (join_after upper (merge b c) L) (b
     ∷ join_after upper c L)
 
--- the list L with each run of free blocks joined into one
+-- the list L with adjacent free blocks joined into one
 abbrev pub join : Bool → List Header → List Header
 join upper [] = []
 join upper (b ∷ L) = join_after upper b L

@@ -48,56 +48,58 @@ Frees upper S segment (Ok u) T = (b : BlockAt upper S first_header segment) × B
     ++ freed b.block ∷ b.after) T
 Frees upper S segment (Err e) T = (T ≡ S) × FreeRefused upper S first_header segment e
 
--- the header b with the blocks of the run after it taken into its block, by 4Ah; segment and owner stay
+-- the header b with the blocks of the list taken into its block, by 4Ah; segment and owner stay
 abbrev pub absorb : Header → List Header → Header
 absorb b [] = b
 absorb b (c ∷ R) = absorb (merge b c) R
 
--- each block of the list, a run that 4Ah takes in, is free
+-- each block of the list, which 4Ah takes in, is free
 abbrev pub AllFree : Bool → List Header → Type 0
 AllFree upper [] = Unit {0}
 AllFree upper (b ∷ L) = (is_free upper b ≡ true) × AllFree upper L
 
--- the list, which follows such a run, is empty, or its first block is not free
+-- the list, which follows such free blocks, is empty, or its first block is not free
 abbrev pub BeginsTaken : Bool → List Header → Type 0
 BeginsTaken upper [] = Unit {0}
 BeginsTaken upper (b ∷ L) = is_free upper b ≡ false
 
--- for 4Ah: S spells the clear list `list`, in which `block` begins at the segment and isn't the link block; `run` is
--- the run of free blocks after it, and `after` the blocks after that run
-pub record BlockRunAt (upper : Bool) (S : Memory) (start : ℕ) (segment : ℕ) : Type 0 where
+-- for 4Ah: S spells the clear list `list`, in which `block` begins at the segment and isn't the link block;
+-- `free_after` are the free blocks right after it, and `after` the blocks after those
+pub record BlockAndFreeAt (upper : Bool) (S : Memory) (start : ℕ) (segment : ℕ) : Type 0 where
   pub list : List Header
   pub before : List Header
   pub block : Header
-  pub run : List Header
+  pub free_after : List Header
   pub after : List Header
   pub arena : IsArena S start list
-  pub is : list ≡ before ++ block ∷ (run ++ after)
+  pub is : list ≡ before ++ block ∷ (free_after ++ after)
   pub at : block.segment + 1 ≡ segment
   pub other : is_link_block upper segment ≡ false
-  pub free : AllFree upper run
+  pub free : AllFree upper free_after
   pub stops : BeginsTaken upper after
 
--- the new list of function 4Ah: the block with its run cut to n paragraphs at the low end, its owner as before; the
--- rest is free
-abbrev pub resized : {upper : Bool} {S : Memory} {start : ℕ} {segment : ℕ} → BlockRunAt upper S start segment → ℕ →
+-- the new list of function 4Ah: the block with the free blocks right after it cut to n paragraphs at the low end, its
+-- owner as before; the rest is free
+abbrev pub resized : {upper : Bool} {S : Memory} {start : ℕ} {segment : ℕ} → BlockAndFreeAt upper S start segment → ℕ →
     List Header
-resized {upper} {S} {start} {segment} r n = r.before ++ (cut_low n r.block.owner (absorb r.block r.run) ++ r.after)
+resized {upper} {S} {start} {segment} r n = r.before ++ (cut_low n r.block.owner
+    (absorb r.block r.free_after) ++ r.after)
 
 -- why function 4Ah fails: `Destroyed` if S spells no clear list, or the resized list would not be clear; `Short` if
--- the block with its run has only `most` paragraphs, fewer than n; `NoBlock` if no block begins at the segment, or
--- the link block does
+-- the block with the free blocks right after it has only `most` paragraphs, fewer than n; `NoBlock` if no block begins
+-- at the segment, or the link block does
 abbrev pub ResizeRefused : Bool → Memory → ℕ → ℕ → ℕ → ArenaRefusal → Type 0
-ResizeRefused upper S start segment n Destroyed = NoArena S start ⊎ ((r : BlockRunAt upper S start segment) ×
-    (n ≤ (absorb r.block r.run).size) × (IsClear S (resized r n) → ⊥))
-ResizeRefused upper S start segment n (Short most) = (r : BlockRunAt upper S start segment) ×
-    (most ≡ (absorb r.block r.run).size) × (most < n)
+ResizeRefused upper S start segment n Destroyed = NoArena S start ⊎ ((r : BlockAndFreeAt upper S start segment) ×
+    (n ≤ (absorb r.block r.free_after).size) × (IsClear S (resized r n) → ⊥))
+ResizeRefused upper S start segment n (Short most) = (r : BlockAndFreeAt upper S start segment) ×
+    (most ≡ (absorb r.block r.free_after).size) × (most < n)
 ResizeRefused upper S start segment n NoBlock = (L : List Header) × IsArena S start L × IsNoBlock upper L segment
 
 -- function 4Ah: the block that begins at a segment gets n paragraphs, which may be 0, from memory S to memory T, and
 -- the headers of the resized list are all that changes; an error leaves memory unchanged
 abbrev pub Resizes : Bool → Memory → ℕ → ℕ → Result (Unit {0}) ArenaRefusal → Memory → Type 0
-Resizes upper S segment n (Ok u) T = (r : BlockRunAt upper S first_header segment) × (n ≤ (absorb r.block r.run).size) ×
+Resizes upper S segment n (Ok u) T = (r : BlockAndFreeAt upper S first_header segment) × (n ≤
+    (absorb r.block r.free_after).size) ×
     Becomes S first_header (resized r n) T
 Resizes upper S segment n (Err e) T = (T ≡ S) × ResizeRefused upper S first_header segment n e
 

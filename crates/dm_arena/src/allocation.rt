@@ -21,7 +21,7 @@ use dm_space::Space;
 struct Plan {
     cut: Cut,
     segment: u16,
-    /// The segment of a header up to which there is no run of free blocks.
+    /// The segment of a header up to which no free block is followed by another one.
     from: u16,
 }
 
@@ -59,9 +59,9 @@ fn plan_allocation(
     })
 }
 
-/// Writes the first list with runs of free blocks joined, of which there is none before segment `from`, and the headers
-/// of a cut in place of that of the block of the joined list that the cut was made from. Bytes 0 to 4 of the headers of
-/// the new list are all that changes.
+/// Writes the first list with adjacent free blocks joined, of which there are none before segment `from`, and the
+/// headers of a cut in place of that of the block of the joined list that the cut was made from. Bytes 0 to 4 of the
+/// headers of the new list are all that changes.
 fn write_joined(space: &mut Space, cut: Cut, from: u16, upper: bool)
     requires joined { (L : List Header) → IsArena space.old.memory first_header L →
         IsJoinedTo upper space.old.memory L from }
@@ -80,7 +80,7 @@ fn write_joined(space: &mut Space, cut: Cut, from: u16, upper: bool)
 /// Allocates a block of n paragraphs to an owner, and returns the block's segment (MS-DOS Programmer's Reference,
 /// function 48h).
 ///
-/// Runs of free blocks are joined first. Of the free blocks that the strategy looks at, it takes one with at least n
+/// Adjacent free blocks are joined first. Of the free blocks that the strategy looks at, it takes one with at least n
 /// paragraphs. If that block is larger, first and best fit take its low end, last fit its high end; the rest stays
 /// free, with a header of its own. n may be 0.
 ///
@@ -92,7 +92,7 @@ fn write_joined(space: &mut Space, cut: Cut, from: u16, upper: bool)
 /// # Errors
 ///
 /// `Destroyed` where memory spells no clear list; else `Short` where no free block that the strategy looks at is large
-/// enough, with the size of the largest of them once runs of free blocks are joined, 0 if there is none; else
+/// enough, with the size of the largest of them once adjacent free blocks are joined, 0 if there is none; else
 /// `Destroyed` where the new list would not be clear. A call that fails changes no byte.
 pub fn allocate(
     space: &mut Space,

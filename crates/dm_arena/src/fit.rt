@@ -255,11 +255,11 @@ pub(crate) fn choose(
     };
     let mut segment = FIRST;
     'walk: loop {
-        let entry = joined_at(space, segment, upper);
-        choice = meet(strategy, n, choice, left_part(spoken, entry.header), upper);
-        if entry.last {
+        let listed = joined_at(space, segment, upper);
+        choice = meet(strategy, n, choice, left_part(spoken, listed.header), upper);
+        if listed.last {
             return choice;
         }
-        segment = entry.header.next();
+        segment = listed.header.next();
     }
 }

@@ -42,12 +42,18 @@ pub fn link(space: &mut Space, on: bool) -> Result<(), ArenaRefusal>
     if is_linked(space) == on {
         return Ok(());
     }
-    let Some(entry) = before_link(space) else {
+    let Some(listed) = before_link(space) else {
         return Err(ArenaRefusal::Destroyed);
     };
     if on && !has_second(space) {
         return Err(ArenaRefusal::Destroyed);
     }
-    write_header(space, ListedHeader { last: !on, ..entry });
+    write_header(
+        space,
+        ListedHeader {
+            last: !on,
+            ..listed
+        },
+    );
     Ok(())
 }

@@ -14,7 +14,7 @@ use crate::refusal::ArenaRefusal;
 use crate::standing::may_split_outside;
 use dm_blocks::{
     FIRST, Header, LINK, ListedHeader, find, find_low, has_second, is_arena, is_linked,
-    spelled_entry,
+    spelled_header,
 };
 use dm_space::Space;
 
@@ -41,7 +41,7 @@ fn find_owned(space: &Space, segment: u16, upper: bool) -> Result<ListedHeader, 
     if !upper {
         if let Some(found) = find_low(space, segment) {
             return match found {
-                Some(entry) => Ok(entry),
+                Some(listed) => Ok(listed),
                 None => Err(ArenaRefusal::NoBlock),
             };
         }
@@ -50,7 +50,7 @@ fn find_owned(space: &Space, segment: u16, upper: bool) -> Result<ListedHeader, 
         return Err(ArenaRefusal::Destroyed);
     }
     match find_block(space, segment, upper) {
-        Some(entry) => Ok(entry),
+        Some(listed) => Ok(listed),
         None => Err(ArenaRefusal::NoBlock),
     }
 }
@@ -68,32 +68,32 @@ pub fn free(space: &mut Space, segment: u16, upper: bool) -> Result<(), ArenaRef
     ensures memory { Frees upper space.old.memory segment result space.new.memory }
     ensures scratch { space.new.scratch ≡ space.old.scratch }
 {
-    let entry = find_owned(space, segment, upper)?;
+    let listed = find_owned(space, segment, upper)?;
     let cut = Cut {
         first: Header {
             owner: 0,
-            ..entry.header
+            ..listed.header
         },
         second: None,
     };
-    write_cut(space, cut, entry.last);
+    write_cut(space, cut, listed.last);
     Ok(())
 }
 
-/// The header with the run of free blocks after its block taken in, as function 4Ah does before it cuts the block.
-fn grow(space: &Space, entry: ListedHeader, upper: bool) -> ListedHeader
-    requires fits { next entry.header ≤ 0xFFFF }
-    requires growable { (K : List Header) × IsGrowable space.now.memory entry K }
+/// The header with the free blocks right after its block taken in, as function 4Ah does before it cuts the block.
+fn grow(space: &Space, listed: ListedHeader, upper: bool) -> ListedHeader
+    requires fits { next listed.header ≤ 0xFFFF }
+    requires growable { (K : List Header) × IsGrowable space.now.memory listed K }
     ensures fits { next result.header ≤ 0xFFFF }
-    ensures grown { (K : List Header) → IsGrowable space.now.memory entry K → (R : List Header) × (Q : List Header) ×
-        IsGrown upper space.now.memory entry K result R Q × BeginsTaken upper Q }
+    ensures grown { (K : List Header) → IsGrowable space.now.memory listed K → (R : List Header) × (Q : List Header) ×
+        IsGrown upper space.now.memory listed K result R Q × BeginsTaken upper Q }
 {
-    let mut grown = entry;
+    let mut grown = listed;
     'walk: loop {
         if grown.last {
             return grown;
         }
-        let after = spelled_entry(space, grown.header.next());
+        let after = spelled_header(space, grown.header.next());
         if !after.header.is_free(upper) {
             return grown;
         }
@@ -105,7 +105,7 @@ fn grow(space: &Space, entry: ListedHeader, upper: bool) -> ListedHeader
 /// Resizes the block that begins at a segment to n paragraphs, which may be 0 (MS-DOS Programmer's Reference, functions
 /// 4Ah and 31h).
 ///
-/// The block first takes in the run of free blocks after it, then it is cut to n as by first fit: the low end keeps its
+/// The block first takes in the free blocks right after it, then it is cut to n as by first fit: the low end keeps its
 /// owner, what is left is free. Bytes 0 to 4 of the block's header and of the free part's are all that changes. `upper`
 /// says whether upper memory belongs to the arena.
 ///
@@ -158,17 +158,17 @@ fn release(space: &mut Space, first: u16, owner: u16)
 {
     let mut here = first;
     'walk: loop {
-        let entry = spelled_entry(space, here);
-        let header = released_of(entry.header, owner);
+        let listed = spelled_header(space, here);
+        let header = released_of(listed.header, owner);
         let cut = Cut {
             first: header,
             second: None,
         };
-        write_cut(space, cut, entry.last);
-        if entry.last {
+        write_cut(space, cut, listed.last);
+        if listed.last {
             return;
         }
-        here = entry.header.next();
+        here = listed.header.next();
     }
 }
 

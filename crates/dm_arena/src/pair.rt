@@ -128,7 +128,7 @@ fn are_clear(space: &Space, first: Cut, second: Cut, upper: bool) -> bool
 /// Plans two blocks: the first with `environment_paragraphs`, then, of what is left, the second with the smaller of
 /// `most` paragraphs and the largest free block. Nothing is written.
 ///
-/// Both blocks are chosen by the strategy, as by an allocation of each in turn, once runs of free blocks are joined.
+/// Both blocks are chosen by the strategy, as by an allocation of each in turn, once adjacent free blocks are joined.
 /// `upper` says whether upper memory belongs to the arena: then the strategy's area counts where the list is linked,
 /// for the second block also where the first one makes the link block's header.
 ///
@@ -136,8 +136,8 @@ fn are_clear(space: &Space, first: Cut, second: Cut, upper: bool) -> bool
 ///
 /// `Destroyed` where memory spells no clear list; else `Short` where the first block has no room, no free block is left
 /// for the second, or the second would have less than `least` paragraphs, with the size of the largest free block that
-/// the strategy looks at for the first one once runs are joined; else `Destroyed` where the list with both blocks would
-/// not be clear.
+/// the strategy looks at for the first one once free blocks are joined; else `Destroyed` where the list with both blocks
+/// would not be clear.
 pub fn plan_pair(
     space: &Space,
     strategy: Strategy,
@@ -188,7 +188,7 @@ pub fn plan_pair(
     })
 }
 
-/// Writes a planned pair to the first list: joins its runs of free blocks, and writes the headers of the two blocks
+/// Writes a planned pair to the first list: joins its adjacent free blocks, and writes the headers of the two blocks
 /// that are cut, the parts taken owned by the segment of the program's block, the parts left free.
 ///
 /// Memory and setting are as the pair was planned on. Bytes 0 to 4 of the headers of the new list are all that changes.

@@ -15,7 +15,7 @@ ghost use Rattle.dm_blocks.specs.inner.Standing.{Occupies};
 ghost use Rattle.dm_arena.specs.inner.Standing.{AreOutside, IsNew, MaySplit};
 
 use crate::joined::joined_at;
-use dm_blocks::{Header, spelled_entry};
+use dm_blocks::{Header, spelled_header};
 use dm_pool::Block;
 use dm_space::{Place, Space};
 
@@ -53,14 +53,14 @@ fn stands_joined(space: &Space, first: u16, block: Block, offset: usize, upper: 
 {
     let mut segment = first;
     'walk: loop {
-        let entry = joined_at(space, segment, upper);
+        let listed = joined_at(space, segment, upper);
         if is_on(space, segment, block, offset) {
             return true;
         }
-        if entry.last {
+        if listed.last {
             return false;
         }
-        segment = entry.header.next();
+        segment = listed.header.next();
     }
 }
 
@@ -104,14 +104,14 @@ fn stands_outside(
 {
     let mut segment = first;
     'walk: loop {
-        let entry = spelled_entry(space, segment);
+        let listed = spelled_header(space, segment);
         if is_on_outside(space, segment, low, high, block, offset) {
             return true;
         }
-        if entry.last {
+        if listed.last {
             return false;
         }
-        segment = entry.header.next();
+        segment = listed.header.next();
     }
 }
 

@@ -1,16 +1,16 @@
-//! One walk over the list for function 48h: which free block is taken, how large the largest is, and from where on runs
-//! of free blocks are still to be joined.
+//! One walk over the list for function 48h: which free block is taken, how large the largest is, and from where on
+//! adjacent free blocks are still to be joined.
 ghost use Rattle.std.specs.Prelude.{◌≡◌, ◌≤◌, IfSome, List, MatchOption, if◌then◌else◌};
 ghost use Rattle.dm_blocks.specs.declared.header.Header.{Header};
 ghost use Rattle.dm_blocks.specs.Chain.{first_header, next, IsArena, NoArena};
 ghost use Rattle.dm_blocks.specs.Reading.{IsFront, IsSpelledFrom};
 ghost use Rattle.dm_blocks.specs.Listing.{LeadsOn};
 ghost use Rattle.dm_arena.specs.Blocks.{in_effect};
-ghost use Rattle.dm_arena.specs.inner.Survey.{IsRunFront, IsSurvey};
+ghost use Rattle.dm_arena.specs.inner.Survey.{IsJoinedBlock, IsSurvey};
 
 use crate::fit::{Choice, Strategy, in_effect, meet};
-use crate::joined::{Run, run_at};
-use dm_blocks::{FIRST, ListedHeader, is_arena, low_entry, spelled_entry};
+use crate::joined::{JoinedBlock, joined_block_at};
+use dm_blocks::{FIRST, ListedHeader, is_arena, low_header, spelled_header};
 use dm_space::Space;
 
 /// What a walk over the joined list has found.
@@ -24,37 +24,37 @@ pub(crate) struct Survey {
 
 /// A free block with the free blocks after it taken in, in a list of which nothing is known. None where a header that
 /// is read can't be one, or stands at segment C000h or above.
-fn low_run_after(space: &Space, first: ListedHeader, upper: bool) -> Option<Run>
+fn low_joined_after(space: &Space, first: ListedHeader, upper: bool) -> Option<JoinedBlock>
     requires fits { next first.header ≤ 0xFFFF }
     requires front { (L : List Header) → IsSpelledFrom space.now.memory first.header.segment L → (K : List Header) ×
         IsFront space.now.memory L first K }
     requires proceeds { LeadsOn space.now.memory first.header.segment first.last (next first.header) }
-    ensures there { IfSome result (λ r. r.entry.header.segment ≡ first.header.segment) }
-    ensures fits { IfSome result (λ r. next r.entry.header ≤ 0xFFFF) }
+    ensures there { IfSome result (λ r. r.listed.header.segment ≡ first.header.segment) }
+    ensures fits { IfSome result (λ r. next r.listed.header ≤ 0xFFFF) }
     ensures front { IfSome result (λ r. (L : List Header) → IsSpelledFrom space.now.memory first.header.segment L →
-        (K : List Header) × IsRunFront upper space.now.memory L r K) }
-    ensures proceeds { IfSome result (λ r. LeadsOn space.now.memory first.header.segment r.entry.last
-        (next r.entry.header)) }
+        (K : List Header) × IsJoinedBlock upper space.now.memory L r K) }
+    ensures proceeds { IfSome result (λ r. LeadsOn space.now.memory first.header.segment r.listed.last
+        (next r.listed.header)) }
 {
-    let mut entry = first;
+    let mut listed = first;
     let mut several = false;
     loop {
-        if entry.last || !entry.header.is_free(upper) {
-            return Some(Run { entry, several });
+        if listed.last || !listed.header.is_free(upper) {
+            return Some(JoinedBlock { listed, several });
         }
-        let Some(after) = low_entry(space, entry.header.next()) else {
+        let Some(after) = low_header(space, listed.header.next()) else {
             return None;
         };
         if !after.header.is_free(upper) {
-            return Some(Run { entry, several });
+            return Some(JoinedBlock { listed, several });
         }
-        entry.header.size += 1 + after.header.size;
-        entry.last = after.last;
+        listed.header.size += 1 + after.header.size;
+        listed.last = after.last;
         several = true;
     }
 }
 
-/// The segment up to which no run of free blocks is to be joined: `from` if there was one before it, else `segment`.
+/// The segment up to which no free blocks are to be joined: `from` if some before it are, else `segment`.
 #[inline(always)]
 fn next_from(several: bool, from: u16, segment: u16) -> u16
     ensures { result ≡ (if several then from else segment) }
@@ -77,23 +77,23 @@ pub(crate) fn survey_all(space: &Space, strategy: Strategy, n: u16, upper: bool)
     let mut several = false;
     let mut segment = FIRST;
     'walk: loop {
-        let entry = spelled_entry(space, segment);
-        if !entry.header.is_free(upper) {
-            choice = meet(strategy, n, choice, Some(entry.header), upper);
-            if entry.last {
+        let listed = spelled_header(space, segment);
+        if !listed.header.is_free(upper) {
+            choice = meet(strategy, n, choice, Some(listed.header), upper);
+            if listed.last {
                 return Survey { choice, from };
             }
-            segment = entry.header.next();
+            segment = listed.header.next();
             from = next_from(several, from, segment);
             continue 'walk;
         }
-        let run = run_at(space, segment, upper);
-        choice = meet(strategy, n, choice, Some(run.entry.header), upper);
-        if run.entry.last {
+        let joined = joined_block_at(space, segment, upper);
+        choice = meet(strategy, n, choice, Some(joined.listed.header), upper);
+        if joined.listed.last {
             return Survey { choice, from };
         }
-        segment = run.entry.header.next();
-        several = several || run.several;
+        segment = joined.listed.header.next();
+        several = several || joined.several;
         from = next_from(several, from, segment);
     }
 }
@@ -113,27 +113,27 @@ pub(crate) fn survey_low(space: &Space, strategy: Strategy, n: u16, upper: bool)
     let mut several = false;
     let mut segment = FIRST;
     'walk: loop {
-        let Some(entry) = low_entry(space, segment) else {
+        let Some(listed) = low_header(space, segment) else {
             return None;
         };
-        if !entry.header.is_free(upper) {
-            choice = meet(strategy, n, choice, Some(entry.header), upper);
-            if entry.last {
+        if !listed.header.is_free(upper) {
+            choice = meet(strategy, n, choice, Some(listed.header), upper);
+            if listed.last {
                 return Some(Survey { choice, from });
             }
-            segment = entry.header.next();
+            segment = listed.header.next();
             from = next_from(several, from, segment);
             continue 'walk;
         }
-        let Some(run) = low_run_after(space, entry, upper) else {
+        let Some(joined) = low_joined_after(space, listed, upper) else {
             return None;
         };
-        choice = meet(strategy, n, choice, Some(run.entry.header), upper);
-        if run.entry.last {
+        choice = meet(strategy, n, choice, Some(joined.listed.header), upper);
+        if joined.listed.last {
             return Some(Survey { choice, from });
         }
-        segment = run.entry.header.next();
-        several = several || run.several;
+        segment = joined.listed.header.next();
+        several = several || joined.several;
         from = next_from(several, from, segment);
     }
 }

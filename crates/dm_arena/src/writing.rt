@@ -61,30 +61,30 @@ fn set_low_word(space: &mut Space, segment: u16, offset: u16, value: u16)
 
 /// Does what `write_header` does, for a header below segment C000h.
 #[inline(always)]
-fn write_low_header(space: &mut Space, entry: ListedHeader)
-    requires fits { next entry.header ≤ 0xFFFF }
-    requires low { entry.header.segment < 0xC000 }
-    ensures memory { IsHeaderWritten space.old.memory entry.header (signature_byte entry.last) space.new.memory }
+fn write_low_header(space: &mut Space, listed: ListedHeader)
+    requires fits { next listed.header ≤ 0xFFFF }
+    requires low { listed.header.segment < 0xC000 }
+    ensures memory { IsHeaderWritten space.old.memory listed.header (signature_byte listed.last) space.new.memory }
     ensures scratch { space.new.scratch ≡ space.old.scratch }
 {
-    let segment = entry.header.segment;
-    set_low_byte(space, segment, 0, entry.signature());
-    set_low_word(space, segment, 1, entry.header.owner);
-    set_low_word(space, segment, 3, entry.header.size);
+    let segment = listed.header.segment;
+    set_low_byte(space, segment, 0, listed.signature());
+    set_low_word(space, segment, 1, listed.header.owner);
+    set_low_word(space, segment, 3, listed.header.size);
 }
 
 /// Does what `write_header` does, byte by byte, wherever the header stands.
 #[cold]
 #[inline(never)]
-fn write_high_header(space: &mut Space, entry: ListedHeader)
-    requires { next entry.header ≤ 0xFFFF }
-    ensures memory { IsHeaderWritten space.old.memory entry.header (signature_byte entry.last) space.new.memory }
+fn write_high_header(space: &mut Space, listed: ListedHeader)
+    requires { next listed.header ≤ 0xFFFF }
+    ensures memory { IsHeaderWritten space.old.memory listed.header (signature_byte listed.last) space.new.memory }
     ensures scratch { space.new.scratch ≡ space.old.scratch }
 {
-    let segment = entry.header.segment;
-    let owner = entry.header.owner;
-    let size = entry.header.size;
-    set_byte(space, segment, 0, entry.signature());
+    let segment = listed.header.segment;
+    let owner = listed.header.owner;
+    let size = listed.header.size;
+    set_byte(space, segment, 0, listed.signature());
     set_byte(space, segment, 1, (owner % 256) as u8);
     set_byte(space, segment, 2, (owner / 256) as u8);
     set_byte(space, segment, 3, (size % 256) as u8);
@@ -92,38 +92,38 @@ fn write_high_header(space: &mut Space, entry: ListedHeader)
 }
 
 /// Writes a header's five bytes: signature (`Z` if it is marked last, else `M`), owner and size. Nothing else changes.
-pub(crate) fn write_header(space: &mut Space, entry: ListedHeader)
-    requires { next entry.header ≤ 0xFFFF }
-    ensures memory { IsHeaderWritten space.old.memory entry.header (signature_byte entry.last) space.new.memory }
+pub(crate) fn write_header(space: &mut Space, listed: ListedHeader)
+    requires { next listed.header ≤ 0xFFFF }
+    ensures memory { IsHeaderWritten space.old.memory listed.header (signature_byte listed.last) space.new.memory }
     ensures scratch { space.new.scratch ≡ space.old.scratch }
 {
-    if entry.header.segment < END {
-        write_low_header(space, entry);
+    if listed.header.segment < END {
+        write_low_header(space, listed);
     } else {
-        write_high_header(space, entry);
+        write_high_header(space, listed);
     }
 }
 
 /// Whether memory has a header, with its signature, at its segment.
 #[inline(always)]
-fn has_header(space: &Space, entry: ListedHeader) -> bool
-    ensures { OnTrue result (IsHeader space.now.memory entry.header (signature_byte entry.last)) }
+fn has_header(space: &Space, listed: ListedHeader) -> bool
+    ensures { OnTrue result (IsHeader space.now.memory listed.header (signature_byte listed.last)) }
 {
-    let Some(there) = header_at(space, entry.header.segment) else {
+    let Some(there) = header_at(space, listed.header.segment) else {
         return false;
     };
-    there == entry
+    there == listed
 }
 
 /// Does what [`write_header`] does, and writes nothing where memory has the header already.
 #[inline(always)]
-pub(crate) fn put_header(space: &mut Space, entry: ListedHeader)
-    requires { next entry.header ≤ 0xFFFF }
-    ensures memory { IsHeaderWritten space.old.memory entry.header (signature_byte entry.last) space.new.memory }
+pub(crate) fn put_header(space: &mut Space, listed: ListedHeader)
+    requires { next listed.header ≤ 0xFFFF }
+    ensures memory { IsHeaderWritten space.old.memory listed.header (signature_byte listed.last) space.new.memory }
     ensures scratch { space.new.scratch ≡ space.old.scratch }
 {
-    if has_header(space, entry) {
+    if has_header(space, listed) {
         return;
     }
-    write_header(space, entry);
+    write_header(space, listed);
 }

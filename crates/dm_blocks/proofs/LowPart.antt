@@ -8,7 +8,7 @@ use Rattle.dm_blocks.specs.declared.header.Header.{Header}
 use Rattle.dm_blocks.specs.declared.header.ListedHeader.{ListedHeader}
 use Rattle.dm_blocks.specs.Chain.{HasHeader, IsArena, IsHeader, NoArena, first_header, next, signature, signature_byte}
 use Rattle.dm_blocks.specs.Listing.{Follows, Leads, LeadsOn, StandsAfter}
-use Rattle.dm_blocks.specs.Reading.{IsEntryAt}
+use Rattle.dm_blocks.specs.Reading.{IsListedAt}
 use Rattle.dm_blocks.specs.inner.Low.{IsUpTo}
 use Rattle.dm_blocks.specs.inner.Standing.{MayStand}
 use Rattle.dm_blocks.proofs.Occupying.{low-occupied}
@@ -90,7 +90,7 @@ module _ (S : Memory) (P : List Header) (t : ℕ) (u : Leads S [] first_header P
   pub stands : StandsAfter S e.last (next e.header)
   stands = stands-by e.last refl
 
-pub proceeds : (S : Memory) (h : ℕ) (o : Option ListedHeader) → h < 0xC000 → IsEntryAt S h o →
+pub proceeds : (S : Memory) (h : ℕ) (o : Option ListedHeader) → h < 0xC000 → IsListedAt S h o →
     IfSome o (λ e. LeadsOn S h e.last (next e.header))
 proceeds S h None low x = tt
 proceeds S h (Some e) low x = λ P u. stands S P h u low e x.0 x.1

@@ -1,15 +1,15 @@
--- What the functions that read and search headers return: `header_at`, `spelled_entry`, `find` and `before_link`.
+-- What the functions that read and search headers return: `header_at`, `spelled_header`, `find` and `before_link`.
 use Rattle.std.specs.Prelude.{Bool, List, None, Option, Some, [], false, true, ℕ, ◌++◌, ◌+◌, ◌-◌, ◌<◌, ◌∷◌, ◌≡◌, ◌≢◌, ◌≤◌}
 use Rattle.dm_space.specs.Memory.{Memory}
 use Rattle.dm_blocks.specs.declared.header.Header.{Header}
 use Rattle.dm_blocks.specs.declared.header.ListedHeader.{ListedHeader}
 use Rattle.dm_blocks.specs.Chain.{IsHeader, IsNonEmpty, NoBlockAt, Spells, signature_byte, next, signature}
 
--- the entry that is read at segment h: its header, and whether it is signed as the last one; None if no list can have
--- a header there, as the signature is neither `M` nor `Z`, or the segment after the block is over FFFFh
-abbrev pub IsEntryAt : Memory → ℕ → Option ListedHeader → Type 0
-IsEntryAt S h None = (b : Header) (L : List Header) → b.segment ≡ h → IsHeader S b (signature L) → ⊥
-IsEntryAt S h (Some e) = (e.header.segment ≡ h) × IsHeader S e.header (signature_byte e.last)
+-- what is read at segment h: a header, and whether it is signed as the last one; None if no list can have a header
+-- there, as the signature is neither `M` nor `Z`, or the segment after the block is over FFFFh
+abbrev pub IsListedAt : Memory → ℕ → Option ListedHeader → Type 0
+IsListedAt S h None = (b : Header) (L : List Header) → b.segment ≡ h → IsHeader S b (signature L) → ⊥
+IsListedAt S h (Some e) = (e.header.segment ≡ h) × IsHeader S e.header (signature_byte e.last)
 
 -- memory spells the list L from segment h on, and L has a header
 pub record IsSpelledFrom (S : Memory) (h : ℕ) (L : List Header) : Type 0 where

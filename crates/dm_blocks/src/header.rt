@@ -6,7 +6,7 @@ ghost use Rattle.std.specs.Prelude.{◌≡◌, ℕ, ◌+◌, ◌*◌, ◌<◌, �
 ghost use Rattle.dm_blocks.specs.Chain;
 ghost use Rattle.dm_space.specs.Memory.{peek};
 ghost use Rattle.dm_blocks.specs.Chain.{next, word, signature_byte};
-ghost use Rattle.dm_blocks.specs.Reading.{IsEntryAt};
+ghost use Rattle.dm_blocks.specs.Reading.{IsListedAt};
 ghost use Rattle.dm_blocks.specs.inner.Fields.{HasFields};
 
 use crate::list::LINK;
@@ -146,7 +146,7 @@ fn fields_at(space: &Space, segment: u16) -> Fields
 /// `M` nor `Z`, or if the segment after its block would be over FFFFh.
 #[inline(always)]
 pub fn header_at(space: &Space, segment: u16) -> Option<ListedHeader>
-    ensures { IsEntryAt space.now.memory segment result }
+    ensures { IsListedAt space.now.memory segment result }
 {
     let fields = fields_at(space, segment);
     let last = match fields.signature {

@@ -16,6 +16,6 @@ mod low;
 
 pub use header::{Header, ListedHeader, header_at, is_last};
 pub use laws::{chain_is_short, chain_is_unique, walk_is_short};
-pub use list::{FIRST, LINK, before_link, find, has_second, is_arena, is_linked, spelled_entry};
+pub use list::{FIRST, LINK, before_link, find, has_second, is_arena, is_linked, spelled_header};
 pub use listing::{Headers, Met, walk};
-pub use low::{find_low, low_entry};
+pub use low::{find_low, low_header};

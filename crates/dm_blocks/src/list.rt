@@ -20,17 +20,17 @@ pub const LINK: u16 = 0x9FFF;
 /// Reads the header at a segment from which memory spells a list: a step of a walk over a list that is known to be
 /// whole.
 #[inline(always)]
-pub fn spelled_entry(space: &Space, segment: u16) -> ListedHeader
+pub fn spelled_header(space: &Space, segment: u16) -> ListedHeader
     requires { (L : List Header) × IsSpelledFrom space.now.memory segment L }
     ensures there { result.header.segment ≡ segment }
     ensures fits { next result.header ≤ 0xFFFF }
     ensures front { (L : List Header) → IsSpelledFrom space.now.memory segment L → (K : List Header) ×
         IsFront space.now.memory L result K }
 {
-    let Some(entry) = header_at(space, segment) else {
+    let Some(listed) = header_at(space, segment) else {
         unreachable!()
     };
-    entry
+    listed
 }
 
 /// Goes on with a walk to its end, to tell whether its list is whole and clear. With true the walk is past the last
@@ -41,8 +41,8 @@ fn tell_all(headers: &mut Headers<'_>) -> bool
 {
     'walk: loop {
         match headers.advance() {
-            Met::Told(entry) => {
-                if entry.last {
+            Met::Told(listed) => {
+                if listed.last {
                     return true;
                 }
             }
@@ -89,14 +89,14 @@ pub fn find(space: &Space, segment: u16) -> Option<ListedHeader>
 {
     let mut here = FIRST;
     'walk: loop {
-        let entry = spelled_entry(space, here);
+        let listed = spelled_header(space, here);
         if here + 1 == segment {
-            return Some(entry);
+            return Some(listed);
         }
-        if entry.last {
+        if listed.last {
             return None;
         }
-        here = entry.header.next();
+        here = listed.header.next();
     }
 }
 
@@ -117,14 +117,14 @@ pub fn before_link(space: &Space) -> Option<ListedHeader>
 {
     let mut here = FIRST;
     'walk: loop {
-        let entry = spelled_entry(space, here);
-        if entry.header.next() == LINK {
-            return Some(entry);
+        let listed = spelled_header(space, here);
+        if listed.header.next() == LINK {
+            return Some(listed);
         }
-        if entry.last {
+        if listed.last {
             return None;
         }
-        here = entry.header.next();
+        here = listed.header.next();
     }
 }
 
@@ -143,11 +143,11 @@ pub(crate) fn catch_up(space: &Space, cursor: Option<u16>, segment: u16) -> Opti
         if here >= segment {
             return Some(here);
         }
-        let entry = spelled_entry(space, here);
-        moved = if entry.last {
+        let listed = spelled_header(space, here);
+        moved = if listed.last {
             None
         } else {
-            Some(entry.header.next())
+            Some(listed.header.next())
         };
     }
 }

@@ -106,7 +106,7 @@ impl<'a> Headers<'a> {
         let Some(segment) = self.at else {
             return Met::End;
         };
-        let Some(entry) = header_at(self.space, segment) else {
+        let Some(listed) = header_at(self.space, segment) else {
             return Met::Destroyed(segment);
         };
         self.beside = catch_up(self.space, self.beside, segment);
@@ -116,12 +116,12 @@ impl<'a> Headers<'a> {
         if !self.in_frame.admit(self.space, segment) {
             return Met::Destroyed(segment);
         }
-        self.at = if entry.last {
+        self.at = if listed.last {
             None
         } else {
-            Some(entry.header.next())
+            Some(listed.header.next())
         };
-        Met::Told(entry)
+        Met::Told(listed)
     }
 
     /// Starts the walk over the second list, once a walk over the first one has passed its last

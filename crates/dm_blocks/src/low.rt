@@ -35,20 +35,20 @@ pub(crate) fn low_part(space: &Space) -> LowPart
         if here >= END {
             return LowPart::UpTo(here);
         }
-        let Some(entry) = header_at(space, here) else {
+        let Some(listed) = header_at(space, here) else {
             return LowPart::Destroyed;
         };
-        if entry.last {
+        if listed.last {
             return LowPart::Whole;
         }
-        here = entry.header.next();
+        here = listed.header.next();
     }
 }
 
 /// Reads the header at a segment: a step of a walk over the first list that tells at its end whether the list is whole
 /// and clear. None if no header can stand there, or if the segment is C000h or above.
 #[inline(always)]
-pub fn low_entry(space: &Space, segment: u16) -> Option<ListedHeader>
+pub fn low_header(space: &Space, segment: u16) -> Option<ListedHeader>
     ensures there { IfSome result (λ e. e.header.segment ≡ segment) }
     ensures fits { IfSome result (λ e. next e.header ≤ 0xFFFF) }
     ensures front { IfSome result (λ e. (L : List Header) → IsSpelledFrom space.now.memory segment L →
@@ -61,18 +61,18 @@ pub fn low_entry(space: &Space, segment: u16) -> Option<ListedHeader>
     header_at(space, segment)
 }
 
-/// Whether the first list goes on below segment C000h to its end after an entry, and is whole and clear.
-fn is_whole_after(space: &Space, entry: ListedHeader) -> bool
-    requires fits { next entry.header ≤ 0xFFFF }
-    requires stands { StandsAfter space.now.memory entry.last (next entry.header) }
+/// Whether the first list goes on below segment C000h to its end after a header, and is whole and clear.
+fn is_whole_after(space: &Space, listed: ListedHeader) -> bool
+    requires fits { next listed.header ≤ 0xFFFF }
+    requires stands { StandsAfter space.now.memory listed.last (next listed.header) }
     ensures { OnTrue result ((L : List Header) × IsArena space.now.memory first_header L) }
 {
-    let mut passed = entry;
+    let mut passed = listed;
     'walk: loop {
         if passed.last {
             return true;
         }
-        let Some(after) = low_entry(space, passed.header.next()) else {
+        let Some(after) = low_header(space, passed.header.next()) else {
             return false;
         };
         passed = after;
@@ -88,18 +88,18 @@ pub fn find_low(space: &Space, segment: u16) -> Option<Option<ListedHeader>>
 {
     let mut here = FIRST;
     'walk: loop {
-        let Some(entry) = low_entry(space, here) else {
+        let Some(listed) = low_header(space, here) else {
             return None;
         };
         if here + 1 == segment {
-            if is_whole_after(space, entry) {
-                return Some(Some(entry));
+            if is_whole_after(space, listed) {
+                return Some(Some(listed));
             }
             return None;
         }
-        if entry.last {
+        if listed.last {
             return Some(None);
         }
-        here = entry.header.next();
+        here = listed.header.next();
     }
 }

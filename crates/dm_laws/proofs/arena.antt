@@ -1,7 +1,7 @@
 pub mod Within
 pub mod Joins
 pub mod Cuts
-pub mod Runs
+pub mod Absorbed
 pub mod Again
 pub mod Conserved
 pub mod Returned

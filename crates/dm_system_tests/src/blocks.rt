@@ -220,7 +220,7 @@ fn scratch_bytes_come_as_asked_for(rt: HostRuntime) -> Result<(), Fail> {
 }
 
 /// Definitions: dm_pool Blocks Blocks IsAt IsLive no_blocks taken placed zeros without resized new_base at_base fitted
-/// Definitions: dm_pool Gaps is_clear are_free lowest first_empty gaps Run largest free_units count_fitting
+/// Definitions: dm_pool Gaps is_clear are_free lowest first_empty gaps Gap largest free_units count_fitting
 /// Definitions: dm_pool FreeList AreBased
 #[test]
 fn blocks_take_the_lowest_gap(rt: HostRuntime) -> Result<(), Fail> {

@@ -1,4 +1,4 @@
--- One walk for functions 48h and 49h: what it finds in the joined list, and where runs of free blocks begin. For
+-- One walk for functions 48h and 49h: what it finds in the joined list, and where adjacent free blocks begin. For
 -- private contracts and proofs alone.
 use Rattle.std.specs.Prelude.{Bool, List, None, Some, false, true, ℕ, ◌++◌, ◌∷◌, ◌≡◌, ◌≤◌}
 use Rattle.std.specs.Bool.{OnFalse}
@@ -8,7 +8,7 @@ use Rattle.dm_blocks.specs.declared.header.ListedHeader.{ListedHeader}
 use Rattle.dm_blocks.specs.Chain.{first_header, next, IsArena, IsNonEmpty, NoArena}
 use Rattle.dm_blocks.specs.Reading.{IsSpelledFrom}
 use Rattle.dm_arena.specs.declared.fit.Strategy.{Strategy}
-use Rattle.dm_arena.specs.declared.joined.Run.{Run}
+use Rattle.dm_arena.specs.declared.joined.JoinedBlock.{JoinedBlock}
 use Rattle.dm_arena.specs.declared.survey.Survey.{Survey}
 use Rattle.dm_arena.specs.declared.refusal.ArenaRefusal.{ArenaRefusal}
 use Rattle.dm_arena.specs.declared.refusal.ArenaRefusal.TheVariants.{Destroyed, NoBlock, Short}
@@ -18,13 +18,14 @@ use Rattle.dm_arena.specs.inner.Walks.{FindsOther, IsChoosing, IsJoinedFront, Is
 
 -- r is the first block of the joined list of L, and K the headers of L after it; if r is one block, L is its header and
 -- K
-pub record IsRunFront (upper : Bool) (S : Memory) (L : List Header) (r : Run) (K : List Header) : Type 0 where
-  pub front : IsJoinedFront upper S L r.entry K
-  pub single : OnFalse r.several (L ≡ r.entry.header ∷ K)
+pub record IsJoinedBlock (upper : Bool) (S : Memory) (L : List Header) (r : JoinedBlock)
+    (K : List Header) : Type 0 where
+  pub front : IsJoinedFront upper S L r.listed K
+  pub single : OnFalse r.several (L ≡ r.listed.header ∷ K)
 
 -- e is the first block of L with the free blocks after it taken in so far, and K the headers that are left; if none is
 -- taken in, L is the header of e and K
-pub record IsRunOpen (upper : Bool) (S : Memory) (L : List Header) (e : ListedHeader) (several : Bool)
+pub record IsJoiningBlock (upper : Bool) (S : Memory) (L : List Header) (e : ListedHeader) (several : Bool)
     (K : List Header) : Type 0 where
   pub joining : IsJoining upper S L e K
   pub single : OnFalse several (L ≡ e.header ∷ K)
@@ -36,21 +37,23 @@ pub record IsJoinedTo (upper : Bool) (S : Memory) (L : List Header) (from : ℕ)
   pub nonempty : IsNonEmpty rest
   pub joining : IsJoiningAll upper S first_header L S from done rest
 
--- while a walk over L stands at segment h, with the headers K left: with `several` it has met a run of free blocks, and
--- the first one is at segment `from`; else `from` is h, and the headers that it has passed are those of the joined list
+-- while a walk over L stands at segment h, with the headers K left: with `several` it has met adjacent free blocks, and
+-- the first ones are at segment `from`; else `from` is h, and the headers that it has passed are those of the joined
+-- list
 abbrev pub MayJoin : Bool → Bool → Memory → List Header → ℕ → ℕ → List Header → Type 0
 MayJoin upper true S L from h K = IsJoinedTo upper S L from
 MayJoin upper false S L from h K = (from ≡ h) × ((done : List Header) × (L ≡ done ++ K) ×
     (join upper L ≡ done ++ join upper K))
 
--- a walk over L stands at segment h, with the headers K left: its choice so far, and whether and where runs begin
+-- a walk over L stands at segment h, with the headers K left: its choice so far, and whether and where adjacent free
+-- blocks begin
 pub record IsSurveying (upper : Bool) (S : Memory) (L : List Header) (strategy : Strategy) (n : ℕ) (several : Bool)
     (from h : ℕ) (choice : Choice) (K : List Header) : Type 0 where
   pub choosing : IsChoosing upper S L strategy n None h choice K
   pub joins : MayJoin upper several S L from h K
 
 -- what a walk over L finds: the block that the strategy takes for n paragraphs, the size of the largest that it looks
--- at, and a segment up to which no run of free blocks is to be joined
+-- at, and a segment up to which no free blocks are to be joined
 pub record IsSurvey (upper : Bool) (S : Memory) (L : List Header) (strategy : Strategy) (n : ℕ)
     (s : Survey) : Type 0 where
   pub block_is : s.choice.block ≡ pick upper strategy n None (join upper L)

@@ -27,7 +27,7 @@ pub record IsHeaderWritten (S : Memory) (b : Header) (signature : ℕ) (T : Memo
   pub written : IsWritable (place S (16 * b.segment)) → IsHeader T b signature
   pub kept : (p : Place) → ((k : ℕ) → k < 5 → p ≢ place S (16 * b.segment + k)) → byte_at T p ≡ byte_at S p
 
--- e is the first block of L once runs of free blocks are joined, and K the headers of L after it
+-- e is the first block of L once adjacent free blocks are joined, and K the headers of L after it
 pub record IsJoinedFront (upper : Bool) (S : Memory) (L : List Header) (e : ListedHeader)
     (K : List Header) : Type 0 where
   pub is : join upper L ≡ e.header ∷ join upper K
@@ -177,7 +177,7 @@ pub record IsReleasing (S : Memory) (start : ℕ) (owner : ℕ) (L : List Header
   pub differs : DiffersInHeaders S (released owner P) T
 
 -- the result of a search, for 49h and 4Ah, for the block that begins at the segment: None if there is none, or if it is
--- the link block; else its entry
+-- the link block; else its header, and whether it is the last one
 abbrev pub FindsOther : Bool → Memory → ℕ → ℕ → Option ListedHeader → Type 0
 FindsOther upper S start segment None = (L : List Header) → IsSpelledFrom S start L → IsNoBlock upper L segment
 FindsOther upper S start segment (Some e) =

@@ -8,10 +8,10 @@ use Rattle.dm_blocks.proofs.Chains.{clear_map, spells_end}
 use Rattle.dm_arena.specs.declared.fit.Strategy.{Strategy}
 use Rattle.dm_arena.specs.Allocation.{Taking, with_cut}
 use Rattle.dm_arena.specs.Blocks.{IsIn, cut_block, cut_low, in_effect}
-use Rattle.dm_arena.specs.Owned.{BlockRunAt, absorb, freed, resized}
+use Rattle.dm_arena.specs.Owned.{BlockAndFreeAt, absorb, freed, resized}
 use Rattle.dm_arena.proofs.Allocating.{fits_size, in_middle}
 use Rattle.dm_arena.specs.declared.fit.Fit.TheVariants.{First}
-use Rattle.dm_laws.proofs.arena.Runs.{absorb-cover, absorb-segment, all_free, paragraphs-absorb}
+use Rattle.dm_laws.proofs.arena.Absorbed.{absorb-cover, absorb-segment, all_free, paragraphs-absorb}
 use Rattle.dm_laws.specs.arena.Conservation.{Allocated, AllocationConservesBlocks, FreeingConservesBlocks, Resized, ResizingConservesBlocks}
 use Rattle.dm_laws.specs.arena.Paragraphs.{paragraphs_taken}
 use Rattle.dm_laws.proofs.arena.Within.{in_either, in_left, in_replaced, in_right, paragraphs-replaced}
@@ -98,15 +98,16 @@ freeing_conserves up S T segment x =
     }
 
 -- 4Ah
-module _ (up : Bool) (S T : Memory) (segment n : ℕ) (r : BlockRunAt up S first_header segment) (h : n
-    ≤ (absorb r.block r.run).size) (b : Becomes S first_header (resized r n) T) where
-  resized_cut : IsCut n r.block.owner (absorb r.block r.run) (taken First n r.block.owner (absorb r.block r.run))
-      (cut_low n r.block.owner (absorb r.block r.run))
-  resized_cut = cut-is First n r.block.owner (absorb r.block r.run) h
+module _ (up : Bool) (S T : Memory) (segment n : ℕ) (r : BlockAndFreeAt up S first_header segment) (h : n
+    ≤ (absorb r.block r.free_after).size) (b : Becomes S first_header (resized r n) T) where
+  resized_cut : IsCut n r.block.owner (absorb r.block r.free_after) (taken First n r.block.owner
+      (absorb r.block r.free_after))
+      (cut_low n r.block.owner (absorb r.block r.free_after))
+  resized_cut = cut-is First n r.block.owner (absorb r.block r.free_after) h
 
   resizes : Resized up S T segment n
   resizes =
-      let whole : Header = absorb r.block r.run in
+      let whole : Header = absorb r.block r.free_after in
       let new : Header = taken First n r.block.owner whole in
       let C : List Header = cut_low n r.block.owner whole in
       let F : Header → List Header → Type 0 = λ d X. IsIn d X in
@@ -115,8 +116,8 @@ module _ (up : Bool) (S T : Memory) (segment n : ℕ) (r : BlockRunAt up S first
         segment = s;
         owner = r.block.owner;
         size = n;
-      }) (absorb-segment r.block r.run) in
-      let spelled : Spells S first_header (r.before ++ r.block ∷ (r.run ++ r.after)) =
+      }) (absorb-segment r.block r.free_after) in
+      let spelled : Spells S first_header (r.before ++ r.block ∷ (r.free_after ++ r.after)) =
       (let H : List Header → Type 0 = λ X. Spells S first_header X in subst H r.is r.arena.0.1) in
       record {
         old = r.list;
@@ -124,34 +125,36 @@ module _ (up : Bool) (S T : Memory) (segment n : ℕ) (r : BlockRunAt up S first
         block = r.block;
         spelled = r.arena;
         becomes = becomes_arena S T (resized r n) b;
-        end = paragraphs-replaced r.before C (r.block ∷ r.run) r.after (cut-paragraphs n r.block.owner whole new C
-            resized_cut ∙ paragraphs-absorb r.block r.run) ∙ ap paragraphs_taken (sym r.is);
-        there = subst (F r.block) (sym r.is) (in_middle r.before r.block (r.run ++ r.after));
+        end = paragraphs-replaced r.before C (r.block ∷ r.free_after) r.after
+            (cut-paragraphs n r.block.owner whole new C
+            resized_cut ∙ paragraphs-absorb r.block r.free_after) ∙ ap paragraphs_taken (sym r.is);
+        there = subst (F r.block) (sym r.is) (in_middle r.before r.block (r.free_after ++ r.after));
         at = r.at;
         sized = subst G same (in_right r.before (C ++ r.after) new (in_left C r.after new
             (cut-there n r.block.owner whole new C resized_cut)));
-        free = λ p g. elim (absorb-cover up S r.block r.run r.after (spells_end S first_header r.before r.block (r.run
+        free = λ p g. elim (absorb-cover up S r.block r.free_after r.after
+            (spells_end S first_header r.before r.block (r.free_after
             ++ r.after) spelled).2 r.free p (cut-within n r.block.owner whole new C resized_cut p
             (part-of p _ _ (sym same) g))) [
               | inl x ↦ inl x
               | inr x ↦ inr (record {
                 block = x.block;
-                there = subst (F x.block) (sym r.is) (in_right r.before (r.block ∷ (r.run ++ r.after)) x.block
-                    (inr (in_left r.run r.after x.block x.there)));
+                there = subst (F x.block) (sym r.is) (in_right r.before (r.block ∷ (r.free_after ++ r.after)) x.block
+                    (inr (in_left r.free_after r.after x.block x.there)));
                 free = x.free;
                 part = x.part;
               })
             ];
-        kept = λ d i s u. in_replaced r.before C (r.block ∷ r.run) r.after d
+        kept = λ d i s u. in_replaced r.before C (r.block ∷ r.free_after) r.after d
             (λ j. elim j [
               | inl q ↦ absurd (s (ap (λ z. z.segment) q))
               | inr z ↦
-                  absurd (not-both _ (all_free up r.run d r.free z) u)
+                  absurd (not-both _ (all_free up r.free_after d r.free z) u)
             ])
             (subst (F d) r.is i);
-        others = λ d i s o. subst (F d) (sym r.is) (in_replaced r.before (r.block ∷ r.run) C r.after d
+        others = λ d i s o. subst (F d) (sym r.is) (in_replaced r.before (r.block ∷ r.free_after) C r.after d
             (λ j. absurd (s (ap (λ z. z.segment) (cut-others n r.block.owner whole new C resized_cut d o j)
-            ∙ absorb-segment r.block r.run)))
+            ∙ absorb-segment r.block r.free_after)))
             i);
       }
 

@@ -129,7 +129,7 @@ fn leaves(
 type Row<'a> = (&'a [(u16, u16)], Call, &'a [(u16, u16)]);
 
 /// Definitions: dm_blocks Chain Becomes DiffersInHeaders
-/// Definitions: dm_arena Owned Frees BlockAt freed FreeRefused IsNoBlock is_link_block Resizes BlockRunAt resized
+/// Definitions: dm_arena Owned Frees BlockAt freed FreeRefused IsNoBlock is_link_block Resizes BlockAndFreeAt resized
 /// Definitions: dm_arena Owned absorb AllFree BeginsTaken
 /// Definitions: dm_arena Owned Releases ReleasesOne ReleasesBoth ReleaseRefused released released_block
 #[test]
@@ -281,7 +281,7 @@ fn strategies_choose_and_cut(rt: HostRuntime) -> Result<(), Fail> {
             0x107,
             &[(0, 3), (9, 1), (7, 3)],
         ),
-        // runs of free blocks are joined first, wherever they are
+        // adjacent free blocks are joined first, wherever they are
         (
             &[(0, 2), (0, 3), (9, 1), (0, 1), (0, 1)],
             first,
@@ -419,7 +419,7 @@ fn two_blocks_are_chosen_in_turn(rt: HostRuntime) -> Result<(), Fail> {
             (0x101, 0x105, 3),
             &[(0x105, 1), (9, 1), (0x105, 3), (0, 1), (9, 1), (0, 5)],
         ),
-        // runs of free blocks are joined first
+        // adjacent free blocks are joined first
         (
             &[(0, 1), (0, 1), (9, 1), (0, 2), (0, 2)],
             Pair(first, 1, 5, 0xFFFF),
@@ -467,15 +467,15 @@ fn refused_calls_leave_the_list(rt: HostRuntime) -> Result<(), Fail> {
     let none = ArenaRefusal::NoBlock;
     let broken = ArenaRefusal::Destroyed;
     let short = |largest| ArenaRefusal::Short { largest };
-    let runs = [(0, 2), (0, 3), (9, 1), (0, 1), (0, 1)];
+    let adjacent = [(0, 2), (0, 3), (9, 1), (0, 1), (0, 1)];
     let rows: [(&[(u16, u16)], Call, ArenaRefusal); 22] = [
-        // the largest block after the runs are joined is reported
-        (&runs, Allocate(first, 7), short(6)),
-        (&runs, Allocate(best, 7), short(6)),
-        (&runs, Allocate(last, 0xFFFF), short(6)),
-        (&runs, Pair(first, 7, 0, 1), short(6)),
-        (&runs, Pair(first, 6, 4, 9), short(6)),
-        (&runs, Pair(first, 1, 0x1_0000, 0x2_0000), short(6)),
+        // the largest block after free blocks are joined is reported
+        (&adjacent, Allocate(first, 7), short(6)),
+        (&adjacent, Allocate(best, 7), short(6)),
+        (&adjacent, Allocate(last, 0xFFFF), short(6)),
+        (&adjacent, Pair(first, 7, 0, 1), short(6)),
+        (&adjacent, Pair(first, 6, 4, 9), short(6)),
+        (&adjacent, Pair(first, 1, 0x1_0000, 0x2_0000), short(6)),
         (&[(7, 1)], Allocate(first, 0), short(0)),
         (&[(0, 1), (9, 1)], Pair(first, 1, 0, 5), short(1)),
         // a block grows over the free ones after it, and over no other

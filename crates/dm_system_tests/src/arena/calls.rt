@@ -64,7 +64,7 @@ fn first_header_holds_all_of_memory(rt: HostRuntime) -> Result<(), Fail> {
 /// Definitions: dm_blocks Chain IsChain Spells IsNonEmpty
 /// Definitions: dm_arena Blocks IsFit fits is_candidate prefers prefers_in prefers_by largest
 /// Definitions: dm_arena Allocation AllocateRefused
-/// Definitions: dm_arena Owned Resizes BlockRunAt resized absorb AllFree BeginsTaken
+/// Definitions: dm_arena Owned Resizes BlockAndFreeAt resized absorb AllFree BeginsTaken
 #[test]
 fn resized_block_leaves_the_rest_free(rt: HostRuntime) -> Result<(), Fail> {
     let mut space = new_space(rt.alloc())?;
@@ -103,7 +103,7 @@ fn resized_block_leaves_the_rest_free(rt: HostRuntime) -> Result<(), Fail> {
     Ok(())
 }
 
-/// Definitions: dm_arena Owned Resizes BlockRunAt resized absorb AllFree BeginsTaken ResizeRefused
+/// Definitions: dm_arena Owned Resizes BlockAndFreeAt resized absorb AllFree BeginsTaken ResizeRefused
 #[test]
 fn block_grows_back_over_the_rest(rt: HostRuntime) -> Result<(), Fail> {
     let mut space = new_space(rt.alloc())?;

@@ -5,13 +5,13 @@ use Rattle.dm_blocks.specs.Reading.{IsSpelledFrom}
 use Rattle.dm_arena.specs.inner.Walks.{IsJoining}
 use Rattle.dm_arena.proofs.joined.joined_at.Given as goal
 
-abbrev pub invariant-loop-entry : goal.invariant-loop-entry
-invariant-loop-entry l = record {
-  there : l.entry.header.segment ≡ l.segment;
-  fits : next l.entry.header ≤ 0xFFFF;
+abbrev pub invariant-loop-listed : goal.invariant-loop-listed
+invariant-loop-listed l = record {
+  there : l.listed.header.segment ≡ l.segment;
+  fits : next l.listed.header ≤ 0xFFFF;
   front : (L : List Header) → IsSpelledFrom l.space.memory l.segment L → (K : List Header) ×
-      IsJoining l.upper l.space.memory L l.entry K;
+      IsJoining l.upper l.space.memory L l.listed K;
 }
 
-abbrev pub decreases-loop-entry : goal.decreases-loop-entry
-decreases-loop-entry l = 0x10000 - next l.entry.header
+abbrev pub decreases-loop-listed : goal.decreases-loop-listed
+decreases-loop-listed l = 0x10000 - next l.listed.header

@@ -30,7 +30,7 @@ returns-clause-memory c =
     let a = c.if-not-is_arena.ensures in
     let s : IsSpelledFrom c.args.space.now.memory first_header a.0 = record { nonempty = a.1.0.0; spells = a.1.0.1 } in
     let f = c.in-Some.ensures.found a.0 s in
-    links _ c.args.on a.0 a.1 c.in-Some.entry f.0 f.1 f.2 _ c.write_header.ensures.memory
+    links _ c.args.on a.0 a.1 c.in-Some.listed f.0 f.1 f.2 _ c.write_header.ensures.memory
     (differ _ _ c.args.on c.if-is_linked-on.false (c.is_linked.ensures a.0 s)) (λ q. elim c.else-on.branch [
       | else-on-via-then-on+else-not-has_second w ↦ w.if-not-has_second.ensures
       | else-on-via-else-on w ↦ absurd (clash c.args.on q w.if-on.false)

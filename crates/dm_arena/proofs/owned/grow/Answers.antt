@@ -11,8 +11,8 @@ returns-then-not-is_free-clause-grown c = λ K g.
       r.0,
       r.1,
       r.2,
-      grown_before_taken _ _ _ K _ c.spelled_entry-after.result r.0 r.1 r.2 (search
-          rules) _ c.next.ensures c.spelled_entry-after.ensures.front,
+      grown_before_taken _ _ _ K _ c.spelled_header-after.result r.0 r.1 r.2 (search
+          rules) _ c.next.ensures c.spelled_header-after.ensures.front,
     ))
 
 pub walk-preserved : goal.walk-preserved
@@ -20,6 +20,6 @@ walk-preserved c = record {
   fits = omega arith;
   grown = λ K g.
       (let r = c.walk.invariant.grown K g in
-      grown_more _ _ _ K _ c.spelled_entry-after.result r.0 r.1 r.2 c.if-grown.false (search rules)
-      (omega arith) _ c.next.ensures c.spelled_entry-after.ensures.front);
+      grown_more _ _ _ K _ c.spelled_header-after.result r.0 r.1 r.2 c.if-grown.false (search rules)
+      (omega arith) _ c.next.ensures c.spelled_header-after.ensures.front);
 }

@@ -7,8 +7,8 @@ use Rattle.dm_arena.proofs.owned.grow.Given as goal
 abbrev pub invariant-walk : goal.invariant-walk
 invariant-walk l = record {
   fits : next l.grown.header ≤ 0xFFFF;
-  grown : (K : List Header) → IsGrowable l.space.memory l.fn.entry K → (R : List Header) × (Q : List Header) ×
-      IsGrown l.upper l.space.memory l.fn.entry K l.grown R Q;
+  grown : (K : List Header) → IsGrowable l.space.memory l.fn.listed K → (R : List Header) × (Q : List Header) ×
+      IsGrown l.upper l.space.memory l.fn.listed K l.grown R Q;
 }
 
 abbrev pub decreases-walk : goal.decreases-walk

@@ -2,7 +2,7 @@ use Rattle.std.proofs.Common.{refl, inr, arith}
 use Rattle.dm_blocks.specs.Chain.{first_header}
 use Rattle.dm_blocks.specs.Reading.{IsSpelledFrom}
 use Rattle.dm_arena.specs.inner.Walks.{IsGrowable}
-use Rattle.dm_arena.proofs.Growing.{run_at, size_is, outside, resized_new, clear_resized, resizing, resizes, unresized}
+use Rattle.dm_arena.proofs.Growing.{with_free, size_is, outside, resized_new, clear_resized, resizing, resizes, unresized}
 use Rattle.dm_arena.proofs.owned.resize.Goals as goal
 
 pub returns-then-n-grown-clause-memory : goal.returns-then-n-grown-clause-memory
@@ -18,7 +18,7 @@ returns-then-n-grown-clause-memory c =
     let g = c.grow-grown.ensures.grown f.1 w in (
       refl,
       (
-        run_at _ _ _ x.list _ c.args.n c.in_ok-block.block c.grow-grown.result f.0 f.1 g.0 g.1 x.arena f.2 g.2 g.3
+        with_free _ _ _ x.list _ c.args.n c.in_ok-block.block c.grow-grown.result f.0 f.1 g.0 g.1 x.arena f.2 g.2 g.3
             o,
         size_is _ _ _ x.list _ c.args.n c.in_ok-block.block c.grow-grown.result f.0 f.1 g.0 g.1 x.arena f.2 g.2 g.3
             o,

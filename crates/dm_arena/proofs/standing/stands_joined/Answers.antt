@@ -7,18 +7,18 @@ walk-init c = λ L s. (L, looking-start _ _ _ L _ s)
 pub returns-then-is_on : goal.returns-then-is_on
 returns-then-is_on c = λ L s.
     (let k = c.walk.invariant L s in
-    let f = c.joined_at-entry.ensures.front k.0 k.1.spelled in
-    looked-here _ _ L _ _ k.0 k.1 _ c.joined_at-entry.ensures.there f.0 f.1 c.if-is_on.ensures)
+    let f = c.joined_at-listed.ensures.front k.0 k.1.spelled in
+    looked-here _ _ L _ _ k.0 k.1 _ c.joined_at-listed.ensures.there f.0 f.1 c.if-is_on.ensures)
 
-pub returns-then-entry : goal.returns-then-entry
-returns-then-entry c = λ L s.
+pub returns-then-listed : goal.returns-then-listed
+returns-then-listed c = λ L s.
     (let k = c.walk.invariant L s in
-    let f = c.joined_at-entry.ensures.front k.0 k.1.spelled in
-    looked-none _ _ L _ _ k.0 k.1 _ c.joined_at-entry.ensures.there f.0 f.1 c.if-is_on.ensures c.if-entry.true)
+    let f = c.joined_at-listed.ensures.front k.0 k.1.spelled in
+    looked-none _ _ L _ _ k.0 k.1 _ c.joined_at-listed.ensures.there f.0 f.1 c.if-is_on.ensures c.if-listed.true)
 
 pub walk-preserved : goal.walk-preserved
 walk-preserved c = λ L s.
     (let k = c.walk.invariant L s in
-    let f = c.joined_at-entry.ensures.front k.0 k.1.spelled in
-    looked-more _ _ L _ _ k.0 k.1 _ c.joined_at-entry.ensures.there f.0 f.1 c.if-is_on.ensures c.if-entry.false _
+    let f = c.joined_at-listed.ensures.front k.0 k.1.spelled in
+    looked-more _ _ L _ _ k.0 k.1 _ c.joined_at-listed.ensures.there f.0 f.1 c.if-is_on.ensures c.if-listed.false _
     c.next-segment.ensures)

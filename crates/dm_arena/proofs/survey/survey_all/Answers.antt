@@ -9,38 +9,40 @@ use Rattle.dm_arena.proofs.survey.survey_all.Goals.{then-several, else-several}
 pub walk-init : goal.walk-init
 walk-init c = λ L s. (L, survey_all _ _ L _ _ s)
 
-pub returns-then-entry : goal.returns-then-entry
-returns-then-entry c = λ L s.
+pub returns-then-listed : goal.returns-then-listed
+returns-then-listed c = λ L s.
     (let k = c.walk.invariant L s in
-    let f = taken_front _ _ _ _ (search rules) (c.spelled_entry-entry.ensures.front k.0 k.1.choosing.spelled) in
+    let f = taken_front _ _ _ _ (search rules) (c.spelled_header-listed.ensures.front k.0 k.1.choosing.spelled) in
     survey_whole _ _ L _ _ _ _ _ _ k.0 k.1 s (record {
-      entry = c.spelled_entry-entry.result;
+      listed = c.spelled_header-listed.result;
       several = false;
-    }) f.0 f.1 _ c.meet-choice.ensures.block c.meet-choice.ensures.largest c.if-entry.true _ refl)
+    }) f.0 f.1 _ c.meet-choice.ensures.block c.meet-choice.ensures.largest c.if-listed.true _ refl)
 
 pub walk-preserved-then-not-is_free : goal.walk-preserved-then-not-is_free
 walk-preserved-then-not-is_free c = λ L s.
     (let k = c.walk.invariant L s in
-    let f = taken_front _ _ _ _ (search rules) (c.spelled_entry-entry.ensures.front k.0 k.1.choosing.spelled) in
+    let f = taken_front _ _ _ _ (search rules) (c.spelled_header-listed.ensures.front k.0 k.1.choosing.spelled) in
     survey_more _ _ L _ _ _ _ _ _ k.0 k.1 s (record {
-      entry = c.spelled_entry-entry.result;
+      listed = c.spelled_header-listed.result;
       several = false;
-    }) f.0 f.1 _ c.meet-choice.ensures.block c.meet-choice.ensures.largest c.if-entry.false _ _
+    }) f.0 f.1 _ c.meet-choice.ensures.block c.meet-choice.ensures.largest c.if-listed.false _ _
     c.walk.several c.next-segment.ensures (or_none _) c.next_from-from.ensures)
 
-pub returns-then-run : goal.returns-then-run
-returns-then-run c = λ L s.
+pub returns-then-joined : goal.returns-then-joined
+returns-then-joined c = λ L s.
     (let k = c.walk.invariant L s in
-    let f = c.run_at-run.ensures.front k.0 k.1.choosing.spelled in
-    survey_whole _ _ L _ _ _ _ _ _ k.0 k.1 s c.run_at-run.result f.0 f.1 _ c.meet-choice-in-walk.ensures.block
-    c.meet-choice-in-walk.ensures.largest c.if-run.true _ refl)
+    let f = c.joined_block_at-joined.ensures.front k.0 k.1.choosing.spelled in
+    survey_whole _ _ L _ _ _ _ _ _ k.0 k.1 s c.joined_block_at-joined.result f.0 f.1 _
+    c.meet-choice-in-walk.ensures.block
+    c.meet-choice-in-walk.ensures.largest c.if-joined.true _ refl)
 
 pub walk-preserved : goal.walk-preserved
 walk-preserved c = λ L s.
     (let k = c.walk.invariant L s in
-    let f = c.run_at-run.ensures.front k.0 k.1.choosing.spelled in
-    survey_more _ _ L _ _ _ _ _ _ k.0 k.1 s c.run_at-run.result f.0 f.1 _ c.meet-choice-in-walk.ensures.block
-    c.meet-choice-in-walk.ensures.largest c.if-run.false _ _ c.if-several.several c.next-segment-in-walk.ensures
+    let f = c.joined_block_at-joined.ensures.front k.0 k.1.choosing.spelled in
+    survey_more _ _ L _ _ _ _ _ _ k.0 k.1 s c.joined_block_at-joined.result f.0 f.1 _
+    c.meet-choice-in-walk.ensures.block
+    c.meet-choice-in-walk.ensures.largest c.if-joined.false _ _ c.if-several.several c.next-segment-in-walk.ensures
     (elim c.if-several.branch [
       | then-several w ↦ or_true _ _ _ w.if-several.true w.several-is
       | else-several w ↦ or_false _ _ _ w.if-several.false w.several-is

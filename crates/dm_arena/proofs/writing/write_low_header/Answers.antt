@@ -7,11 +7,11 @@ returns-clause-memory c =
     let owner = c.set_low_word.ensures.memory in
     let size = c.set_low_word-2.ensures.memory in
     record {
-      shape = shape5 _ _ _ _ _ _ c.args.entry.header.segment _ _ _ _ _ c.set_low_byte.ensures.memory owner.1 owner.2
+      shape = shape5 _ _ _ _ _ _ c.args.listed.header.segment _ _ _ _ _ c.set_low_byte.ensures.memory owner.1 owner.2
           size.1 size.2;
-      written = λ w. header_written _ _ _ _ _ _ c.args.entry.header.segment _ _ _ _ _ c.set_low_byte.ensures.memory
+      written = λ w. header_written _ _ _ _ _ _ c.args.listed.header.segment _ _ _ _ _ c.set_low_byte.ensures.memory
           owner.1 owner.2 size.1 size.2 w _ _ _ c.requires.fits (omega arith) (omega arith) (omega arith) (omega arith)
           (omega arith) c.signature.ensures (omega arith) (omega arith);
-      kept = kept5 _ _ _ _ _ _ c.args.entry.header.segment _ _ _ _ _ c.set_low_byte.ensures.memory owner.1 owner.2
+      kept = kept5 _ _ _ _ _ _ c.args.listed.header.segment _ _ _ _ _ c.set_low_byte.ensures.memory owner.1 owner.2
           size.1 size.2;
     }

@@ -15,23 +15,23 @@ walk-init c = record {
   );
 }
 
-pub returns-then-entry-clause-found : goal.returns-then-entry-clause-found
-returns-then-entry-clause-found c = λ L s.
+pub returns-then-listed-clause-found : goal.returns-then-listed-clause-found
+returns-then-listed-clause-found c = λ L s.
     (let k = c.walk.invariant.finding L s in
     let f = c.in-Some.ensures.front k.1 k.2.spelled in
-    found_none _ L _ _ c.in-Some.entry c.in-Some.ensures.there k.0 k.1 k.2 f.0 f.1 c.if-here-segment.false
-    c.if-entry.true)
+    found_none _ L _ _ c.in-Some.listed c.in-Some.ensures.there k.0 k.1 k.2 f.0 f.1 c.if-here-segment.false
+    c.if-listed.true)
 
 pub walk-preserved : goal.walk-preserved
 walk-preserved c =
     let u = c.walk.invariant.led in
-    let more = stands-up _ _ _ c.if-entry.false (c.in-Some.ensures.proceeds u.0 u.1) in
+    let more = stands-up _ _ _ c.if-listed.false (c.in-Some.ensures.proceeds u.0 u.1) in
     record {
       small = omega arith;
       led = (more.0, subst (λ t. Leads c.args.space.now.memory [] 0x100 more.0 t) (sym c.next-here.ensures) more.1);
       finding = λ L s.
           (let k = c.walk.invariant.finding L s in
           let f = c.in-Some.ensures.front k.1 k.2.spelled in
-          finding_more _ L _ _ c.in-Some.entry c.in-Some.ensures.there k.0 k.1 k.2 f.0 f.1 c.if-here-segment.false
-          c.if-entry.false _ c.next-here.ensures);
+          finding_more _ L _ _ c.in-Some.listed c.in-Some.ensures.there k.0 k.1 k.2 f.0 f.1 c.if-here-segment.false
+          c.if-listed.false _ c.next-here.ensures);
     }

@@ -1,4 +1,4 @@
--- A block with the run of free blocks after it.
+-- A block with the free blocks right after it.
 use Rattle.std.proofs.Common.{Bool, ◌≡◌, ℕ, ◌+◌, true, List, [], ◌∷◌, ◌++◌, ◌⊎◌, inl, inr, refl, ◌∙◌, ap, subst, arith}
 use Rattle.dm_space.specs.Memory.{Memory}
 use Rattle.dm_blocks.specs.declared.header.Header.{Header}

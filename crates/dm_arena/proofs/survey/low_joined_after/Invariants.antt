@@ -1,0 +1,19 @@
+use Rattle.std.proofs.Common.{◌-◌, ◌≡◌, ◌≤◌, List}
+use Rattle.dm_blocks.specs.declared.header.Header.{Header}
+use Rattle.dm_blocks.specs.Chain.{next}
+use Rattle.dm_blocks.specs.Reading.{IsSpelledFrom}
+use Rattle.dm_blocks.specs.Listing.{LeadsOn}
+use Rattle.dm_arena.specs.inner.Survey.{IsJoiningBlock}
+use Rattle.dm_arena.proofs.survey.low_joined_after.Given as goal
+
+abbrev pub invariant-loop-listed : goal.invariant-loop-listed
+invariant-loop-listed l = record {
+  there : l.listed.header.segment ≡ l.fn.first.header.segment;
+  fits : next l.listed.header ≤ 0xFFFF;
+  front : (L : List Header) → IsSpelledFrom l.space.memory l.fn.first.header.segment L → (K : List Header) ×
+      IsJoiningBlock l.upper l.space.memory L l.listed l.several K;
+  proceeds : LeadsOn l.space.memory l.fn.first.header.segment l.listed.last (next l.listed.header);
+}
+
+abbrev pub decreases-loop-listed : goal.decreases-loop-listed
+decreases-loop-listed l = 0x10000 - next l.listed.header
