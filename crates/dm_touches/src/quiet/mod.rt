@@ -3,6 +3,8 @@
 
 mod marks;
 mod touch;
+mod upward;
 
 pub use marks::{Marks, home_number, is_unmarked};
 pub use touch::{Touch, stays_home, touch_of};
+pub use upward::unmarked_repetitions;
