@@ -136,8 +136,8 @@ fn are_clear(space: &Space, first: Cut, second: Cut, upper: bool) -> bool
 ///
 /// `Destroyed` where memory spells no clear list; else `Short` where the first block has no room, no free block is left
 /// for the second, or the second would have less than `least` paragraphs, with the size of the largest free block that
-/// the strategy looks at for the first one once free blocks are joined; else `Destroyed` where the list with both blocks
-/// would not be clear.
+/// the strategy looks at for the first one once free blocks are joined; else `Destroyed` where the list with both
+/// blocks would not be clear.
 pub fn plan_pair(
     space: &Space,
     strategy: Strategy,
