@@ -10,8 +10,8 @@ use Rattle.dm_findings.specs.declared.finding.Finding.{Finding}
 use Rattle.dm_touches.specs.declared.elements.FarAddress.{FarAddress}
 use Rattle.dm_touches.specs.Elements.{far, linear_of, bytes_if, bytes_of}
 use Rattle.dm_touches.specs.Found.{is_between, first_that, if_some, is_in_free, is_in_tail, free_read, free_written, tail_written, of_header, window_lost, rom_written, nothing_written, of_places}
-use Rattle.dm_checker.specs.declared.watch.Watched.{Watched}
-use Rattle.dm_checker.specs.Watching.{header_of}
+use Rattle.dm_checker.specs.declared.arena_copy.HeaderCopy.{HeaderCopy}
+use Rattle.dm_checker.specs.ArenaCopy.{header_of}
 use Rattle.dm_cpu.specs.Guest.{up}
 use Rattle.dm_touches.specs.declared.elements.Element.{Element}
 use Rattle.dm_touches.specs.declared.elements.Element.TheVariants as element
@@ -113,7 +113,7 @@ apart_test h a e = grind (arith, nat_tests)
 tail_apart : (b : Header) (a : ℕ) → not (b.segment == a / 16) ≡ true → not (is_in_tail b a) ≡ true
 tail_apart b a e = ap not (apart_test b.segment a (not_false (b.segment == a / 16) e))
 
-header_clear : (a20 : Bool) (rs ws : List FarAddress) (x : Watched) → are_all (λ a. not (is_free_of a x)) a20 rs
+header_clear : (a20 : Bool) (rs ws : List FarAddress) (x : HeaderCopy) → are_all (λ a. not (is_free_of a x)) a20 rs
     ≡ true → are_all (λ a. not (is_at a x)) a20 ws ≡ true → of_header a20 rs ws x.header ≡ []
 header_clear a20 rs ws x r w =
     let free = all_weaker (λ a. not (is_at a x)) (λ a. not (is_in_free x.header a))
@@ -125,7 +125,7 @@ header_clear a20 rs ws x r w =
     let third : tail_written a20 ws x.header ≡ [] = none_of _ _ (none_that (is_in_tail x.header) a20 ws tail) in
     ap₂ (λ (l m : List Finding). l ++ m) (ap₂ (λ (l m : List Finding). l ++ m) first second) third
 
-pub headers_clear : (a20 : Bool) (rs ws : List FarAddress) (xs : List Watched) →
+pub headers_clear : (a20 : Bool) (rs ws : List FarAddress) (xs : List HeaderCopy) →
     are_all (λ a. not (list_any (is_free_of a) xs)) a20 rs ≡ true → are_all (λ a. not (list_any (is_at a) xs)) a20 ws
     ≡ true → flat_map (of_header a20 rs ws) (map header_of xs) ≡ []
 headers_clear a20 rs ws [] r w = refl
@@ -157,7 +157,7 @@ other_by a false false false true g h w p q r s t u e = (grind (arith, nat_tests
 other_by a false false false false true h w p q r s t u e = absurd (false≢true e)
 other_by a false false false false false h w p q r s t u e = (grind (arith, nat_tests), grind (arith, nat_tests))
 
-memory_tests : (m : Memory) (xs : List Watched) (a : ℕ) → keeps_writes m xs a ≡ true → IsOther a
+memory_tests : (m : Memory) (xs : List HeaderCopy) (a : ℕ) → keeps_writes m xs a ≡ true → IsOther a
 memory_tests m xs a e = other_by a _ _ _ _ _ _ _ refl refl refl refl refl refl e
 
 -- a byte of a window that shows no page is no memory
@@ -175,7 +175,7 @@ window_of_range k a small t =
     let less : a < 0xE4000 + 0x4000 * k = grind (arith, nat_tests) in
     omega (arith, least, less)
 
-in_window : (m : Memory) (xs : List Watched) (k a : ℕ) (b : Bool) → k < 4 → slice_index_or m.windows k None ≡ None →
+in_window : (m : Memory) (xs : List HeaderCopy) (k a : ℕ) (b : Bool) → k < 4 → slice_index_or m.windows k None ≡ None →
     is_between (0xE0000 + 0x4000 * k) (0xE0000 + 0x4000 * k + 0x4000) a ≡ b →
     (is_some (slice_index_or m.windows ((a - 0xE0000) / 0x4000) None) && not (list_any is_high xs)) ≡ true →
     not b ≡ true
@@ -186,7 +186,7 @@ in_window m xs k a true small none t e =
     ap (λ (n : ℕ). is_some (slice_index_or m.windows n None)) same ∙ ap is_some none in
     absurd (false≢true (sym hidden ∙ and_left _ _ e))
 
-out_by : (m : Memory) (xs : List Watched) (k a : ℕ) (b c d f g h : Bool) → k < 4 →
+out_by : (m : Memory) (xs : List HeaderCopy) (k a : ℕ) (b c d f g h : Bool) → k < 4 →
     slice_index_or m.windows k None ≡ None → nat_lt a 0xC0000 ≡ b → nat_lt a 0xD0000 ≡ c → nat_lt a 0xE0000 ≡ d →
     nat_lt a 0xF0000 ≡ f → nat_lt a 0x100000 ≡ g → nat_lt a 0x10FFF0 ≡ h → (if b then true else if c then false else
     if d then true else if f then is_some (slice_index_or m.windows ((a - 0xE0000) / 0x4000) None) &&
@@ -197,11 +197,11 @@ out_by m xs k a false false true f g h small none p q r s t u e = grind (arith, 
 out_by m xs k a false false false true g h small none p q r s t u e = in_window m xs k a _ small none refl e
 out_by m xs k a false false false false g h small none p q r s t u e = grind (arith, nat_tests)
 
-window_test : (m : Memory) (xs : List Watched) (k a : ℕ) → k < 4 → slice_index_or m.windows k None ≡ None →
+window_test : (m : Memory) (xs : List HeaderCopy) (k a : ℕ) → k < 4 → slice_index_or m.windows k None ≡ None →
     keeps_writes m xs a ≡ true → IsOut k a
 window_test m xs k a small none e = out_by m xs k a _ _ _ _ _ _ small none refl refl refl refl refl refl e
 
-window_by : (m : Memory) (xs : List Watched) (ws : List FarAddress) (k : ℕ) (o : Option ℕ) → k < 4 →
+window_by : (m : Memory) (xs : List HeaderCopy) (ws : List FarAddress) (k : ℕ) (o : Option ℕ) → k < 4 →
     are_all (keeps_writes m xs) m.a20 ws ≡ true → slice_index_or m.windows k None ≡ o → window_lost m ws k ≡ []
 window_by m xs ws k (Some page) small e is = rw is refl
 window_by m xs ws k None small e is =
@@ -210,11 +210,11 @@ window_by m xs ws k None small e is =
     (all_weaker (keeps_writes m xs) _ (λ a t. window_test m xs k a small is t) m.a20 ws e) in
     rw (is, gone) refl
 
-window_clear : (m : Memory) (xs : List Watched) (ws : List FarAddress) (k : ℕ) → k < 4 →
+window_clear : (m : Memory) (xs : List HeaderCopy) (ws : List FarAddress) (k : ℕ) → k < 4 →
     are_all (keeps_writes m xs) m.a20 ws ≡ true → window_lost m ws k ≡ []
 window_clear m xs ws k small e = window_by m xs ws k _ small e refl
 
-pub places_clear : (m : Memory) (xs : List Watched) (ws : List FarAddress) → are_all (keeps_writes m xs) m.a20 ws
+pub places_clear : (m : Memory) (xs : List HeaderCopy) (ws : List FarAddress) → are_all (keeps_writes m xs) m.a20 ws
     ≡ true → of_places m ws ≡ []
 places_clear m xs ws e =
     let rom : rom_written m.a20 ws ≡ [] = none_of (λ (f : FarAddress). RomWritten f.segment f.offset) _
@@ -231,11 +231,11 @@ places_clear m xs ws e =
 
 -- ---- what a write that is clear says
 
-pub memory_of : (m : Memory) (xs : List Watched) (a20 : Bool) (ws : List FarAddress) →
+pub memory_of : (m : Memory) (xs : List HeaderCopy) (a20 : Bool) (ws : List FarAddress) →
     are_all (is_write_clear m xs) a20 ws ≡ true → are_all (keeps_writes m xs) a20 ws ≡ true
 memory_of m xs a20 ws e = all_weaker (is_write_clear m xs) (keeps_writes m xs)
     (λ a t. and_left (keeps_writes m xs a) _ t) a20 ws e
 
-pub apart_of : (m : Memory) (xs : List Watched) (a20 : Bool) (ws : List FarAddress) →
+pub apart_of : (m : Memory) (xs : List HeaderCopy) (a20 : Bool) (ws : List FarAddress) →
     are_all (is_write_clear m xs) a20 ws ≡ true → are_all (λ a. not (list_any (is_at a) xs)) a20 ws ≡ true
 apart_of m xs a20 ws e = all_weaker (is_write_clear m xs) _ (λ a t. and_right (keeps_writes m xs a) _ t) a20 ws e

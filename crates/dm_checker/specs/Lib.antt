@@ -9,7 +9,7 @@ pub mod Checks
 pub mod Processes
 pub mod Marking
 pub mod Clear
-pub mod Watching
+pub mod ArenaCopy
 pub mod Checking
 pub mod Laws
 pub mod inner

@@ -2,4 +2,4 @@
 pub mod Steps
 pub mod Clear
 pub mod Marking
-pub mod Watching
+pub mod ArenaCopy

@@ -12,7 +12,7 @@ mod marking;
 mod recording;
 mod steps;
 mod touched;
-mod watch;
+mod arena_copy;
 
 pub use checks::{CheckedRun, check};
 pub use laws::{a_check_has_one_report, a_checked_run_is_a_run, unserved_calls_are_found};

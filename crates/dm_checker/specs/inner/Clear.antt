@@ -9,18 +9,18 @@ use Rattle.dm_machine.specs.Step.{fetched}
 use Rattle.dm_touches.specs.quiet.Marks.{satisfy}
 use Rattle.dm_touches.specs.declared.elements.Elements.{Elements}
 use Rattle.dm_touches.specs.Touches.{reads, writes}
-use Rattle.dm_checker.specs.declared.watch.Watch.{Watch}
+use Rattle.dm_checker.specs.declared.arena_copy.ArenaCopy.{ArenaCopy}
 use Rattle.dm_checker.specs.Clear.{is_read_clear, is_write_clear}
 
 -- nothing is found of these reads and writes, and no header is written to; no list of headers breaks
-pub record IsClear (m : Memory) (w : Watch) (rs ws : Elements) : Type 0 where
+pub record IsClear (m : Memory) (w : ArenaCopy) (rs ws : Elements) : Type 0 where
   pub whole : w.broken ≡ None
   pub reads : satisfy (is_read_clear w.headers.items) m.a20 rs ≡ true
   pub writes : satisfy (is_write_clear m w.headers.items) m.a20 ws ≡ true
 
 -- the instruction at CS:IP, below the segment of services and drivers, touches only bytes of which nothing is found,
 -- and writes to no header; w is what memory shows of the arena before it
-pub record IsClearAt (s : State) (w : Watch) : Type 0 where
+pub record IsClearAt (s : State) (w : ArenaCopy) : Type 0 where
   pub ins : Ins
   pub length : ℕ
   pub below : s.cpu.cs < 0xF000
