@@ -12,7 +12,7 @@ use Rattle.dm_blocks.specs.declared.header.Header.{Header}
 use Rattle.dm_touches.specs.Found.{is_in_free}
 use Rattle.dm_touches.specs.quiet.Marks.{level_at, lies_below, Marked}
 use Rattle.dm_checker.specs.declared.arena_copy.HeaderCopy.{HeaderCopy}
-use Rattle.dm_checker.specs.Clear.{is_free_of, is_at, is_high, keeps_writes}
+use Rattle.dm_checker.specs.Unfound.{is_free_of, is_at, is_high, keeps_writes}
 use Rattle.dm_checker.proofs.Unfound.{and_left, and_right, not_false}
 use Rattle.dm_checker.specs.Marking.{IsMarked}
 use Rattle.dm_checker.specs.inner.Marking.{Keeps, HasMap, HasHeader, HasFree}

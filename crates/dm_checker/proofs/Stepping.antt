@@ -39,16 +39,16 @@ use Rattle.dm_checker.specs.Origins.{known_by, IsKnownAfter}
 use Rattle.dm_checker.specs.Processes.{KnowsAtStop}
 use Rattle.dm_checker.specs.ArenaCopy.{header_of, broken_at, IsArenaCopy}
 use Rattle.dm_checker.specs.inner.ArenaCopy.{shown_of, IsSeen}
-use Rattle.dm_checker.specs.Clear.{is_read_clear, is_write_clear}
-use Rattle.dm_checker.specs.inner.Clear.{IsClearAt}
+use Rattle.dm_checker.specs.Unfound.{is_read_unfound, is_write_unfound}
+use Rattle.dm_checker.specs.inner.Unfound.{FindsNothingAt}
 use Rattle.dm_checker.specs.inner.Steps.{IsBefore, found_by, ReportsMore, Touches, Looks, ChecksOne, IsUnfound, GoesUnfound}
 use Rattle.dm_checker.specs.inner.Steps as steps
 use Rattle.dm_checker.proofs.Acting.{some_none, call_acts, had_ended, exit_changes_nothing}
 use Rattle.dm_checker.proofs.Seen.{seen_arena}
 use Rattle.dm_checker.proofs.Still.{seen_findings}
 use Rattle.dm_checker.proofs.Reading.{no_call, still_running, next_leaves, Begins, begins_of}
-use Rattle.dm_checker.proofs.Unfound.{and_left, and_right, and_both, element_more, are_all, elements_all, headers_clear, places_clear, memory_of, apart_of}
-use Rattle.dm_checker.proofs.Clearing.{seen_clear}
+use Rattle.dm_checker.proofs.Unfound.{and_left, and_right, and_both, element_more, are_all, elements_all, headers_unfound, places_unfound, memory_of, apart_of}
+use Rattle.dm_checker.proofs.Untouched.{seen_unfound}
 use Rattle.dm_checker.proofs.Telling.{reports_none, tells}
 
 found_as : (s t : State) (k : Known) (fs gs : List Finding) (more : List Found) → fs ≡ gs → IsFound s t k fs more →
@@ -270,22 +270,22 @@ stops free s t stop w k r a other = record {
 -- ---- a step of an instruction that touches nothing that matters
 
 -- nothing is found of what it touches
-clear_touched : (s t : State) (w : ArenaCopy) → (p : IsClearAt s w) → Answers s None t → FindsTouched s (shown_of w) []
+unfound_touched : (s t : State) (w : ArenaCopy) → (p : FindsNothingAt s w) → Answers s None t → FindsTouched s (shown_of w) []
 unfolding touch_findings
-clear_touched s t w p a =
+unfound_touched s t w p a =
     let rs = bytes_of (reads (guest s.cpu s.memory) p.ins p.length) in
     let ws = bytes_of (writes (guest s.cpu s.memory) p.ins p.length) in
     let a20 = s.memory.a20 in
-    let clear_reads : are_all (is_read_clear w.headers.items) a20 rs ≡ true =
-    elements_all (is_read_clear w.headers.items) a20 (reads (guest s.cpu s.memory) p.ins p.length) p.clear.reads in
-    let clear_writes : are_all (is_write_clear s.memory w.headers.items) a20 ws ≡ true =
-    elements_all (is_write_clear s.memory w.headers.items) a20 (writes (guest s.cpu s.memory) p.ins p.length)
-    p.clear.writes in
+    let unfound_reads : are_all (is_read_unfound w.headers.items) a20 rs ≡ true =
+    elements_all (is_read_unfound w.headers.items) a20 (reads (guest s.cpu s.memory) p.ins p.length) p.nothing.reads in
+    let unfound_writes : are_all (is_write_unfound s.memory w.headers.items) a20 ws ≡ true =
+    elements_all (is_write_unfound s.memory w.headers.items) a20 (writes (guest s.cpu s.memory) p.ins p.length)
+    p.nothing.writes in
     let headers : of_headers a20 rs ws (broken_at w.broken) (map header_of w.headers.items) ≡ []
-    = ap (λ (o : Option Broken). of_headers a20 rs ws (broken_at o) (map header_of w.headers.items)) p.clear.whole
-    ∙ headers_clear a20 rs ws w.headers.items clear_reads (apart_of s.memory w.headers.items a20 ws clear_writes) in
-    let places : of_places s.memory ws ≡ [] = places_clear s.memory w.headers.items ws
-    (memory_of s.memory w.headers.items a20 ws clear_writes) in
+    = ap (λ (o : Option Broken). of_headers a20 rs ws (broken_at o) (map header_of w.headers.items)) p.nothing.whole
+    ∙ headers_unfound a20 rs ws w.headers.items unfound_reads (apart_of s.memory w.headers.items a20 ws unfound_writes) in
+    let places : of_places s.memory ws ≡ [] = places_unfound s.memory w.headers.items ws
+    (memory_of s.memory w.headers.items a20 ws unfound_writes) in
     touching p.ins p.length (still_running s t a) (no_call s.cpu p.below) p.begins (sym (ap₂ (λ (l m : List Finding). l
     ++ m) headers places))
 
@@ -294,14 +294,14 @@ abbrev pub HasPages : State → Type 0
 HasPages s = (k : ℕ) → IfSome (slice_index_or s.memory.windows k None) (IsPage s.memory)
 
 -- memory still shows what was kept
-clear_seen : (s t : State) (w : ArenaCopy) → IsClearAt s w → HasPages s → Answers s None t → IsArenaCopy s.upper s.memory w →
+unfound_seen : (s t : State) (w : ArenaCopy) → FindsNothingAt s w → HasPages s → Answers s None t → IsArenaCopy s.upper s.memory w →
     IsSeen t.upper t.memory w
-clear_seen s t w p pages a x =
+unfound_seen s t w p pages a x =
     let g = guest s.cpu s.memory in
     let n : Memory = (effect g p.ins p.length).memory in
     let left = next_leaves s t p.ins p.length p.below p.begins a in
-    let seen : IsSeen s.upper n w = seen_clear s.upper s.memory n w _ _ x pages (writes_listed g p.ins p.length)
-    p.clear in
+    let seen : IsSeen s.upper n w = seen_unfound s.upper s.memory n w _ _ x pages (writes_listed g p.ins p.length)
+    p.nothing in
     let G : Bool → Type 0 = λ b. IsSeen b t.memory w in
     let H : Memory → Type 0 = λ m. IsSeen s.upper m w in
     subst G (sym left.upper) (subst H (sym left.memory) seen)
@@ -321,9 +321,9 @@ pass_more p q h a20 e t =
     (element_more p q h a20 e.third (and_right (a && b) c t))
 
 -- nothing is found of a step that touches nothing that is marked
-unmarked_is_clear : (s : State) (w : ArenaCopy) → w.broken ≡ None → IsArenaCopy s.upper s.memory w → IsUnmarked w.marks s →
-    Begins s → IsClearAt s w
-unmarked_is_clear s w whole x u b =
+unmarked_finds_nothing : (s : State) (w : ArenaCopy) → w.broken ≡ None → IsArenaCopy s.upper s.memory w → IsUnmarked w.marks s →
+    Begins s → FindsNothingAt s w
+unmarked_finds_nothing s w whole x u b =
     let g = guest s.cpu s.memory in
     let quiet = u.quiet b.ins b.length b.begins in
     record {
@@ -331,11 +331,11 @@ unmarked_is_clear s w whole x u b =
       length = b.length;
       below = u.below;
       begins = b.begins;
-      clear = record {
+      nothing = record {
         whole = whole;
-        reads = pass_more (lies_below w.marks 2) (is_read_clear w.headers.items) (λ a t. x.marked.reads a t)
+        reads = pass_more (lies_below w.marks 2) (is_read_unfound w.headers.items) (λ a t. x.marked.reads a t)
             s.memory.a20 (reads g b.ins b.length) quiet.reads;
-        writes = pass_more (lies_below w.marks 1) (is_write_clear s.memory w.headers.items)
+        writes = pass_more (lies_below w.marks 1) (is_write_unfound s.memory w.headers.items)
             (λ a t. x.marked.writes s.memory (sym x.windows) a t) s.memory.a20 (writes g b.ins b.length) quiet.writes;
       };
     }
@@ -349,12 +349,12 @@ pub record StaysUnfound (s t : State) (w : ArenaCopy) (n : ℕ) : Type 0 where
 unfound_more : (s t u : State) (w : ArenaCopy) (n : ℕ) → w.broken ≡ None → StaysUnfound s t w n → IsUnmarked w.marks t →
     MakesStep t (record { stop = None; state = u }) → StaysUnfound s u w (n + 1)
 unfound_more s t u w n whole p x step =
-    let passed = unmarked_is_clear t w whole p.arena x (begins_of t u x.below step) in
-    let seen = clear_seen t u w passed p.pages step p.arena in
+    let passed = unmarked_finds_nothing t w whole p.arena x (begins_of t u x.below step) in
+    let seen = unfound_seen t u w passed p.pages step p.arena in
     let uncalled = no_call t.cpu passed.below in
     let arena = seen_arena t.upper u.upper t.memory u.memory w p.arena seen in
     let passing : IsUnfound t u = record {
-      finds = nothing_by t u w uncalled p.arena seen (clear_touched t u w passed
+      finds = nothing_by t u w uncalled p.arena seen (unfound_touched t u w passed
           step);
       knows = λ k. known_still t u w w k uncalled p.arena arena;
     } in

@@ -8,7 +8,7 @@ pub mod Findings
 pub mod Checks
 pub mod Processes
 pub mod Marking
-pub mod Clear
+pub mod Unfound
 pub mod ArenaCopy
 pub mod Checking
 pub mod Laws

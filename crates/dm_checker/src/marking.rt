@@ -4,7 +4,7 @@
 ghost use Rattle.std.specs.Prelude.{◌≡◌, ◌+◌, ◌*◌, ◌<◌, ◌≤◌, ◌&&◌, not, false, is_some, slice_index_or, ℕ, All, IfOk, None};
 ghost use Rattle.std.specs.List.{list_any};
 ghost use Rattle.dm_touches.specs.quiet.Marks.{level_at};
-ghost use Rattle.dm_checker.specs.Clear.{is_high};
+ghost use Rattle.dm_checker.specs.Unfound.{is_high};
 ghost use Rattle.dm_checker.specs.Marking.{IsMarked};
 ghost use Rattle.dm_checker.specs.inner.Marking.{Keeps, HasMap, HasHeader, HasFree};
 

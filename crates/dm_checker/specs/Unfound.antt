@@ -29,9 +29,9 @@ keeps_writes m ws a =
     not (list_any is_high ws) else not (nat_lt a 0x100000) && nat_lt a 0x10FFF0
 
 -- whether nothing is found of a read of the linear address
-abbrev pub is_read_clear : List HeaderCopy → ℕ → Bool
-is_read_clear ws a = not (list_any (is_free_of a) ws)
+abbrev pub is_read_unfound : List HeaderCopy → ℕ → Bool
+is_read_unfound ws a = not (list_any (is_free_of a) ws)
 
 -- whether nothing is found of a write to the linear address, and it is in no header
-abbrev pub is_write_clear : Memory → List HeaderCopy → ℕ → Bool
-is_write_clear m ws a = keeps_writes m ws a && not (list_any (is_at a) ws)
+abbrev pub is_write_unfound : Memory → List HeaderCopy → ℕ → Bool
+is_write_unfound m ws a = keeps_writes m ws a && not (list_any (is_at a) ws)

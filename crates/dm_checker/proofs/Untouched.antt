@@ -22,8 +22,8 @@ use Rattle.dm_checker.specs.declared.arena_copy.ArenaCopy.{ArenaCopy}
 use Rattle.dm_checker.specs.ArenaCopy.{IsBits, IsHeaderCopy, IsBrokenIn, IsArenaCopy}
 use Rattle.dm_checker.specs.inner.ArenaCopy.{IsSeen}
 use Rattle.dm_touches.specs.declared.elements.Elements.{Elements}
-use Rattle.dm_checker.specs.Clear.{is_free_of, is_at, is_high, keeps_writes, is_write_clear}
-use Rattle.dm_checker.specs.inner.Clear.{IsClear}
+use Rattle.dm_checker.specs.Unfound.{is_free_of, is_at, is_high, keeps_writes, is_write_unfound}
+use Rattle.dm_checker.specs.inner.Unfound.{FindsNothing}
 use Rattle.dm_checker.proofs.Unfound.{and_left, and_right, not_false, are_all, elements_all}
 
 -- ---- places
@@ -137,22 +137,22 @@ left_tail xs y ys l = record {
 
 -- none of the bytes that are written is at the place of a byte of the header
 all_apart : (m : Memory) (xs : List HeaderCopy) (y : HeaderCopy) (ys : List HeaderCopy) (k : ℕ) → IsLeft xs (y ∷ ys) → k < 5 →
-    (fs : List FarAddress) → are_all (is_write_clear m xs) m.a20 fs ≡ true →
+    (fs : List FarAddress) → are_all (is_write_unfound m xs) m.a20 fs ≡ true →
     All (λ (f : FarAddress). byte_place m f ≢ place m (16 * y.header.segment + k)) fs
 all_apart m xs y ys k l less [] e = All-nil (λ (g : FarAddress). byte_place m g ≢ place m (16 * y.header.segment + k))
 all_apart m xs y ys k l less (f ∷ fs) e =
     let a = linear_of m.a20 f in
-    let here : is_write_clear m xs a ≡ true = and_left (is_write_clear m xs a) _ e in
+    let here : is_write_unfound m xs a ≡ true = and_left (is_write_unfound m xs a) _ e in
     let free : list_any (is_at a) xs ≡ false = not_false _ (and_right (keeps_writes m xs a) _ here) in
     let at : is_at a y ≡ false = or_left (is_at a y) (list_any (is_at a) ys) (l.other a free) in
     let other : (y.header.segment == a / 16) ≡ false = or_right (is_free_of a y) (y.header.segment == a / 16) at in
     All-cons (λ (g : FarAddress). byte_place m g ≢ place m (16 * y.header.segment + k)) f fs
     (apart m xs y a k (λ none. or_left (is_high y) (list_any is_high ys) (l.low none)) other less
     (goes m xs a (and_left (keeps_writes m xs a) _ here)))
-    (all_apart m xs y ys k l less fs (and_right (is_write_clear m xs a) _ e))
+    (all_apart m xs y ys k l less fs (and_right (is_write_unfound m xs a) _ e))
 
 same_byte : (m n : Memory) (xs : List HeaderCopy) (y : HeaderCopy) (ys : List HeaderCopy) (fs : List FarAddress) →
-    KeepsOthers m n fs → are_all (is_write_clear m xs) m.a20 fs ≡ true → IsLeft xs (y ∷ ys) → (k : ℕ) → k < 5 →
+    KeepsOthers m n fs → are_all (is_write_unfound m xs) m.a20 fs ≡ true → IsLeft xs (y ∷ ys) → (k : ℕ) → k < 5 →
     peek n (16 * y.header.segment + k) ≡ peek m (16 * y.header.segment + k)
 same_byte m n xs y ys fs keeps e l k less =
     let a = 16 * y.header.segment + k in
@@ -173,7 +173,7 @@ bits_kept m n h bits same x = record {
 }
 
 headers_kept : (m n : Memory) (xs ys : List HeaderCopy) (fs : List FarAddress) → KeepsOthers m n fs →
-    are_all (is_write_clear m xs) m.a20 fs ≡ true → IsLeft xs ys → All (IsHeaderCopy m) ys → All (IsHeaderCopy n) ys
+    are_all (is_write_unfound m xs) m.a20 fs ≡ true → IsLeft xs ys → All (IsHeaderCopy m) ys → All (IsHeaderCopy n) ys
 headers_kept m n xs [] fs keeps e l w = All-nil (IsHeaderCopy n)
 headers_kept m n xs (y ∷ ys) fs keeps e l w =
     All-cons (IsHeaderCopy n) y ys
@@ -202,16 +202,16 @@ broken_none : (m : Memory) (o : Option Broken) → o ≡ None → IsBrokenIn m o
 broken_none m None e = tt
 broken_none m (Some b) e = absurd (cc)
 
-pub seen_clear : (upper : Bool) (m n : Memory) (w : ArenaCopy) (rs ws : Elements) → IsArenaCopy upper m w →
+pub seen_unfound : (upper : Bool) (m n : Memory) (w : ArenaCopy) (rs ws : Elements) → IsArenaCopy upper m w →
     ((k : ℕ) → IfSome (slice_index_or m.windows k None) (IsPage m)) → KeepsOthers m n (bytes_of ws) →
-    IsClear m w rs ws → IsSeen upper n w
-seen_clear upper m n w rs ws x pages keeps c =
+    FindsNothing m w rs ws → IsSeen upper n w
+seen_unfound upper m n w rs ws x pages keeps c =
     let all : IsLeft w.headers.items w.headers.items = record { low = λ e. e; other = λ a e. e } in
     record {
       setting = sym x.setting;
       windows = keeps.shape.windows ∙ sym x.windows;
       pages = λ k. pages_kept m n keeps.shape k (pages k);
       headers = headers_kept m n w.headers.items w.headers.items (bytes_of ws) keeps
-          (elements_all (is_write_clear m w.headers.items) m.a20 ws c.writes) all x.headers;
+          (elements_all (is_write_unfound m w.headers.items) m.a20 ws c.writes) all x.headers;
       there = broken_none n w.broken c.whole;
     }
