@@ -223,17 +223,17 @@ again_object l = if l.more == 0 then [] else repeated_object l
 
 -- the line about findings that are left out: how many they are
 abbrev pub left_out_object : ℕ → List ℕ
-left_out_object n = opening (codes "not_listed") ++ number_member (codes "findings") n ++ object_end
+left_out_object n = opening (codes "omitted") ++ number_member (codes "findings") n ++ object_end
 
 -- the line about the findings that the report leaves out; none if there are none
-abbrev pub not_listed_object : ℕ → List ℕ
-not_listed_object n = if n == 0 then [] else left_out_object n
+abbrev pub omitted_object : ℕ → List ℕ
+omitted_object n = if n == 0 then [] else left_out_object n
 
 -- what follows the lines of the findings: a line for each finding that is repeated; a line about those that are left
 -- out, if there are any; and a line with the numbers of all errors and notes
 unfoldable pub summary_objects : Reported → List ℕ
 summary_objects r =
-    flat_map again_object r.listed ++ not_listed_object r.not_listed
+    flat_map again_object r.listed ++ omitted_object r.omitted
     ++ opening (codes "summary") ++ number_member (codes "errors") r.errors ++ number_member (codes "notes") r.notes
     ++ object_end
 
