@@ -16,7 +16,7 @@ use Rattle.dm_findings.specs.declared.finding.Contents.{Contents}
 use Rattle.dm_findings.specs.declared.finding.Act.{Act}
 use Rattle.dm_findings.specs.declared.finding.Act.TheVariants as act
 use Rattle.dm_findings.specs.declared.finding.Finding.{Finding}
-use Rattle.dm_findings.specs.declared.finding.Finding.TheVariants.{Overwritten, MappedAway, Destroyed, Whole, FreedTwice, Refused, NotAllocated, DivisionError, NotServed, Short, Left, Held, FreeRead, FreeWritten, StackFreed, WindowLost, RomWritten, NothingWritten, TailWritten, OtherFreed, NotResized}
+use Rattle.dm_findings.specs.declared.finding.Finding.TheVariants.{Overwritten, MappedAway, Destroyed, Whole, FreedTwice, Refused, NotAllocated, DivisionError, NotServed, Short, NotFreed, Held, FreeRead, FreeWritten, StackFreed, WindowLost, RomWritten, NothingWritten, TailWritten, OtherFreed, NotResized}
 use Rattle.dm_findings.specs.declared.finding.Found.{Found}
 use Rattle.dm_findings.specs.declared.finding.Origin.{Origin}
 use Rattle.dm_findings.specs.declared.finding.Kept.{Kept}
@@ -118,7 +118,7 @@ kind_word (NotAllocated code) = codes "not_allocated"
 kind_word DivisionError = codes "division_error"
 kind_word NotServed = codes "not_served"
 kind_word (Short asked largest) = codes "short"
-kind_word (Left k) = kept_word k
+kind_word (NotFreed k) = kept_word k
 kind_word (Held k) = kept_word k
 kind_word (FreeRead block segment offset) = codes "free_read"
 kind_word (FreeWritten block segment offset) = codes "free_written"
@@ -161,7 +161,7 @@ detail_members DivisionError = []
 detail_members NotServed = []
 detail_members (Short asked largest) = number_member (codes "code") 8 ++ number_member (codes "wanted") asked
     ++ number_member (codes "available") largest
-detail_members (Left k) = kept_members k
+detail_members (NotFreed k) = kept_members k
 detail_members (Held k) = kept_members k
 detail_members (FreeRead block segment offset) = number_member (codes "block") block ++ byte_members segment offset
 detail_members (FreeWritten block segment offset) = number_member (codes "block") block ++ byte_members segment offset
@@ -180,7 +180,7 @@ kept_name _ = codes "allocated_by"
 
 -- the name of the step that did something to what the finding is about
 abbrev pub origin_name : Finding → List ℕ
-origin_name (Left k) = kept_name k
+origin_name (NotFreed k) = kept_name k
 origin_name (Held k) = kept_name k
 origin_name _ = codes "freed_by"
 

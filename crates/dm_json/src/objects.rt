@@ -50,7 +50,7 @@ fn word_of(finding: &Finding) -> &'static [u8]
         Finding::DivisionError => b"division_error",
         Finding::NotServed => b"not_served",
         Finding::Short(_, _) => b"short",
-        Finding::Left(kept) | Finding::Held(kept) => kept_word(kept),
+        Finding::NotFreed(kept) | Finding::Held(kept) => kept_word(kept),
         Finding::FreeRead(_, _, _) => b"free_read",
         Finding::FreeWritten(_, _, _) => b"free_written",
         Finding::StackFreed(_) => b"stack_freed",
@@ -172,7 +172,7 @@ fn put_details(out: &mut Vec<u8>, alloc: Global, finding: &Finding) -> Result<()
             put_number_member(out, b"code", *code as u64)
         }
         Finding::Short(asked, largest) => put_short_members(out, *asked, *largest),
-        Finding::Left(kept) | Finding::Held(kept) => put_kept_members(out, kept),
+        Finding::NotFreed(kept) | Finding::Held(kept) => put_kept_members(out, kept),
         Finding::FreeRead(block, segment, offset) | Finding::FreeWritten(block, segment, offset) =>
             { put_byte_in(out, alloc, b"block", *block, *segment, *offset) }
         Finding::WindowLost(window, segment, offset) => {
@@ -229,7 +229,7 @@ fn origin_name(finding: &Finding) -> &'static [u8]
     ensures { result.now ≡ origin_name finding.now }
 {
     match finding {
-        Finding::Left(kept) | Finding::Held(kept) => kept_name(kept),
+        Finding::NotFreed(kept) | Finding::Held(kept) => kept_name(kept),
         _ => b"freed_by",
     }
 }
