@@ -8,7 +8,8 @@ use Rattle.dm_findings.specs.declared.finding.Finding.{Finding}
 use Rattle.dm_checker.specs.declared.arena_copy.HeaderCopy.{HeaderCopy}
 use Rattle.dm_checker.specs.ArenaCopy.{header_of}
 
-pub each_of_more : (f : Header → List Finding) (old out new : List Finding) (ws : List HeaderCopy) (i : ℕ) (d : HeaderCopy) →
+pub each_of_more : (f : Header → List Finding) (old out new : List Finding) (ws : List HeaderCopy) (i : ℕ)
+    (d : HeaderCopy) →
     i < length ws → out ≡ old ++ flat_map f (map header_of (take i ws)) → new ≡ out ++ f (get_or ws i d).header →
     new ≡ old ++ flat_map f (map header_of (take (i + 1) ws))
 each_of_more f old out new ws i d less before put =

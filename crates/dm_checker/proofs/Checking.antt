@@ -113,7 +113,8 @@ checked_on free s t u n m k r h f =
     let x = finds_on s t u n m k h.found (record { finds = h.finds; knows = h.knows }) f in
     record { running = h.running; found = h.found; finds = x.finds; knows = x.knows; is = h.is }
 
-pub checked_cut : (free : Bool) (s t u : State) (n m : ℕ) (stop : Stop) (w : ArenaCopy) (k l : Known) (old new : Reported) →
+pub checked_cut : (free : Bool) (s t u : State) (n m : ℕ) (stop : Stop) (w : ArenaCopy) (k l : Known)
+    (old new : Reported) →
     HasChecked free s n t k old → n < m → ChecksOne free t (Some stop) u w k l old new → IsReport s m free stop u new
 checked_cut free s t u n m stop w k l old new h less x = record {
   found = h.found ++ x.found;

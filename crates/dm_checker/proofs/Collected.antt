@@ -149,8 +149,8 @@ collecting_none w old e = record {
 }
 
 -- the headers behind which a step walks
-front_of : (w : Walking) (old out : List HeaderCopy) (v : Walking) (s : Met) (after : Option ℕ) → Collecting w old v out →
-    MeetsNext v s after → (F : List Header) × IsBehind w.memory w.second F ×
+front_of : (w : Walking) (old out : List HeaderCopy) (v : Walking) (s : Met) (after : Option ℕ) →
+    Collecting w old v out → MeetsNext v s after → (F : List Header) × IsBehind w.memory w.second F ×
     IsMet w.memory F (start_of w.second) v.at s after
 front_of w old out v s after h k =
     let begins : IsBehind w.memory w.second k.front = subst (λ (m : Memory). IsBehind m w.second k.front) h.memory
@@ -160,8 +160,8 @@ front_of w old out v s after h k =
     (k.front, begins, subst (λ (m : Memory). IsMet m k.front (start_of w.second) v.at s after) h.memory steps)
 
 -- it is a step behind all such headers
-step_of : (w : Walking) (old out : List HeaderCopy) (v : Walking) (s : Met) (after : Option ℕ) → Collecting w old v out →
-    MeetsNext v s after → (F : List Header) → IsBehind w.memory w.second F →
+step_of : (w : Walking) (old out : List HeaderCopy) (v : Walking) (s : Met) (after : Option ℕ) →
+    Collecting w old v out → MeetsNext v s after → (F : List Header) → IsBehind w.memory w.second F →
     IsMet w.memory F (start_of w.second) v.at s after
 step_of w old out v s after h k F b =
     let f = front_of w old out v s after h k in
@@ -170,7 +170,8 @@ step_of w old out v s after h k F b =
 
 pub collecting_more : (m : Memory) (w : Walking) (old out new : List HeaderCopy) (v u : Walking) (e : ListedHeader)
     (x : HeaderCopy) → w.memory ≡ m → Collecting w old v out → u.memory ≡ v.memory → u.second ≡ v.second →
-    MeetsNext v (met.Told e) u.at → x.header ≡ e.header → IsHeaderCopy m x → new ≡ out ++ x ∷ [] → Collecting w old u new
+    MeetsNext v (met.Told e) u.at → x.header ≡ e.header → IsHeaderCopy m x → new ≡ out ++ x ∷ [] →
+    Collecting w old u new
 collecting_more m w old out new v u e x here h same begins s header bits k =
     let headers : map header_of (h.more ++ x ∷ []) ≡ map header_of h.more ++ e.header ∷ [] = map_push header_of h.more x
     ∙ ap (λ (b : Header). map header_of h.more ++ b ∷ []) header in

@@ -90,7 +90,8 @@ with_touched s t old new a b before after e f touched x = record {
 }
 
 pub looks_by : (s t : State) (b : Before) (d : Cpu) (T : Memory) (old new : ArenaCopy) (ws vs : List HeaderCopy)
-    (out u v w x y z : List Finding) → IsBefore s b → IsArenaCopy s.upper s.memory old → IsArenaCopy t.upper t.memory new →
+    (out u v w x y z : List Finding) → IsBefore s b → IsArenaCopy s.upper s.memory old →
+    IsArenaCopy t.upper t.memory new →
     d ≡ t.cpu → T ≡ t.memory → ws ≡ old.headers.items → u ≡ out ++ all_overwritten (arranges b.cpu b.call) s.memory T
     (map header_of old.headers.items) → v ≡ u ++ flat_map (mapped_away s.memory T) (map header_of old.headers.items) →
     w ≡ v ++ turn_found (broken_at old.broken) (broken_at new.broken) → vs ≡ old.headers.items → x ≡ w

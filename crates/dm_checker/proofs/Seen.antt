@@ -199,8 +199,8 @@ pages_there S T windows pages k =
     subst F windows (live_if T (slice_index_or T.windows k None) (pages k))
 
 -- no header was overwritten
-pub seen_overwritten : (before upper : Bool) (S T : Memory) (w : ArenaCopy) → IsArenaCopy before S w → IsSeen upper T w →
-    flat_map (overwritten S T) (map header_of w.headers.items) ≡ []
+pub seen_overwritten : (before upper : Bool) (S T : Memory) (w : ArenaCopy) → IsArenaCopy before S w →
+    IsSeen upper T w → flat_map (overwritten S T) (map header_of w.headers.items) ≡ []
 seen_overwritten before upper S T w x y =
     let a = seen_agrees before upper S T w x y in
     let windows = seen_windows before upper S T w x y in
@@ -210,8 +210,8 @@ seen_overwritten before upper S T w x y =
     (same_by _ _ (kept_shown S T b.segment windows ∙ contents_by_five _ _ (λ k less. a.same b.segment k has less))))
 
 -- no header was mapped away
-pub seen_mapped_away : (before upper : Bool) (S T : Memory) (w : ArenaCopy) → IsArenaCopy before S w → IsSeen upper T w →
-    flat_map (mapped_away S T) (map header_of w.headers.items) ≡ []
+pub seen_mapped_away : (before upper : Bool) (S T : Memory) (w : ArenaCopy) → IsArenaCopy before S w →
+    IsSeen upper T w → flat_map (mapped_away S T) (map header_of w.headers.items) ≡ []
 seen_mapped_away before upper S T w x y =
     let windows = seen_windows before upper S T w x y in
     none_of_each (mapped_away S T) (map header_of w.headers.items) (λ b has.

@@ -109,8 +109,8 @@ parted_by upper linked r m on tells is L a = ap₂ (λ (b c : Bool). b && not c)
 
 -- ---- both
 
-pub all_cut : (upper : Bool) (m : Memory) (w : Walking) (at : ℕ) (b : Broken) (old new : List HeaderCopy) → w.memory ≡ m →
-    w.second ≡ false → Collects w (Err at) old new → b.segment ≡ at → IsBits m at b.bits →
+pub all_cut : (upper : Bool) (m : Memory) (w : Walking) (at : ℕ) (b : Broken) (old new : List HeaderCopy) →
+    w.memory ≡ m → w.second ≡ false → Collects w (Err at) old new → b.segment ≡ at → IsBits m at b.bits →
     CollectsAll upper m (Some b) old new
 all_cut upper m w at b old new same second x there bits = record {
   more = x.more;
@@ -121,8 +121,8 @@ all_cut upper m w at b old new same second x there bits = record {
   there = bits_there m at b.segment b.bits there bits;
 }
 
-pub all_alone : (upper : Bool) (m : Memory) (w v : Walking) (old new : List HeaderCopy) → w.memory ≡ m → w.second ≡ false →
-    Collects w (Ok v) old new → TellsParted upper m false → CollectsAll upper m None old new
+pub all_alone : (upper : Bool) (m : Memory) (w v : Walking) (old new : List HeaderCopy) → w.memory ≡ m →
+    w.second ≡ false → Collects w (Ok v) old new → TellsParted upper m false → CollectsAll upper m None old new
 all_alone upper m w v old new same second x apart =
     let a = first_arena m w v old new same second x in
     record {
@@ -143,7 +143,8 @@ broken_there : (m : Memory) (L P : List Header) (broken : Option Broken) → IsS
 broken_there m L P None s = tt
 broken_there m L P (Some b) s = s.1
 
-pub all_parted : (upper : Bool) (m : Memory) (w v : Walking) (broken : Option Broken) (old between new : List HeaderCopy) →
+pub all_parted : (upper : Bool) (m : Memory) (w v : Walking) (broken : Option Broken)
+    (old between new : List HeaderCopy) →
     w.memory ≡ m → w.second ≡ false → Collects w (Ok v) old between → TellsParted upper m true →
     CollectsSecond m broken between new → CollectsAll upper m broken old new
 all_parted upper m w v broken old between new same second x apart y =

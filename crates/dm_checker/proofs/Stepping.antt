@@ -58,7 +58,8 @@ found_as s t k fs gs more e x = (let F : List Finding → Type 0 = λ l. IsFound
 -- ---- who allocated and who freed
 
 -- what is known after a step, by what was kept of the arena before and after it
-pub known_after : (s t : State) (b : Before) (v w : ArenaCopy) (k l : Known) → IsBefore s b → IsArenaCopy s.upper s.memory v →
+pub known_after : (s t : State) (b : Before) (v w : ArenaCopy) (k l : Known) → IsBefore s b →
+    IsArenaCopy s.upper s.memory v →
     IsArenaCopy t.upper t.memory w → l ≡ known_by s t (shown_of v) (shown_of w) b.call k → IsKnownAfter s t k l
 known_after s t b v w k l h x y e = record {
   old = shown_of v;
@@ -166,8 +167,8 @@ seen_there s w x pages = record {
 }
 
 -- what is found of a step without a call, of which nothing is touched and after which memory shows the same
-nothing_by : (s t : State) (w : ArenaCopy) → call_of s.cpu ≡ None → IsArenaCopy s.upper s.memory w → IsSeen t.upper t.memory w →
-    FindsTouched s (shown_of w) [] → Finds s t []
+nothing_by : (s t : State) (w : ArenaCopy) → call_of s.cpu ≡ None → IsArenaCopy s.upper s.memory w →
+    IsSeen t.upper t.memory w → FindsTouched s (shown_of w) [] → Finds s t []
 nothing_by s t w uncalled x seen touched =
     let calm : freed_twice s.cpu t.cpu (call_of s.cpu) (shown_of w).headers ++ call_findings s.cpu t.cpu (call_of s.cpu)
     ≡ []
@@ -256,8 +257,8 @@ still_known s t Destroyed k other = refl
 still_known s t NoMemory k other = refl
 
 -- no step was made
-pub stops : (free : Bool) (s t : State) (stop : Stop) (w : ArenaCopy) (k : Known) (r : Reported) → Answers s (Some stop) t →
-    ((code : ℕ) → stop ≡ Exited code → ⊥) → ChecksOne free s (Some stop) t w k k r r
+pub stops : (free : Bool) (s t : State) (stop : Stop) (w : ArenaCopy) (k : Known) (r : Reported) →
+    Answers s (Some stop) t → ((code : ℕ) → stop ≡ Exited code → ⊥) → ChecksOne free s (Some stop) t w k k r r
 stops free s t stop w k r a other = record {
   answers = a;
   found = [];
@@ -270,7 +271,8 @@ stops free s t stop w k r a other = record {
 -- ---- a step of an instruction that touches nothing that matters
 
 -- nothing is found of what it touches
-unfound_touched : (s t : State) (w : ArenaCopy) → (p : FindsNothingAt s w) → Answers s None t → FindsTouched s (shown_of w) []
+unfound_touched : (s t : State) (w : ArenaCopy) → (p : FindsNothingAt s w) → Answers s None t →
+    FindsTouched s (shown_of w) []
 unfolding touch_findings
 unfound_touched s t w p a =
     let rs = bytes_of (reads (guest s.cpu s.memory) p.ins p.length) in
@@ -283,7 +285,8 @@ unfound_touched s t w p a =
     p.nothing.writes in
     let headers : of_headers a20 rs ws (broken_at w.broken) (map header_of w.headers.items) ≡ []
     = ap (λ (o : Option Broken). of_headers a20 rs ws (broken_at o) (map header_of w.headers.items)) p.nothing.whole
-    ∙ headers_unfound a20 rs ws w.headers.items unfound_reads (apart_of s.memory w.headers.items a20 ws unfound_writes) in
+    ∙ headers_unfound a20 rs ws w.headers.items unfound_reads
+    (apart_of s.memory w.headers.items a20 ws unfound_writes) in
     let places : of_places s.memory ws ≡ [] = places_unfound s.memory w.headers.items ws
     (memory_of s.memory w.headers.items a20 ws unfound_writes) in
     touching p.ins p.length (still_running s t a) (no_call s.cpu p.below) p.begins (sym (ap₂ (λ (l m : List Finding). l
@@ -294,8 +297,8 @@ abbrev pub HasPages : State → Type 0
 HasPages s = (k : ℕ) → IfSome (slice_index_or s.memory.windows k None) (IsPage s.memory)
 
 -- memory still shows what was kept
-unfound_seen : (s t : State) (w : ArenaCopy) → FindsNothingAt s w → HasPages s → Answers s None t → IsArenaCopy s.upper s.memory w →
-    IsSeen t.upper t.memory w
+unfound_seen : (s t : State) (w : ArenaCopy) → FindsNothingAt s w → HasPages s → Answers s None t →
+    IsArenaCopy s.upper s.memory w → IsSeen t.upper t.memory w
 unfound_seen s t w p pages a x =
     let g = guest s.cpu s.memory in
     let n : Memory = (effect g p.ins p.length).memory in
@@ -321,8 +324,8 @@ pass_more p q h a20 e t =
     (element_more p q h a20 e.third (and_right (a && b) c t))
 
 -- nothing is found of a step that touches nothing that is marked
-unmarked_finds_nothing : (s : State) (w : ArenaCopy) → w.broken ≡ None → IsArenaCopy s.upper s.memory w → IsUnmarked w.marks s →
-    Begins s → FindsNothingAt s w
+unmarked_finds_nothing : (s : State) (w : ArenaCopy) → w.broken ≡ None → IsArenaCopy s.upper s.memory w →
+    IsUnmarked w.marks s → Begins s → FindsNothingAt s w
 unmarked_finds_nothing s w whole x u b =
     let g = guest s.cpu s.memory in
     let quiet = u.quiet b.ins b.length b.begins in
@@ -360,14 +363,14 @@ unfound_more s t u w n whole p x step =
     } in
     record { unfound = steps.further n t u p.unfound step passing; arena = arena; pages = seen.pages }
 
-unfound_all : (s : State) (w : ArenaCopy) (t : State) (n : ℕ) → w.broken ≡ None → IsArenaCopy s.upper s.memory w → HasPages s →
-    GoesUnmarked w.marks s n t → StaysUnfound s t w n
+unfound_all : (s : State) (w : ArenaCopy) (t : State) (n : ℕ) → w.broken ≡ None → IsArenaCopy s.upper s.memory w →
+    HasPages s → GoesUnmarked w.marks s n t → StaysUnfound s t w n
 unfound_all s w _ _ whole x pages unmarked.here = record { unfound = steps.here; arena = x; pages = pages }
 unfound_all s w _ _ whole x pages (unmarked.further n t u g i h) =
     unfound_more s t u w n whole (unfound_all s w t n whole x pages g) i h
 
-pub unfound : (s t : State) (w : ArenaCopy) (n : ℕ) → w.broken ≡ None → IsArenaCopy s.upper s.memory w → AreConsistent s →
-    GoesUnmarked w.marks s n t → StaysUnfound s t w n
+pub unfound : (s t : State) (w : ArenaCopy) (n : ℕ) → w.broken ≡ None → IsArenaCopy s.upper s.memory w →
+    AreConsistent s → GoesUnmarked w.marks s n t → StaysUnfound s t w n
 unfound s t w n whole x linked g = unfound_all s w t n whole x (pages_there s linked) g
 
 pub not_broken : {T : Type 0} (o : Option T) → is_some o ≡ false → o ≡ None

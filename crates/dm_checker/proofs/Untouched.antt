@@ -109,7 +109,8 @@ other_paragraph h a k e less same =
     let equal : (h == a / 16) ≡ true = grind (arith, nat_tests) in
     false≢true (sym e ∙ equal)
 
-apart : (m : Memory) (xs : List HeaderCopy) (x : HeaderCopy) (a k : ℕ) → (list_any is_high xs ≡ false → is_high x ≡ false) →
+apart : (m : Memory) (xs : List HeaderCopy) (x : HeaderCopy) (a k : ℕ) →
+    (list_any is_high xs ≡ false → is_high x ≡ false) →
     (x.header.segment == a / 16) ≡ false → k < 5 → Goes m xs a → place m a ≢ place m (16 * x.header.segment + k)
 apart m xs x a k low other less (to_ram here) same = other_paragraph x.header.segment a k other less
     (at_low m a (16 * x.header.segment + k) (sym same ∙ here))
@@ -136,8 +137,8 @@ left_tail xs y ys l = record {
 }
 
 -- none of the bytes that are written is at the place of a byte of the header
-all_apart : (m : Memory) (xs : List HeaderCopy) (y : HeaderCopy) (ys : List HeaderCopy) (k : ℕ) → IsLeft xs (y ∷ ys) → k < 5 →
-    (fs : List FarAddress) → are_all (is_write_unfound m xs) m.a20 fs ≡ true →
+all_apart : (m : Memory) (xs : List HeaderCopy) (y : HeaderCopy) (ys : List HeaderCopy) (k : ℕ) → IsLeft xs (y ∷ ys) →
+    k < 5 → (fs : List FarAddress) → are_all (is_write_unfound m xs) m.a20 fs ≡ true →
     All (λ (f : FarAddress). byte_place m f ≢ place m (16 * y.header.segment + k)) fs
 all_apart m xs y ys k l less [] e = All-nil (λ (g : FarAddress). byte_place m g ≢ place m (16 * y.header.segment + k))
 all_apart m xs y ys k l less (f ∷ fs) e =

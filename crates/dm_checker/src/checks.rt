@@ -7,8 +7,8 @@ ghost use Rattle.dm_findings.specs.Report.{report_of};
 ghost use Rattle.dm_checker.specs.Checks.{IsReport, RunsPart};
 ghost use Rattle.dm_checker.specs.Checking.{RunGoesOn, GoesToFirst, HasProcesses, IsLonger, IsUnderWay};
 
-use crate::steps::{look_at_step, run_unmarked};
 use crate::arena_copy::{ArenaCopy, read_arena};
+use crate::steps::{look_at_step, run_unmarked};
 use dm_findings::Report;
 use dm_findings::processes::Process;
 use dm_machine::{Machine, Stop};

@@ -17,12 +17,12 @@ ghost use Rattle.dm_checker.specs.inner.ArenaCopy.{shown_of};
 ghost use Rattle.dm_checker.specs.inner.Steps.{IsBefore, IsPart, Looks, ReportsMore, found_by, ChecksOne, GoesUnfound};
 
 use crate::acts::Before;
+use crate::arena_copy::{ArenaCopy, Broken, read_arena};
 use crate::arranged::put_arranged;
 use crate::freed::put_freed_twice;
 use crate::headers::{put_all_mapped_away, put_all_overwritten};
 use crate::recording::record_step;
 use crate::touched::put_touched;
-use crate::arena_copy::{Broken, ArenaCopy, read_arena};
 use dm_findings::{Act, Call, Finding, Found, Report};
 use dm_machine::{Machine, Stop, tables_and_memory_are_consistent};
 use dm_origins::Origins;

@@ -63,9 +63,9 @@ pub record Given : Type 0 where
   -- standard error
   pub messages : Stream
 
--- what `dm` has produced at its end: what standard output has taken and which files were written, each where it is known; how
--- many writes and flushes of standard output, saves of files and reads of files have failed, and how often two paths
--- were found to lead to one file; standard error; and the exit status
+-- what `dm` has produced at its end: what standard output has taken and which files were written, each where it is
+-- known; how many writes and flushes of standard output, saves of files and reads of files have failed, and how often
+-- two paths were found to lead to one file; standard error; and the exit status
 pub record Produced : Type 0 where
   pub output : Option (List ℕ)
   pub failures : ℕ

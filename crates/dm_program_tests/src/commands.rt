@@ -313,7 +313,8 @@ fn tells(
     Ok(())
 }
 
-/// Definitions: dm_cli Program Does IsParsed Given Produced Runs; dm_cli Starting IsStartedBy sizes_of paths_of typed_in
+/// Definitions: dm_cli Program Does IsParsed Given Produced Runs
+/// Definitions: dm_cli Starting IsStartedBy sizes_of paths_of typed_in
 /// Definitions: dm_cli Statuses exit_status_of status_after; dm_cli Names last_part
 /// Definitions: dm_cli Stores AddsFile Stores IsStarted IsBegun
 #[test]

@@ -25,4 +25,5 @@ pub record FindsNothingAt (s : State) (w : ArenaCopy) : Type 0 where
   pub length : ℕ
   pub below : s.cpu.cs < 0xF000
   pub begins : BeginsWith (fetched s.memory s.cpu) ins length
-  pub nothing : FindsNothing s.memory w (reads (guest s.cpu s.memory) ins length) (writes (guest s.cpu s.memory) ins length)
+  pub nothing : FindsNothing s.memory w (reads (guest s.cpu s.memory) ins length)
+      (writes (guest s.cpu s.memory) ins length)

@@ -170,8 +170,8 @@ event_still g i k ms (Function n ah) markable marked quiet = refl
 
 -- all ranges stay as they are
 pub all_still : (start : Memory) (g : Guest) (i : Ins) (k : ℕ) (ms : List ℕ) (es : List Event) →
-    list_all is_markable es ≡ true → All (IsGuarded ms) es → satisfy (lies_below ms 1) g.memory.a20 (writes g i k) ≡ true
-    → AreStill start g.memory es → AreStill start (effect g i k).memory es
+    list_all is_markable es ≡ true → All (IsGuarded ms) es → satisfy (lies_below ms 1) g.memory.a20 (writes g i k)
+    ≡ true → AreStill start g.memory es → AreStill start (effect g i k).memory es
 all_still start g i k ms [] markable marked quiet still = All-nil (λ (e : Event). bytes_for (effect g i k).memory e
     ≡ bytes_for start e)
 all_still start g i k ms (e ∷ es) markable marked quiet still =

@@ -28,8 +28,8 @@ pub enum RunEnd {
 }
 
 /// Makes at least one step and at most `most`, none but the last of which leads to an event, and returns how many; an
-/// `Err` is why the machine stopped instead. `markable` says that marks tell whether events can come, and `pairs` is room
-/// for breakpoints.
+/// `Err` is why the machine stopped instead. `markable` says that marks tell whether events can come, and `pairs` is
+/// room for breakpoints.
 fn advance(
     machine: &mut Machine,
     most: u64,
@@ -60,8 +60,8 @@ fn advance(
     }
 }
 
-/// Makes at most `most` steps, as `run_to` does. `watches` are the events with the bytes before the run, `markable` says
-/// that marks tell whether events can come, and `pairs` is room for breakpoints.
+/// Makes at most `most` steps, as `run_to` does. `watches` are the events with the bytes before the run, `markable`
+/// says that marks tell whether events can come, and `pairs` is room for breakpoints.
 fn go(
     machine: &mut Machine,
     most: u64,

@@ -93,8 +93,8 @@ fn run_marked(machine: &mut Machine, most: u64, pairs: &[Breakpoint], marks: &Op
 }
 
 /// Makes at most `most` steps, none but the last of which leads to an event, and returns how many. It may make none.
-/// `markable` says that marks tell whether events can come; where there are no marks all events are at addresses. `pairs`
-/// is room for breakpoints.
+/// `markable` says that marks tell whether events can come; where there are no marks all events are at addresses.
+/// `pairs` is room for breakpoints.
 pub(crate) fn run_up_to_event(
     machine: &mut Machine,
     most: u64,
