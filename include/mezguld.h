@@ -490,9 +490,9 @@ MEZGULD_CALL mezguld_status mezguld_findings(const mezguld *machine, mezguld_fin
 
 /* Writes how many errors and how many notes that report has, repetitions included, into `*errors` and `*notes`, and
  * how many findings it neither lists nor counts as repetitions, since it lists 100 errors and 100 notes, into
- * `*not_listed`. NO_MACHINE. */
+ * `*omitted`. NO_MACHINE. */
 MEZGULD_CALL mezguld_status mezguld_finding_counts(const mezguld *machine, uint64_t *errors, uint64_t *notes,
-                                                   uint64_t *not_listed);
+                                                   uint64_t *omitted);
 
 /* Copies the line of finding `k` of that report, from 0, with its line feed, into a buffer, and writes its count into
  * `*wanted`. NO_MACHINE, NO_FINDING, OUT_OF_MEMORY, TOO_SMALL (then `*wanted` alone is written). */

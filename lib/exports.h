@@ -58,7 +58,7 @@ mezguld_status dm_c_read_page(mezguld *machine, uint16_t handle, uint16_t page, 
                               size_t count);
 mezguld_status dm_c_read_block(mezguld *machine, uint16_t handle, size_t offset, void *buffer, size_t count);
 mezguld_status dm_c_findings(mezguld *machine, mezguld_finding *buffer, size_t room, size_t *wanted);
-mezguld_status dm_c_finding_counts(mezguld *machine, uint64_t *errors, uint64_t *notes, uint64_t *not_listed);
+mezguld_status dm_c_finding_counts(mezguld *machine, uint64_t *errors, uint64_t *notes, uint64_t *omitted);
 mezguld_status dm_c_finding_line(mezguld *machine, size_t k, char *buffer, size_t room, size_t *wanted);
 mezguld_status dm_c_assemble(const char *text, size_t text_count, void *buffer, size_t room, size_t *wanted,
                              size_t *line);

@@ -394,13 +394,13 @@ mezguld_status mezguld_findings(const mezguld *machine, mezguld_finding *buffer,
     return dm_c_findings(handle_of(machine), room_at(buffer), room, wanted == NULL ? &unwanted : wanted);
 }
 
-mezguld_status mezguld_finding_counts(const mezguld *machine, uint64_t *errors, uint64_t *notes, uint64_t *not_listed)
+mezguld_status mezguld_finding_counts(const mezguld *machine, uint64_t *errors, uint64_t *notes, uint64_t *omitted)
 {
     uint64_t unwanted, unneeded, unused;
     if (machine == NULL)
         return MEZGULD_NO_MACHINE;
     return dm_c_finding_counts(handle_of(machine), errors == NULL ? &unwanted : errors,
-                               notes == NULL ? &unneeded : notes, not_listed == NULL ? &unused : not_listed);
+                               notes == NULL ? &unneeded : notes, omitted == NULL ? &unused : omitted);
 }
 
 mezguld_status mezguld_finding_line(const mezguld *machine, size_t k, char *buffer, size_t room, size_t *wanted)

@@ -150,15 +150,15 @@ class Report(NamedTuple):
 def report_of(lines: list[str], code: int) -> Report:
     """The report of a checked run by its lines, and the exit code of a program that has ended."""
     found: dict[str, dict[str, Any]] = {}
-    summary, end = {"errors": 0, "notes": 0, "not_listed": 0}, {}
+    summary, end = {"errors": 0, "notes": 0, "omitted": 0}, {}
     for it in reports.objects(lines, code):
         kind = it["type"]
         if kind in ("error", "note"):
             found[key_of(it)] = {**it, "more": 0, "last": it["step"]}
         elif kind == "again":
             found[key_of(it)].update(more=it["more"], last=it["last"])
-        elif kind == "not_listed":
-            summary["not_listed"] = it["findings"]
+        elif kind == "omitted":
+            summary["omitted"] = it["findings"]
         elif kind == "summary":
             summary.update(errors=it["errors"], notes=it["notes"])
         else:

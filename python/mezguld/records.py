@@ -253,14 +253,14 @@ class Finding:
 
 class Findings(list):
     """The findings that a report lists, in the order in which they happened; `errors` and `notes` count all, and
-    `not_listed` those beyond the first 100 errors and the first 100 notes, which it does not list."""
+    `omitted` those beyond the first 100 errors and the first 100 notes, which it does not list."""
 
-    def __init__(self, found: Iterable[Finding] = (), errors: int = 0, notes: int = 0, not_listed: int = 0) -> None:
+    def __init__(self, found: Iterable[Finding] = (), errors: int = 0, notes: int = 0, omitted: int = 0) -> None:
         super().__init__(found)
-        self.errors, self.notes, self.not_listed = errors, notes, not_listed
+        self.errors, self.notes, self.omitted = errors, notes, omitted
 
     def __repr__(self) -> str:
-        return f"Findings({super().__repr__()}, errors={self.errors}, notes={self.notes}, not_listed={self.not_listed})"
+        return f"Findings({super().__repr__()}, errors={self.errors}, notes={self.notes}, omitted={self.omitted})"
 
 
 # ---- from the records of the library

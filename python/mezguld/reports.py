@@ -224,8 +224,8 @@ def objects(lines: list[str], status: int | None) -> list[Any]:
         elif word == "again":
             text, more, last = groups(AGAIN, rest)
             made.append({"type": "again", **finding(text, text in errors), "more": int(more), "last": int(last)})
-        elif word == "not listed":
-            made.append({"type": "not_listed", "findings": int(rest.split()[0])})
+        elif word == "omitted":
+            made.append({"type": "omitted", "findings": int(rest.split()[0])})
         elif word == "errors":
             first, second = groups(COUNTS, rest)
             made.append({"type": "summary", "errors": int(first), "notes": int(second)})

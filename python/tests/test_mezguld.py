@@ -394,7 +394,7 @@ class Reports(unittest.TestCase):
             self.assertEqual(machine.check(1)[0].why, Stop.HALTED)
             self.assertEqual((machine.findings(), machine.findings().notes), ([], 0))
         self.assertEqual(stopped.why, Stop.HALTED)
-        self.assertEqual((found.errors, found.notes, found.not_listed, len(found)), (2, 3, 0, 3))
+        self.assertEqual((found.errors, found.notes, found.omitted, len(found)), (2, 3, 0, 3))
         place, act = Place(0x0103, 0x0105), Act(How.INSTRUCTION, next=0x010B)
         old, new = Contents(0x5A, 0x0103, 0x9EFD), Contents(0, 0x0103, 0x9EFD)
         self.assertEqual(
@@ -442,7 +442,7 @@ class Reports(unittest.TestCase):
         with started("MOV AH,0EEh\nINT 21h\n" * 120 + END) as machine:
             machine.check(1000)
             found = machine.findings()
-        self.assertEqual((len(found), found.errors, found.notes, found.not_listed), (100, 0, 120, 20))
+        self.assertEqual((len(found), found.errors, found.notes, found.omitted), (100, 0, 120, 20))
         self.assertEqual([(it.step, it.at.ip) for it in found], [(3 + 3 * at, 0x0102 + 4 * at) for at in range(100)])
         self.assertEqual(
             {(it.kind, it.act, it.details) for it in found},

@@ -126,7 +126,7 @@ class Records(unittest.TestCase):
                 },
             ],
         )
-        self.assertEqual(data["summary"], {"errors": 2, "notes": 1, "not_listed": 0})
+        self.assertEqual(data["summary"], {"errors": 2, "notes": 1, "omitted": 0})
         self.assertTrue({it["step"] for it in data["findings"]} <= {row[0] for row in data["moments"]})
         self.assertEqual(
             data["run"]["end"],
@@ -153,7 +153,7 @@ class Records(unittest.TestCase):
         )
         data = picture.record(one(text))
         count = data["summary"]["errors"] + data["summary"]["notes"]
-        self.assertEqual(sum(1 + it["more"] for it in data["findings"]) + data["summary"]["not_listed"], count)
+        self.assertEqual(sum(1 + it["more"] for it in data["findings"]) + data["summary"]["omitted"], count)
 
     def test_interrupt_whose_stack_is_a_header(self) -> None:
         # (The finding is at the step of the INT, which leads to a service at once.)
@@ -337,7 +337,7 @@ class Reports(unittest.TestCase):
                 kinds.add(it["kind"])
         self.assertEqual(len(kinds), 25, sorted(kinds))
 
-    def test_again_and_what_is_not_listed(self) -> None:
+    def test_again_and_what_is_omitted(self) -> None:
         lines = [
             (
                 "note: step 6, 0103:0109 INT 21h function 49h (Free Allocated Memory): refused with code 09h, no such"
@@ -347,13 +347,13 @@ class Reports(unittest.TestCase):
                 "again: step 6, 0103:0109 INT 21h function 49h (Free Allocated Memory): refused with code 09h, no such"
                 " block: 4 more, the last at step 30"
             ),
-            "not listed: 7 findings",
+            "omitted: 7 findings",
             "errors: 0, notes: 12",
             "stopped: unlisted at 0103:0110: 0F FF",
         ]
         report = picture.report_of(lines, 0)
         self.assertEqual([(it["kind"], it["more"], it["last"]) for it in report.findings], [("refused", 4, 30)])
-        self.assertEqual(report.summary, {"errors": 0, "notes": 12, "not_listed": 7})
+        self.assertEqual(report.summary, {"errors": 0, "notes": 12, "omitted": 7})
         self.assertEqual(
             report.end,
             {

@@ -194,7 +194,7 @@ static void list_all(mezguld *machine)
     mezguld_upper_block upper;
     mezguld_finding finding;
     uint32_t a20 = 7, used = 7;
-    uint64_t errors = 7, notes = 7, not_listed = 7;
+    uint64_t errors = 7, notes = 7, omitted = 7;
     size_t count = 7;
     char bytes[8] = "";
     memset(windows, 0x77, sizeof windows);
@@ -241,8 +241,8 @@ static void list_all(mezguld *machine)
     EXPECT(mezguld_findings(machine, NULL, 0, NULL) == MEZGULD_OK);
     EXPECT(mezguld_findings(machine, &finding, 1, &count) == MEZGULD_OK && count == 0);
     EXPECT(mezguld_finding_counts(machine, NULL, NULL, NULL) == MEZGULD_OK);
-    EXPECT(mezguld_finding_counts(machine, &errors, &notes, &not_listed) == MEZGULD_OK && errors == 0 && notes == 0);
-    EXPECT(not_listed == 0);
+    EXPECT(mezguld_finding_counts(machine, &errors, &notes, &omitted) == MEZGULD_OK && errors == 0 && notes == 0);
+    EXPECT(omitted == 0);
     EXPECT(mezguld_finding_line(machine, 0, NULL, 1, &count) == MEZGULD_NULL_POINTER);
     EXPECT(mezguld_finding_line(machine, 0, NULL, 0, NULL) == MEZGULD_NO_FINDING);
     EXPECT(mezguld_finding_line(machine, (size_t)-1, bytes, 8, &count) == MEZGULD_NO_FINDING && bytes[0] == 0);

@@ -12,7 +12,7 @@ import specs  # noqa: E402
 
 # Names in the line of a crate or a module, and words of the fault, or None where there is none.
 LINES = (
-    ("`dm_reports`", "`put_report`, `put_not_listed`", None),
+    ("`dm_reports`", "`put_report`, `put_omitted`", None),
     # (It stands in another crate.)
     ("`dm_reports`", "`put_pages`", "dm_reports has no public `put_pages`"),
     ("`dm_views`", "`put_pages`, a law", None),

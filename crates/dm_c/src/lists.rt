@@ -157,7 +157,7 @@ pub extern "C" fn dm_c_findings(
     on_machine!(machine, alloc, host => calls::findings(alloc, &host, buffer, wanted))
 }
 
-/// Sets `errors` and `notes` to how many of each the last checked run had, and `not_listed` to how many findings its
+/// Sets `errors` and `notes` to how many of each the last checked run had, and `omitted` to how many findings its
 /// report neither lists nor counts as repetitions. No program need be loaded.
 #[unsafe(no_mangle)]
 pub extern "C" fn dm_c_finding_counts(
@@ -165,13 +165,13 @@ pub extern "C" fn dm_c_finding_counts(
     machine: &mut MachineHandle,
     errors: &mut u64,
     notes: &mut u64,
-    not_listed: &mut u64,
+    omitted: &mut u64,
 ) -> u32
     ensures { IsCall machine.old.inside.value machine.new.inside.value ((result ≡ 1) × (errors.new ≡ errors.old) ×
-        (notes.new ≡ notes.old) × (not_listed.new ≡ not_listed.old)) (λ h g. FindingCountsTo h errors.new notes.new
-        not_listed.new result g) }
+        (notes.new ≡ notes.old) × (omitted.new ≡ omitted.old)) (λ h g. FindingCountsTo h errors.new notes.new
+        omitted.new result g) }
 {
-    on_machine!(machine, alloc, host => calls::finding_counts(&host, errors, notes, not_listed))
+    on_machine!(machine, alloc, host => calls::finding_counts(&host, errors, notes, omitted))
 }
 
 /// Copies the line of finding `k`, from 0, of that report to the front of the buffer, and sets `wanted` to how many

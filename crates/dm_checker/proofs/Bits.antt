@@ -4,7 +4,7 @@ use Rattle.dm_space.specs.Memory.{Memory, linear, peek}
 use Rattle.dm_space.specs.EightBytes.{IsEightBytes}
 use Rattle.dm_blocks.proofs.Bytes.{read-at}
 use Rattle.dm_blocks.proofs.Unique.{each_of_five}
-use Rattle.dm_checker.specs.Watching.{IsBits}
+use Rattle.dm_checker.specs.ArenaCopy.{IsBits}
 
 -- a byte of a paragraph, as it was read with its segment
 byte-at : (m : Memory) (h k : ℕ) → h ≤ 0xFFFF → k < 16 → peek m (linear m.a20 h k) ≡ peek m (16 * h + k)

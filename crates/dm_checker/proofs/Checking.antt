@@ -12,7 +12,7 @@ use Rattle.dm_findings.specs.Report.{Reported, report_of}
 use Rattle.dm_origins.specs.Origins.{Known}
 use Rattle.dm_checker.specs.Origins.{IsKnownAfter, OriginsIn, known_at}
 use Rattle.dm_checker.specs.Origins as origins
-use Rattle.dm_checker.specs.declared.watch.Watch.{Watch}
+use Rattle.dm_checker.specs.declared.arena_copy.ArenaCopy.{ArenaCopy}
 use Rattle.dm_checker.specs.Checks.{FindsIn, Checks, IsReport, RunsPart, reported}
 use Rattle.dm_checker.specs.Checks as checks
 use Rattle.dm_checker.specs.Findings.{none}
@@ -71,7 +71,7 @@ checked_none free s t k r e same first is =
       is = is;
     }
 
-pub checked_more : (free : Bool) (s t u : State) (n : ℕ) (w : Watch) (k l : Known) (old new : Reported) →
+pub checked_more : (free : Bool) (s t u : State) (n : ℕ) (w : ArenaCopy) (k l : Known) (old new : Reported) →
     HasChecked free s n t k old → ChecksOne free t None u w k l old new → HasChecked free s (n + 1) u l new
 checked_more free s t u n w k l old new h x = record {
   running = h.running;
@@ -113,7 +113,8 @@ checked_on free s t u n m k r h f =
     let x = finds_on s t u n m k h.found (record { finds = h.finds; knows = h.knows }) f in
     record { running = h.running; found = h.found; finds = x.finds; knows = x.knows; is = h.is }
 
-pub checked_cut : (free : Bool) (s t u : State) (n m : ℕ) (stop : Stop) (w : Watch) (k l : Known) (old new : Reported) →
+pub checked_cut : (free : Bool) (s t u : State) (n m : ℕ) (stop : Stop) (w : ArenaCopy) (k l : Known)
+    (old new : Reported) →
     HasChecked free s n t k old → n < m → ChecksOne free t (Some stop) u w k l old new → IsReport s m free stop u new
 checked_cut free s t u n m stop w k l old new h less x = record {
   found = h.found ++ x.found;

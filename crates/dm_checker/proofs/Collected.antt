@@ -11,10 +11,10 @@ use Rattle.dm_blocks.specs.declared.listing.Met.TheVariants as met
 use Rattle.dm_blocks.specs.Chain.{first_header, next, signature_byte, IsHeader, IsClear, IsArenaBehind}
 use Rattle.dm_blocks.specs.Listing.{Walking, Path, Leads, Follows, Closes, IsBehind, IsMet, IsMetFrom, MeetsNext, start_of}
 use Rattle.dm_blocks.proofs.Unique.{arena_unique}
-use Rattle.dm_checker.specs.declared.watch.Watched.{Watched}
+use Rattle.dm_checker.specs.declared.arena_copy.HeaderCopy.{HeaderCopy}
 use Rattle.dm_checker.specs.Shown.{IsCut}
-use Rattle.dm_checker.specs.Watching.{header_of, IsWatched}
-use Rattle.dm_checker.specs.inner.Watching.{Collects}
+use Rattle.dm_checker.specs.ArenaCopy.{header_of, IsHeaderCopy}
+use Rattle.dm_checker.specs.inner.ArenaCopy.{Collects}
 
 -- ---- the headers before a list
 
@@ -129,28 +129,28 @@ told_cut m F start at after segment P (over is a) h = absurd (at_end m F start a
 -- ---- the walk
 
 -- what a walk over the list of another has put behind what stood there
-pub record Collecting (w : Walking) (old : List Watched) (v : Walking) (out : List Watched) : Type 0 where
+pub record Collecting (w : Walking) (old : List HeaderCopy) (v : Walking) (out : List HeaderCopy) : Type 0 where
   pub memory : v.memory ≡ w.memory
   pub second : v.second ≡ w.second
-  pub more : List Watched
+  pub more : List HeaderCopy
   pub is : out ≡ old ++ more
   pub told : (F : List Header) → IsBehind w.memory w.second F →
       HasTold w.memory F (start_of w.second) v.at (map header_of more)
-  pub watched : All (IsWatched w.memory) more
+  pub copies : All (IsHeaderCopy w.memory) more
 
-pub collecting_none : (w : Walking) (old : List Watched) → w.at ≡ Some (start_of w.second) → Collecting w old w old
+pub collecting_none : (w : Walking) (old : List HeaderCopy) → w.at ≡ Some (start_of w.second) → Collecting w old w old
 collecting_none w old e = record {
   memory = refl;
   second = refl;
   more = [];
   is = sym (append-nil old);
   told = λ F b. told_none w.memory w.second F w.at b e;
-  watched = All-nil (IsWatched w.memory);
+  copies = All-nil (IsHeaderCopy w.memory);
 }
 
 -- the headers behind which a step walks
-front_of : (w : Walking) (old out : List Watched) (v : Walking) (s : Met) (after : Option ℕ) → Collecting w old v out →
-    MeetsNext v s after → (F : List Header) × IsBehind w.memory w.second F ×
+front_of : (w : Walking) (old out : List HeaderCopy) (v : Walking) (s : Met) (after : Option ℕ) →
+    Collecting w old v out → MeetsNext v s after → (F : List Header) × IsBehind w.memory w.second F ×
     IsMet w.memory F (start_of w.second) v.at s after
 front_of w old out v s after h k =
     let begins : IsBehind w.memory w.second k.front = subst (λ (m : Memory). IsBehind m w.second k.front) h.memory
@@ -160,17 +160,18 @@ front_of w old out v s after h k =
     (k.front, begins, subst (λ (m : Memory). IsMet m k.front (start_of w.second) v.at s after) h.memory steps)
 
 -- it is a step behind all such headers
-step_of : (w : Walking) (old out : List Watched) (v : Walking) (s : Met) (after : Option ℕ) → Collecting w old v out →
-    MeetsNext v s after → (F : List Header) → IsBehind w.memory w.second F →
+step_of : (w : Walking) (old out : List HeaderCopy) (v : Walking) (s : Met) (after : Option ℕ) →
+    Collecting w old v out → MeetsNext v s after → (F : List Header) → IsBehind w.memory w.second F →
     IsMet w.memory F (start_of w.second) v.at s after
 step_of w old out v s after h k F b =
     let f = front_of w old out v s after h k in
     subst (λ (X : List Header). IsMet w.memory X (start_of w.second) v.at s after)
     (behind_once w.memory w.second f.0 F f.1 b) f.2
 
-pub collecting_more : (m : Memory) (w : Walking) (old out new : List Watched) (v u : Walking) (e : ListedHeader)
-    (x : Watched) → w.memory ≡ m → Collecting w old v out → u.memory ≡ v.memory → u.second ≡ v.second →
-    MeetsNext v (met.Told e) u.at → x.header ≡ e.header → IsWatched m x → new ≡ out ++ x ∷ [] → Collecting w old u new
+pub collecting_more : (m : Memory) (w : Walking) (old out new : List HeaderCopy) (v u : Walking) (e : ListedHeader)
+    (x : HeaderCopy) → w.memory ≡ m → Collecting w old v out → u.memory ≡ v.memory → u.second ≡ v.second →
+    MeetsNext v (met.Told e) u.at → x.header ≡ e.header → IsHeaderCopy m x → new ≡ out ++ x ∷ [] →
+    Collecting w old u new
 collecting_more m w old out new v u e x here h same begins s header bits k =
     let headers : map header_of (h.more ++ x ∷ []) ≡ map header_of h.more ++ e.header ∷ [] = map_push header_of h.more x
     ∙ ap (λ (b : Header). map header_of h.more ++ b ∷ []) header in
@@ -178,21 +179,21 @@ collecting_more m w old out new v u e x here h same begins s header bits k =
       memory = same ∙ h.memory;
       second = begins ∙ h.second;
       more = h.more ++ x ∷ [];
-      is = k ∙ ap (λ (y : List Watched). y ++ x ∷ []) h.is ∙ append_assoc old h.more (x ∷ []);
+      is = k ∙ ap (λ (y : List HeaderCopy). y ++ x ∷ []) h.is ∙ append_assoc old h.more (x ∷ []);
       told = λ F b. subst (λ (X : List Header). HasTold w.memory F (start_of w.second) u.at X) (sym headers)
           (one_told w.memory F (start_of w.second) v.at u.at e (map header_of h.more) (h.told F b)
           (step_of w old out v (met.Told e) u.at h s F b));
-      watched = All-push (IsWatched w.memory) h.more x h.watched (subst (λ (y : Memory). IsWatched y x)
+      copies = All-push (IsHeaderCopy w.memory) h.more x h.copies (subst (λ (y : Memory). IsHeaderCopy y x)
           (sym here) bits);
     }
 
-pub collecting_nearer : (w : Walking) (old out : List Watched) (v u : Walking) (e : ListedHeader) →
+pub collecting_nearer : (w : Walking) (old out : List HeaderCopy) (v u : Walking) (e : ListedHeader) →
     Collecting w old v out → MeetsNext v (met.Told e) u.at → ahead u.at < ahead v.at
 collecting_nearer w old out v u e h s =
     let f = front_of w old out v (met.Told e) u.at h s in
     told_nearer w.memory f.0 (start_of w.second) v.at u.at e (map header_of h.more) (h.told f.0 f.1) f.2
 
-pub collecting_all : (w : Walking) (old out : List Watched) (v u : Walking) → Collecting w old v out →
+pub collecting_all : (w : Walking) (old out : List HeaderCopy) (v u : Walking) → Collecting w old v out →
     u.memory ≡ v.memory → u.second ≡ v.second → MeetsNext v met.End u.at → Collects w (Ok u) old out
 collecting_all w old out v u h same begins s =
     let f = front_of w old out v met.End u.at h s in
@@ -206,15 +207,15 @@ collecting_all w old out v u h same begins s =
         told_all w.memory F (start_of w.second) v.at u.at (map header_of h.more) (h.told F b)
             (step_of w old out v met.End u.at h s F b),
       );
-      watched = h.watched;
+      copies = h.copies;
     }
 
-pub collecting_cut : (w : Walking) (old out : List Watched) (v u : Walking) (segment : ℕ) → Collecting w old v out →
+pub collecting_cut : (w : Walking) (old out : List HeaderCopy) (v u : Walking) (segment : ℕ) → Collecting w old v out →
     MeetsNext v (met.Destroyed segment) u.at → Collects w (Err segment) old out
 collecting_cut w old out v u segment h s = record {
   more = h.more;
   is = h.is;
   walked = λ F b. told_cut w.memory F (start_of w.second) v.at u.at segment (map header_of h.more) (h.told F b)
       (step_of w old out v (met.Destroyed segment) u.at h s F b);
-  watched = h.watched;
+  copies = h.copies;
 }

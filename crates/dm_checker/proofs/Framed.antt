@@ -12,7 +12,7 @@ use Rattle.dm_space.specs.Memory.{Memory, place, byte_at, shown, page_bytes}
 use Rattle.dm_space.proofs.Places.{peek-place}
 use Rattle.dm_findings.specs.declared.finding.Contents.{Contents}
 use Rattle.dm_checker.specs.Headers.{contents, shown_at, is_live, is_there}
-use Rattle.dm_checker.specs.inner.Watching.{contents_by, IsKept}
+use Rattle.dm_checker.specs.inner.ArenaCopy.{contents_by, IsKept}
 
 -- ---- the map
 

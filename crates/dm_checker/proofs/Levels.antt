@@ -11,8 +11,8 @@ use Rattle.dm_space.specs.Memory.{Memory}
 use Rattle.dm_blocks.specs.declared.header.Header.{Header}
 use Rattle.dm_touches.specs.Found.{is_in_free}
 use Rattle.dm_touches.specs.quiet.Marks.{level_at, lies_below, Marked}
-use Rattle.dm_checker.specs.declared.watch.Watched.{Watched}
-use Rattle.dm_checker.specs.Clear.{is_free_of, is_at, is_high, keeps_writes}
+use Rattle.dm_checker.specs.declared.arena_copy.HeaderCopy.{HeaderCopy}
+use Rattle.dm_checker.specs.Unfound.{is_free_of, is_at, is_high, keeps_writes}
 use Rattle.dm_checker.proofs.Unfound.{and_left, and_right, not_false}
 use Rattle.dm_checker.specs.Marking.{IsMarked}
 use Rattle.dm_checker.specs.inner.Marking.{Keeps, HasMap, HasHeader, HasFree}
@@ -70,25 +70,25 @@ free_by b a e =
     let under : a < end = grind (arith, nat_tests) in
     (owner, omega (arith, over), omega (arith, under))
 
-free_not : (ms : List ℕ) (x : Watched) (a : ℕ) (t : Bool) → HasFree ms x.header → lies_below ms 2 a ≡ true →
+free_not : (ms : List ℕ) (x : HeaderCopy) (a : ℕ) (t : Bool) → HasFree ms x.header → lies_below ms 2 a ≡ true →
     is_free_of a x ≡ t → t ≡ false
 free_not ms x a false h e is = refl
 free_not ms x a true h e is =
     let here = free_by x.header a is in
     absurd (not_below ms 2 a e (h here.0 (a / 16) here.1 here.2))
 
-none_free : (ms : List ℕ) (ws : List Watched) (a : ℕ) → All (λ (w : Watched). HasFree ms w.header) ws →
+none_free : (ms : List ℕ) (ws : List HeaderCopy) (a : ℕ) → All (λ (w : HeaderCopy). HasFree ms w.header) ws →
     lies_below ms 2 a ≡ true → list_any (is_free_of a) ws ≡ false
 none_free ms [] a h e = refl
 none_free ms (x ∷ ws) a h e =
-    let F : Watched → Type 0 = λ w. HasFree ms w.header in
+    let F : HeaderCopy → Type 0 = λ w. HasFree ms w.header in
     let first = free_not ms x a _ (All-head F x ws h) e refl in
     let rest = none_free ms ws a (All-tail F x ws h) e in
     rw (first, rest) refl
 
 -- ---- headers
 
-header_not : (ms : List ℕ) (x : Watched) (a : ℕ) (t : Bool) → HasHeader ms x → lies_below ms 1 a ≡ true →
+header_not : (ms : List ℕ) (x : HeaderCopy) (a : ℕ) (t : Bool) → HasHeader ms x → lies_below ms 1 a ≡ true →
     (x.header.segment == a / 16) ≡ t → t ≡ false
 header_not ms x a false h e is = refl
 header_not ms x a true h e is =
@@ -96,11 +96,11 @@ header_not ms x a true h e is =
     absurd (not_below ms 1 a e (let level : level_at ms x.header.segment ≡ level_at ms (a / 16) =
     ap (level_at ms) same in omega (arith, level, h)))
 
-none_at : (ms : List ℕ) (ws : List Watched) (a : ℕ) → All (λ (w : Watched). HasFree ms w.header) ws →
+none_at : (ms : List ℕ) (ws : List HeaderCopy) (a : ℕ) → All (λ (w : HeaderCopy). HasFree ms w.header) ws →
     All (HasHeader ms) ws → lies_below ms 1 a ≡ true → list_any (is_at a) ws ≡ false
 none_at ms [] a f h e = refl
 none_at ms (x ∷ ws) a f h e =
-    let F : Watched → Type 0 = λ w. HasFree ms w.header in
+    let F : HeaderCopy → Type 0 = λ w. HasFree ms w.header in
     let first = free_not ms x a _ (All-head F x ws f) (weaker ms a e) refl in
     let second = header_not ms x a _ (All-head (HasHeader ms) x ws h) e refl in
     let rest = none_at ms ws a (All-tail F x ws f) (All-tail (HasHeader ms) x ws h) e in
@@ -118,7 +118,7 @@ frame_by ms windows high a false x e low up is =
     ap (λ k. is_some (slice_index_or windows k None) && not high) same ∙ is in
     absurd (not_below ms 1 a e (x.frame (a / 16) (omega (arith, low)) (omega (arith, up)) off))
 
-memory_by : (m : Memory) (ws : List Watched) (ms : List ℕ) (a : ℕ) (b c d f g h : Bool) →
+memory_by : (m : Memory) (ws : List HeaderCopy) (ms : List ℕ) (a : ℕ) (b c d f g h : Bool) →
     HasMap m.windows (list_any is_high ws) ms → lies_below ms 1 a ≡ true →
     nat_lt a 0xC0000 ≡ b → nat_lt a 0xD0000 ≡ c → nat_lt a 0xE0000 ≡ d → nat_lt a 0xF0000 ≡ f → nat_lt a 0x100000 ≡ g →
     nat_lt a 0x10FFF0 ≡ h →
@@ -144,7 +144,7 @@ memory_by m ws ms a false false false false false false x e p q r s t u =
     let low : 0x10FFF0 ≤ a = grind (arith, nat_tests) in
     absurd (not_below ms 1 a e (x.top (a / 16) (omega (arith, low))))
 
-is_memory_at : (m : Memory) (ws : List Watched) (ms : List ℕ) (a : ℕ) → HasMap m.windows (list_any is_high ws) ms →
+is_memory_at : (m : Memory) (ws : List HeaderCopy) (ms : List ℕ) (a : ℕ) → HasMap m.windows (list_any is_high ws) ms →
     lies_below ms 1 a ≡ true → keeps_writes m ws a ≡ true
 is_memory_at m ws ms a x e = memory_by m ws ms a _ _ _ _ _ _ x e refl refl refl refl refl refl
 
@@ -160,7 +160,7 @@ map_kept windows high old new x k = record {
   top = λ p low. k p (x.top p low);
 }
 
-pub headers_kept : (ws : List Watched) (old new : List ℕ) → All (HasHeader old) ws → Keeps 1 old new →
+pub headers_kept : (ws : List HeaderCopy) (old new : List ℕ) → All (HasHeader old) ws → Keeps 1 old new →
     All (HasHeader new) ws
 headers_kept [] old new h k = All-nil (HasHeader new)
 headers_kept (x ∷ ws) old new h k = All-cons (HasHeader new) x ws (k x.header.segment (All-head (HasHeader old) x ws h))
@@ -225,17 +225,17 @@ block_made b end old new x inside owner p low up = elim (cases_lt p 0x11000) [
 ]
 
 -- one more free block is marked
-pub within_next : (old new : List ℕ) (xs : List Watched) (i : ℕ) (e : Watched) → i < length xs → Keeps 2 old new →
-    AllWithin (λ (w : Watched). HasFree old w.header) xs 0 i → HasFree new (get_or xs i e).header →
-    AllWithin (λ (w : Watched). HasFree new w.header) xs 0 (i + 1)
+pub within_next : (old new : List ℕ) (xs : List HeaderCopy) (i : ℕ) (e : HeaderCopy) → i < length xs → Keeps 2 old new →
+    AllWithin (λ (w : HeaderCopy). HasFree old w.header) xs 0 i → HasFree new (get_or xs i e).header →
+    AllWithin (λ (w : HeaderCopy). HasFree new w.header) xs 0 (i + 1)
 within_next old new xs i e less k h f n d low high = elim (cases_eq n i) [
   | inl same ↦ subst (λ (j : ℕ). HasFree new (get_or xs j d).header) (sym same)
-      (subst (λ (w : Watched). HasFree new w.header) (get_or_default xs i e d less) f)
+      (subst (λ (w : HeaderCopy). HasFree new w.header) (get_or_default xs i e d less) f)
   | inr other ↦ λ owner p lo up. k p (h n d low (omega (arith, high, other)) owner p lo up)
 ]
 
-pub all_marked : (windows : List (Option ℕ)) (ws : List Watched) (ms : List ℕ) →
-    HasMap windows (list_any is_high ws) ms → All (HasHeader ms) ws → All (λ (w : Watched). HasFree ms w.header) ws →
+pub all_marked : (windows : List (Option ℕ)) (ws : List HeaderCopy) (ms : List ℕ) →
+    HasMap windows (list_any is_high ws) ms → All (HasHeader ms) ws → All (λ (w : HeaderCopy). HasFree ms w.header) ws →
     IsMarked windows ws ms
 all_marked windows ws ms x h f = record {
   reads = λ a e. ap not (none_free ms ws a f e);

@@ -20,7 +20,7 @@ pub mod Fetched
 pub mod Touching
 pub mod Levels
 pub mod Unfound
-pub mod Clearing
+pub mod Untouched
 mod Reading
 pub mod Once
 pub mod Unserved

@@ -11,8 +11,8 @@ use Rattle.dm_findings.specs.declared.calls.Call.TheVariants.{DivideError, Termi
 use Rattle.dm_findings.specs.declared.finding.Finding.{Finding}
 use Rattle.dm_findings.specs.Calls.{call_of}
 use Rattle.dm_checker.specs.declared.acts.Before.{Before}
-use Rattle.dm_checker.specs.declared.watch.Watched.{Watched}
-use Rattle.dm_checker.specs.declared.watch.Watch.{Watch}
+use Rattle.dm_checker.specs.declared.arena_copy.HeaderCopy.{HeaderCopy}
+use Rattle.dm_checker.specs.declared.arena_copy.ArenaCopy.{ArenaCopy}
 use Rattle.dm_services.specs.declared.functions.Function.{Function}
 use Rattle.dm_services.specs.Functions.{function_of}
 use Rattle.dm_origins.specs.outcomes.Calls.{allocates, frees, resizes, arranges_lists, is_arena_function, ends_for_good, stays_resident, is_ending, is_starting, arranges, call_findings}
@@ -21,8 +21,8 @@ use Rattle.dm_checker.specs.Headers.{overwritten, mapped_away}
 use Rattle.dm_checker.specs.Shown.{Shown}
 use Rattle.dm_checker.specs.Arranged.{other_freed, stack_freed, not_resized, if_whole, arranged_by, arranged}
 use Rattle.dm_checker.specs.Findings.{turn_found, all_overwritten, findings, FindsTouched, Finds}
-use Rattle.dm_checker.specs.Watching.{header_of, broken_at, IsWatched, IsWatch}
-use Rattle.dm_checker.specs.inner.Watching.{shown_of, IsSeen}
+use Rattle.dm_checker.specs.ArenaCopy.{header_of, broken_at, IsHeaderCopy, IsArenaCopy}
+use Rattle.dm_checker.specs.inner.ArenaCopy.{shown_of, IsSeen}
 use Rattle.dm_checker.specs.inner.Steps.{IsBefore, Looks}
 use Rattle.dm_checker.proofs.Leaked.{five_more}
 use Rattle.dm_checker.proofs.Still.{seen_findings}
@@ -39,15 +39,15 @@ pub overwritten_all : (may : Bool) (S T : Memory) (hs : List Header) (out u : Li
 overwritten_all may S T hs out u e f = f ∙ ap (λ (m : Bool). out ++ all_overwritten m S T hs) (sym e)
 
 -- what is put of each header that was kept
-pub at_watch : (f : Memory → Header → List Finding) (w : Watch) (ws : List Watched) (out u : List Finding) →
-    ws ≡ w.headers.items → ((S : Memory) → w.windows ≡ S.windows → All (IsWatched S) ws → u ≡ out
-    ++ flat_map (f S) (map header_of ws)) → (upper : Bool) (S : Memory) → IsWatch upper S w → u ≡ out
+pub at_arena : (f : Memory → Header → List Finding) (w : ArenaCopy) (ws : List HeaderCopy) (out u : List Finding) →
+    ws ≡ w.headers.items → ((S : Memory) → w.windows ≡ S.windows → All (IsHeaderCopy S) ws → u ≡ out
+    ++ flat_map (f S) (map header_of ws)) → (upper : Bool) (S : Memory) → IsArenaCopy upper S w → u ≡ out
     ++ flat_map (f S) (map header_of w.headers.items)
-at_watch f w ws out u e h upper S x =
-    let F : List Watched → Type 0 = λ l. All (IsWatched S) l in
-    h S x.windows (subst F (sym e) x.headers) ∙ ap (λ (l : List Watched). out ++ flat_map (f S) (map header_of l)) e
+at_arena f w ws out u e h upper S x =
+    let F : List HeaderCopy → Type 0 = λ l. All (IsHeaderCopy S) l in
+    h S x.windows (subst F (sym e) x.headers) ∙ ap (λ (l : List HeaderCopy). out ++ flat_map (f S) (map header_of l)) e
 
-abbrev found_of : Cpu → Cpu → Option Call → Memory → Memory → Watch → Watch → List Finding
+abbrev found_of : Cpu → Cpu → Option Call → Memory → Memory → ArenaCopy → ArenaCopy → List Finding
 found_of c d call S T old new =
     all_overwritten (arranges c call) S T (map header_of old.headers.items)
     ++ flat_map (mapped_away S T) (map header_of old.headers.items)
@@ -55,14 +55,14 @@ found_of c d call S T old new =
     ++ freed_twice c d call (map header_of old.headers.items)
     ++ call_findings c d call
 
-same_found : (s t : State) (b : Before) (d : Cpu) (T : Memory) (old new : Watch) → IsBefore s b → d ≡ t.cpu →
+same_found : (s t : State) (b : Before) (d : Cpu) (T : Memory) (old new : ArenaCopy) → IsBefore s b → d ≡ t.cpu →
     T ≡ t.memory → found_of b.cpu d b.call s.memory T old new ≡ findings s t (shown_of old) (shown_of new)
 same_found s t b d T old new h e f =
     ap₂ (λ (c : Cpu) (k : Option Call). found_of c d k s.memory T old new) h.cpu h.call
     ∙ ap₂ (λ (x : Cpu) (m : Memory). found_of s.cpu x (call_of s.cpu) s.memory m old new) e f
 
 -- what is found of blocks that the call freed or did not resize
-pub arranged_as : (s t : State) (b : Before) (d : Cpu) (old new : Watch) → IsBefore s b → d ≡ t.cpu →
+pub arranged_as : (s t : State) (b : Before) (d : Cpu) (old new : ArenaCopy) → IsBefore s b → d ≡ t.cpu →
     arranged_by b.a20 b.present b.cpu d b.call (shown_of old).headers (shown_of new)
     ≡ arranged s t (shown_of old) (shown_of new)
 arranged_as s t b d old new h e =
@@ -73,8 +73,8 @@ arranged_as s t b d old new h e =
     (shown_of new)) e
 
 -- what the step touches stands before what is found of it otherwise
-pub with_touched : (s t : State) (old new : Watch) (a b : List Finding) → IsWatch s.upper s.memory old →
-    IsWatch t.upper t.memory new → a ≡ findings s t (shown_of old) (shown_of new) →
+pub with_touched : (s t : State) (old new : ArenaCopy) (a b : List Finding) → IsArenaCopy s.upper s.memory old →
+    IsArenaCopy t.upper t.memory new → a ≡ findings s t (shown_of old) (shown_of new) →
     b ≡ arranged s t (shown_of old) (shown_of new) → (touched : List Finding) → FindsTouched s (shown_of old) touched →
     Finds s t (touched ++ (a ++ b))
 with_touched s t old new a b before after e f touched x = record {
@@ -89,18 +89,19 @@ with_touched s t old new a b before after e f touched x = record {
       (shown_of new)));
 }
 
-pub looks_by : (s t : State) (b : Before) (d : Cpu) (T : Memory) (old new : Watch) (ws vs : List Watched)
-    (out u v w x y z : List Finding) → IsBefore s b → IsWatch s.upper s.memory old → IsWatch t.upper t.memory new →
+pub looks_by : (s t : State) (b : Before) (d : Cpu) (T : Memory) (old new : ArenaCopy) (ws vs : List HeaderCopy)
+    (out u v w x y z : List Finding) → IsBefore s b → IsArenaCopy s.upper s.memory old →
+    IsArenaCopy t.upper t.memory new →
     d ≡ t.cpu → T ≡ t.memory → ws ≡ old.headers.items → u ≡ out ++ all_overwritten (arranges b.cpu b.call) s.memory T
     (map header_of old.headers.items) → v ≡ u ++ flat_map (mapped_away s.memory T) (map header_of old.headers.items) →
     w ≡ v ++ turn_found (broken_at old.broken) (broken_at new.broken) → vs ≡ old.headers.items → x ≡ w
     ++ freed_twice b.cpu d b.call (map header_of ws) → y ≡ x ++ call_findings b.cpu d b.call → z ≡ y
     ++ arranged_by b.a20 b.present b.cpu d b.call (map header_of vs) (shown_of new) → Looks s t old out z
 looks_by s t b d T old new ws vs out u v w x y z h before after e f same p q r others o n m =
-    let freed = o ∙ ap (λ (l : List Watched). w ++ freed_twice b.cpu d b.call (map header_of l)) same in
+    let freed = o ∙ ap (λ (l : List HeaderCopy). w ++ freed_twice b.cpu d b.call (map header_of l)) same in
     let five : y ≡ out ++ findings s t (shown_of old) (shown_of new) = five_more out _ _ _ _ _ u v w x y p q r freed n
     ∙ ap (λ (l : List Finding). out ++ l) (same_found s t b d T old new h e f) in
-    let put : z ≡ y ++ arranged s t (shown_of old) (shown_of new) = m ∙ ap (λ (l : List Watched). y
+    let put : z ≡ y ++ arranged s t (shown_of old) (shown_of new) = m ∙ ap (λ (l : List HeaderCopy). y
     ++ arranged_by b.a20 b.present b.cpu d b.call (map header_of l) (shown_of new)) others
     ∙ ap (λ (l : List Finding). y ++ l) (arranged_as s t b d old new h e) in
     record {
@@ -177,8 +178,8 @@ arranged_none a20 present c d (Some Multiplex) old new e = refl
 arranged_none a20 present c d (Some (ExtendedMemory number)) old new e = refl
 arranged_none a20 present c d (Some (Interrupt number)) old new e = refl
 
-pub seen_looks : (s t : State) (b : Before) (d : Cpu) (w : Watch) (out y : List Finding) → IsBefore s b →
-    IsWatch s.upper s.memory w → IsSeen t.upper t.memory w → IsWatch t.upper t.memory w →
+pub seen_looks : (s t : State) (b : Before) (d : Cpu) (w : ArenaCopy) (out y : List Finding) → IsBefore s b →
+    IsArenaCopy s.upper s.memory w → IsSeen t.upper t.memory w → IsArenaCopy t.upper t.memory w →
     arranges b.cpu b.call ≡ false → d ≡ t.cpu → y ≡ out ++ call_findings b.cpu d b.call → Looks s t w out y
 seen_looks s t b d w out y h before seen after off e r =
     let calm : arranges s.cpu (call_of s.cpu) ≡ false = ap₂ (λ (c : Cpu) (k : Option Call). arranges c k) (sym h.cpu)

@@ -1,4 +1,4 @@
--- A memory that still shows what was kept: what was kept is a watch of it, and nothing is found between the two
+-- A memory that still shows what was kept: what was kept is a copy of it, and nothing is found between the two
 -- memories.
 use Rattle.std.proofs.Common.{◌≡◌, ℕ, ◌+◌, ◌*◌, ◌<◌, Bool, true, false, not, inl, inr, List, [], ◌∷◌, ◌++◌, map, Option, Some, None, refl, sym, ◌∙◌, ap, ap₂, subst}
 use Rattle.std.specs.Prelude.{◌&&◌, if◌then◌else◌, slice_index_or, IfSome, All}
@@ -16,13 +16,13 @@ use Rattle.dm_blocks.proofs.Chains.{Agrees, header_kept, spells_kept, has_left, 
 use Rattle.dm_findings.specs.declared.finding.Contents.{Contents}
 use Rattle.dm_findings.specs.declared.finding.Finding.{Finding}
 use Rattle.dm_findings.specs.declared.finding.Finding.TheVariants.{Overwritten, MappedAway}
-use Rattle.dm_checker.specs.declared.watch.Watched.{Watched}
-use Rattle.dm_checker.specs.declared.watch.Broken.{Broken}
-use Rattle.dm_checker.specs.declared.watch.Watch.{Watch}
+use Rattle.dm_checker.specs.declared.arena_copy.HeaderCopy.{HeaderCopy}
+use Rattle.dm_checker.specs.declared.arena_copy.Broken.{Broken}
+use Rattle.dm_checker.specs.declared.arena_copy.ArenaCopy.{ArenaCopy}
 use Rattle.dm_checker.specs.Shown.{Shown, IsCut, IsShown, cut, alone, parted, parted_cut}
 use Rattle.dm_checker.specs.Headers.{shown_at, kept_at, same_contents, is_live, is_there, overwritten, mapped_away}
-use Rattle.dm_checker.specs.Watching.{header_of, broken_at, IsWatched, IsBrokenIn, IsWatch}
-use Rattle.dm_checker.specs.inner.Watching.{IsSeen}
+use Rattle.dm_checker.specs.ArenaCopy.{header_of, broken_at, IsHeaderCopy, IsBrokenIn, IsArenaCopy}
+use Rattle.dm_checker.specs.inner.ArenaCopy.{IsSeen}
 use Rattle.dm_checker.proofs.Bits.{same_bytes}
 use Rattle.dm_checker.proofs.Framed.{contents_by_five, there_by_windows, live_true}
 
@@ -34,13 +34,13 @@ AreSameAt S T h = (k : ℕ) → k < 5 → peek T (16 * h + k) ≡ peek S (16 * h
 same_at : (S T : Memory) (h g : ℕ) → h ≡ g → AreSameAt S T h → AreSameAt S T g
 same_at S T h g e a = (let F : ℕ → Type 0 = λ x. AreSameAt S T x in subst F e a)
 
-agrees_of : (S T : Memory) (ws : List Watched) → All (IsWatched S) ws → All (IsWatched T) ws →
+agrees_of : (S T : Memory) (ws : List HeaderCopy) → All (IsHeaderCopy S) ws → All (IsHeaderCopy T) ws →
     Agrees S T (map header_of ws)
 agrees_of S T [] a b = record { same = λ g k w less. absurd w }
 agrees_of S T (x ∷ ws) a b =
-    let rest = agrees_of S T ws (All-tail (IsWatched S) x ws a) (All-tail (IsWatched T) x ws b) in
+    let rest = agrees_of S T ws (All-tail (IsHeaderCopy S) x ws a) (All-tail (IsHeaderCopy T) x ws b) in
     let here : AreSameAt S T x.header.segment = same_bytes S T x.header.segment x.bits x.bits
-    (All-head (IsWatched S) x ws a) (All-head (IsWatched T) x ws b) refl in
+    (All-head (IsHeaderCopy S) x ws a) (All-head (IsHeaderCopy T) x ws b) refl in
     record {
       same = λ g k w less. elim w [
         | inl e ↦ same_at S T x.header.segment g e here k less
@@ -134,18 +134,18 @@ broken_same S T (Some there) at a b e = same_at S T there.segment at (same_Some 
 
 -- ---- what was kept
 
-seen_windows : (before upper : Bool) (S T : Memory) (w : Watch) → IsWatch before S w → IsSeen upper T w →
+seen_windows : (before upper : Bool) (S T : Memory) (w : ArenaCopy) → IsArenaCopy before S w → IsSeen upper T w →
     T.windows ≡ S.windows
 seen_windows before upper S T w x y = y.windows ∙ x.windows
 
-seen_agrees : (before upper : Bool) (S T : Memory) (w : Watch) → IsWatch before S w → IsSeen upper T w →
+seen_agrees : (before upper : Bool) (S T : Memory) (w : ArenaCopy) → IsArenaCopy before S w → IsSeen upper T w →
     Agrees S T (map header_of w.headers.items)
 seen_agrees before upper S T w x y = agrees_of S T w.headers.items x.headers y.headers
 
--- what a memory still shows is a watch of it
-pub seen_watch : (before upper : Bool) (S T : Memory) (w : Watch) → IsWatch before S w → IsSeen upper T w →
-    IsWatch upper T w
-seen_watch before upper S T w x y =
+-- what a memory still shows is a copy of it
+pub seen_arena : (before upper : Bool) (S T : Memory) (w : ArenaCopy) → IsArenaCopy before S w → IsSeen upper T w →
+    IsArenaCopy upper T w
+seen_arena before upper S T w x y =
     let shown : Shown = record { headers = map header_of w.headers.items; broken = broken_at w.broken } in
     let F : Bool → Type 0 = λ b. IsShown b T shown in
     record {
@@ -199,8 +199,8 @@ pages_there S T windows pages k =
     subst F windows (live_if T (slice_index_or T.windows k None) (pages k))
 
 -- no header was overwritten
-pub seen_overwritten : (before upper : Bool) (S T : Memory) (w : Watch) → IsWatch before S w → IsSeen upper T w →
-    flat_map (overwritten S T) (map header_of w.headers.items) ≡ []
+pub seen_overwritten : (before upper : Bool) (S T : Memory) (w : ArenaCopy) → IsArenaCopy before S w →
+    IsSeen upper T w → flat_map (overwritten S T) (map header_of w.headers.items) ≡ []
 seen_overwritten before upper S T w x y =
     let a = seen_agrees before upper S T w x y in
     let windows = seen_windows before upper S T w x y in
@@ -210,8 +210,8 @@ seen_overwritten before upper S T w x y =
     (same_by _ _ (kept_shown S T b.segment windows ∙ contents_by_five _ _ (λ k less. a.same b.segment k has less))))
 
 -- no header was mapped away
-pub seen_mapped_away : (before upper : Bool) (S T : Memory) (w : Watch) → IsWatch before S w → IsSeen upper T w →
-    flat_map (mapped_away S T) (map header_of w.headers.items) ≡ []
+pub seen_mapped_away : (before upper : Bool) (S T : Memory) (w : ArenaCopy) → IsArenaCopy before S w →
+    IsSeen upper T w → flat_map (mapped_away S T) (map header_of w.headers.items) ≡ []
 seen_mapped_away before upper S T w x y =
     let windows = seen_windows before upper S T w x y in
     none_of_each (mapped_away S T) (map header_of w.headers.items) (λ b has.

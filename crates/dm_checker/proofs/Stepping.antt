@@ -19,7 +19,7 @@ use Rattle.dm_findings.specs.Calls.{call_of}
 use Rattle.dm_findings.specs.Report.{Reported}
 use Rattle.dm_origins.specs.Origins.{Known}
 use Rattle.dm_checker.specs.declared.acts.Before.{Before}
-use Rattle.dm_checker.specs.declared.watch.Watch.{Watch}
+use Rattle.dm_checker.specs.declared.arena_copy.ArenaCopy.{ArenaCopy}
 use Rattle.dm_origins.specs.outcomes.Calls.{call_stays_resident, call_findings}
 use Rattle.dm_checker.specs.Freed.{freed_twice}
 use Rattle.dm_origins.specs.leaks.Leaks.{leaks}
@@ -30,25 +30,25 @@ use Rattle.dm_touches.specs.Elements.{bytes_of}
 use Rattle.dm_touches.specs.Touches.{reads, writes}
 use Rattle.dm_touches.specs.Found.{of_headers, of_places, touch_findings}
 use Rattle.dm_touches.proofs.Written.{writes_listed}
-use Rattle.dm_checker.specs.declared.watch.Broken.{Broken}
+use Rattle.dm_checker.specs.declared.arena_copy.Broken.{Broken}
 use Rattle.dm_checker.specs.Shown.{Shown}
 use Rattle.dm_checker.specs.Arranged.{arranged_by, arranged}
 use Rattle.dm_checker.specs.Findings.{findings, Finds, FindsTouched, touching, over, IsFound, none}
 use Rattle.dm_checker.specs.Checks.{FindsAtEnd, FindsAtStop, left_behind, left_by}
 use Rattle.dm_checker.specs.Origins.{known_by, IsKnownAfter}
 use Rattle.dm_checker.specs.Processes.{KnowsAtStop}
-use Rattle.dm_checker.specs.Watching.{header_of, broken_at, IsWatch}
-use Rattle.dm_checker.specs.inner.Watching.{shown_of, IsSeen}
-use Rattle.dm_checker.specs.Clear.{is_read_clear, is_write_clear}
-use Rattle.dm_checker.specs.inner.Clear.{IsClearAt}
+use Rattle.dm_checker.specs.ArenaCopy.{header_of, broken_at, IsArenaCopy}
+use Rattle.dm_checker.specs.inner.ArenaCopy.{shown_of, IsSeen}
+use Rattle.dm_checker.specs.Unfound.{is_read_unfound, is_write_unfound}
+use Rattle.dm_checker.specs.inner.Unfound.{FindsNothingAt}
 use Rattle.dm_checker.specs.inner.Steps.{IsBefore, found_by, ReportsMore, Touches, Looks, ChecksOne, IsUnfound, GoesUnfound}
 use Rattle.dm_checker.specs.inner.Steps as steps
 use Rattle.dm_checker.proofs.Acting.{some_none, call_acts, had_ended, exit_changes_nothing}
-use Rattle.dm_checker.proofs.Seen.{seen_watch}
+use Rattle.dm_checker.proofs.Seen.{seen_arena}
 use Rattle.dm_checker.proofs.Still.{seen_findings}
 use Rattle.dm_checker.proofs.Reading.{no_call, still_running, next_leaves, Begins, begins_of}
-use Rattle.dm_checker.proofs.Unfound.{and_left, and_right, and_both, element_more, are_all, elements_all, headers_clear, places_clear, memory_of, apart_of}
-use Rattle.dm_checker.proofs.Clearing.{seen_clear}
+use Rattle.dm_checker.proofs.Unfound.{and_left, and_right, and_both, element_more, are_all, elements_all, headers_unfound, places_unfound, memory_of, apart_of}
+use Rattle.dm_checker.proofs.Untouched.{seen_unfound}
 use Rattle.dm_checker.proofs.Telling.{reports_none, tells}
 
 found_as : (s t : State) (k : Known) (fs gs : List Finding) (more : List Found) → fs ≡ gs → IsFound s t k fs more →
@@ -58,8 +58,9 @@ found_as s t k fs gs more e x = (let F : List Finding → Type 0 = λ l. IsFound
 -- ---- who allocated and who freed
 
 -- what is known after a step, by what was kept of the arena before and after it
-pub known_after : (s t : State) (b : Before) (v w : Watch) (k l : Known) → IsBefore s b → IsWatch s.upper s.memory v →
-    IsWatch t.upper t.memory w → l ≡ known_by s t (shown_of v) (shown_of w) b.call k → IsKnownAfter s t k l
+pub known_after : (s t : State) (b : Before) (v w : ArenaCopy) (k l : Known) → IsBefore s b →
+    IsArenaCopy s.upper s.memory v →
+    IsArenaCopy t.upper t.memory w → l ≡ known_by s t (shown_of v) (shown_of w) b.call k → IsKnownAfter s t k l
 known_after s t b v w k l h x y e = record {
   old = shown_of v;
   new = shown_of w;
@@ -69,8 +70,8 @@ known_after s t b v w k l h x y e = record {
 }
 
 -- without a call nothing is allocated or freed
-known_still : (s t : State) (v w : Watch) (k : Known) → call_of s.cpu ≡ None → IsWatch s.upper s.memory v →
-    IsWatch t.upper t.memory w → IsKnownAfter s t k k
+known_still : (s t : State) (v w : ArenaCopy) (k : Known) → call_of s.cpu ≡ None → IsArenaCopy s.upper s.memory v →
+    IsArenaCopy t.upper t.memory w → IsKnownAfter s t k k
 known_still s t v w k uncalled x y = record {
   old = shown_of v;
   new = shown_of w;
@@ -85,13 +86,13 @@ touched_as : (s : State) (old : Shown) (fs gs : List Finding) → fs ≡ gs → 
 touched_as s old fs gs e x = (let F : List Finding → Type 0 = λ l. FindsTouched s old l in subst F (sym e) x)
 
 -- what was put behind nothing, of a step that is made
-pub touched_going : (s t : State) (w : Watch) (empty first : List Finding) → empty ≡ [] → Touches s w empty first →
+pub touched_going : (s t : State) (w : ArenaCopy) (empty first : List Finding) → empty ≡ [] → Touches s w empty first →
     Answers s None t → FindsTouched s (shown_of w) first
 touched_going s t w empty first e x a = touched_as s (shown_of w) first x.more (x.is
     ∙ ap (λ (l : List Finding). l ++ x.more) e) (x.going t a)
 
 -- what was put behind nothing, of a call
-pub touched_calling : (s : State) (w : Watch) (b : Before) (call : Call) (empty first : List Finding) → empty ≡ [] →
+pub touched_calling : (s : State) (w : ArenaCopy) (b : Before) (call : Call) (empty first : List Finding) → empty ≡ [] →
     Touches s w empty first → IsBefore s b → b.call ≡ Some call → FindsTouched s (shown_of w) first
 touched_calling s w b call empty first e x h is = touched_as s (shown_of w) first x.more (x.is
     ∙ ap (λ (l : List Finding). l ++ x.more) e) (x.calling call (sym h.call ∙ is))
@@ -101,7 +102,7 @@ touched_calling s w b call empty first e x h is = touched_as s (shown_of w) firs
 abbrev pub Ends : Bool → State → State → Known → Reported → Reported → Type 0
 Ends free s t k old new = (more : List Found) × FindsAtEnd s t k more × ReportsMore free old new more
 
-pub ends : (free : Bool) (s t : State) (b : Before) (call : Call) (step : ℕ) (w : Watch) (k l : Known)
+pub ends : (free : Bool) (s t : State) (b : Before) (call : Call) (step : ℕ) (w : ArenaCopy) (k l : Known)
     (first fs all : List Finding) (old new : Reported) → b.call ≡ Some call → IsBefore s b → IsKnownAfter s t k l →
     FindsTouched s (shown_of w) first → Looks s t w first fs → all ≡ fs ++ leaks (call_stays_resident call) t →
     step ≡ t.steps → ReportsMore free old new (map (found_by b step l (act.Call call)) all) → Ends free s t k old new
@@ -123,11 +124,11 @@ ends free s t b call step w k l first fs all old new e h knows touched x is step
 -- ---- any step
 
 -- the machine goes on
-pub goes_on : (free : Bool) (s t : State) (v w : Watch) (k l : Known) (first fs gs : List Finding)
+pub goes_on : (free : Bool) (s t : State) (v w : ArenaCopy) (k l : Known) (first fs gs : List Finding)
     (old new : Reported) → Answers s None t → FindsTouched s (shown_of v) first → Looks s t v first fs → gs ≡ fs →
-    (more : List Found) × IsFound s t l gs more × ReportsMore free old new more → IsWatch t.upper t.memory w →
+    (more : List Found) × IsFound s t l gs more × ReportsMore free old new more → IsArenaCopy t.upper t.memory w →
     IsKnownAfter s t k l → ChecksOne free s None t w k l old new
-goes_on free s t v w k l first fs gs old new a touched x same told watch knows = record {
+goes_on free s t v w k l first fs gs old new a touched x same told arena knows = record {
   answers = a;
   found = told.0;
   finds = record {
@@ -137,12 +138,12 @@ goes_on free s t v w k l first fs gs old new a touched x same told watch knows =
         ++ x.more) told.0 (same ∙ x.is) told.1;
   };
   reports = told.2;
-  watch = λ e. watch;
+  arena = λ e. arena;
   knows = knows;
 }
 
 -- the program ends
-pub exits : (free : Bool) (s t : State) (code : ℕ) (w : Watch) (k l : Known) (old new : Reported) →
+pub exits : (free : Bool) (s t : State) (code : ℕ) (w : ArenaCopy) (k l : Known) (old new : Reported) →
     Answers s (Some (Exited code)) t → Ends free s t k old new → IsKnownAfter s t k l →
     ChecksOne free s (Some (Exited code)) t w k l old new
 exits free s t code w k l old new a x knows = record {
@@ -150,12 +151,12 @@ exits free s t code w k l old new a x knows = record {
   found = x.0;
   finds = x.1;
   reports = x.2;
-  watch = λ e. absurd (some_none (Exited code) e);
+  arena = λ e. absurd (some_none (Exited code) e);
   knows = knows;
 }
 
 -- what was kept is seen in its own memory
-seen_there : (s : State) (w : Watch) → IsWatch s.upper s.memory w →
+seen_there : (s : State) (w : ArenaCopy) → IsArenaCopy s.upper s.memory w →
     ((k : ℕ) → IfSome (slice_index_or s.memory.windows k None) (IsPage s.memory)) → IsSeen s.upper s.memory w
 seen_there s w x pages = record {
   setting = sym x.setting;
@@ -166,8 +167,8 @@ seen_there s w x pages = record {
 }
 
 -- what is found of a step without a call, of which nothing is touched and after which memory shows the same
-nothing_by : (s t : State) (w : Watch) → call_of s.cpu ≡ None → IsWatch s.upper s.memory w → IsSeen t.upper t.memory w →
-    FindsTouched s (shown_of w) [] → Finds s t []
+nothing_by : (s t : State) (w : ArenaCopy) → call_of s.cpu ≡ None → IsArenaCopy s.upper s.memory w →
+    IsSeen t.upper t.memory w → FindsTouched s (shown_of w) [] → Finds s t []
 nothing_by s t w uncalled x seen touched =
     let calm : freed_twice s.cpu t.cpu (call_of s.cpu) (shown_of w).headers ++ call_findings s.cpu t.cpu (call_of s.cpu)
     ≡ []
@@ -182,14 +183,14 @@ nothing_by s t w uncalled x seen touched =
       new = shown_of w;
       touched = [];
       before = x.shown;
-      after = (seen_watch s.upper t.upper s.memory t.memory w x seen).shown;
+      after = (seen_arena s.upper t.upper s.memory t.memory w x seen).shown;
       touches = touched;
       is = sym (ap₂ (λ (l m : List Finding). [] ++ l ++ m) none still);
     }
 
 -- nothing is found once the program has ended
-nothing_found : (s : State) (w : Watch) (known : Known) (code : ℕ) → call_of s.cpu ≡ None → s.exited ≡ Some code →
-    IsWatch s.upper s.memory w → ((k : ℕ) → IfSome (slice_index_or s.memory.windows k None) (IsPage s.memory)) →
+nothing_found : (s : State) (w : ArenaCopy) (known : Known) (code : ℕ) → call_of s.cpu ≡ None → s.exited ≡ Some code →
+    IsArenaCopy s.upper s.memory w → ((k : ℕ) → IfSome (slice_index_or s.memory.windows k None) (IsPage s.memory)) →
     FindsAtEnd s s known []
 nothing_found s w known code uncalled ended x pages =
     let left : [] ++ left_behind s s ≡ [] = ap (λ (k : Option Call). left_by k s) uncalled in
@@ -214,8 +215,8 @@ pages_there s x k =
     (x.ems.owned o.0 o.1)) (x.ems.shown k)
 
 -- the program had ended before
-over_then : (free : Bool) (s t : State) (code : ℕ) (w : Watch) (k : Known) (r : Reported) →
-    Answers s (Some (Exited code)) t → call_of s.cpu ≡ None → IsWatch s.upper s.memory w → AreConsistent s →
+over_then : (free : Bool) (s t : State) (code : ℕ) (w : ArenaCopy) (k : Known) (r : Reported) →
+    Answers s (Some (Exited code)) t → call_of s.cpu ≡ None → IsArenaCopy s.upper s.memory w → AreConsistent s →
     ChecksOne free s (Some (Exited code)) t w k k r r
 over_then free s t code w k r a uncalled x linked =
     let F : State → Type 0 = λ u. FindsAtEnd s u k [] in
@@ -229,8 +230,8 @@ over_then free s t code w k r a uncalled x linked =
       reports_none free r,
     ) (subst G same (known_still s s w w k uncalled x x))
 
-pub was_over : (free : Bool) (s t : State) (b : Before) (code : ℕ) (w : Watch) (k : Known) (r : Reported) →
-    Answers s (Some (Exited code)) t → IsBefore s b → b.call ≡ None → IsWatch s.upper s.memory w → AreConsistent t →
+pub was_over : (free : Bool) (s t : State) (b : Before) (code : ℕ) (w : ArenaCopy) (k : Known) (r : Reported) →
+    Answers s (Some (Exited code)) t → IsBefore s b → b.call ≡ None → IsArenaCopy s.upper s.memory w → AreConsistent t →
     ChecksOne free s (Some (Exited code)) t w k k r r
 was_over free s t b code w k r a h e x linked =
     let uncalled = sym h.call ∙ e in
@@ -256,36 +257,38 @@ still_known s t Destroyed k other = refl
 still_known s t NoMemory k other = refl
 
 -- no step was made
-pub stops : (free : Bool) (s t : State) (stop : Stop) (w : Watch) (k : Known) (r : Reported) → Answers s (Some stop) t →
-    ((code : ℕ) → stop ≡ Exited code → ⊥) → ChecksOne free s (Some stop) t w k k r r
+pub stops : (free : Bool) (s t : State) (stop : Stop) (w : ArenaCopy) (k : Known) (r : Reported) →
+    Answers s (Some stop) t → ((code : ℕ) → stop ≡ Exited code → ⊥) → ChecksOne free s (Some stop) t w k k r r
 stops free s t stop w k r a other = record {
   answers = a;
   found = [];
   finds = none_at s t stop k other;
   reports = reports_none free r;
-  watch = λ e. absurd (some_none stop e);
+  arena = λ e. absurd (some_none stop e);
   knows = still_known s t stop k other;
 }
 
 -- ---- a step of an instruction that touches nothing that matters
 
 -- nothing is found of what it touches
-clear_touched : (s t : State) (w : Watch) → (p : IsClearAt s w) → Answers s None t → FindsTouched s (shown_of w) []
+unfound_touched : (s t : State) (w : ArenaCopy) → (p : FindsNothingAt s w) → Answers s None t →
+    FindsTouched s (shown_of w) []
 unfolding touch_findings
-clear_touched s t w p a =
+unfound_touched s t w p a =
     let rs = bytes_of (reads (guest s.cpu s.memory) p.ins p.length) in
     let ws = bytes_of (writes (guest s.cpu s.memory) p.ins p.length) in
     let a20 = s.memory.a20 in
-    let clear_reads : are_all (is_read_clear w.headers.items) a20 rs ≡ true =
-    elements_all (is_read_clear w.headers.items) a20 (reads (guest s.cpu s.memory) p.ins p.length) p.clear.reads in
-    let clear_writes : are_all (is_write_clear s.memory w.headers.items) a20 ws ≡ true =
-    elements_all (is_write_clear s.memory w.headers.items) a20 (writes (guest s.cpu s.memory) p.ins p.length)
-    p.clear.writes in
+    let unfound_reads : are_all (is_read_unfound w.headers.items) a20 rs ≡ true =
+    elements_all (is_read_unfound w.headers.items) a20 (reads (guest s.cpu s.memory) p.ins p.length) p.nothing.reads in
+    let unfound_writes : are_all (is_write_unfound s.memory w.headers.items) a20 ws ≡ true =
+    elements_all (is_write_unfound s.memory w.headers.items) a20 (writes (guest s.cpu s.memory) p.ins p.length)
+    p.nothing.writes in
     let headers : of_headers a20 rs ws (broken_at w.broken) (map header_of w.headers.items) ≡ []
-    = ap (λ (o : Option Broken). of_headers a20 rs ws (broken_at o) (map header_of w.headers.items)) p.clear.whole
-    ∙ headers_clear a20 rs ws w.headers.items clear_reads (apart_of s.memory w.headers.items a20 ws clear_writes) in
-    let places : of_places s.memory ws ≡ [] = places_clear s.memory w.headers.items ws
-    (memory_of s.memory w.headers.items a20 ws clear_writes) in
+    = ap (λ (o : Option Broken). of_headers a20 rs ws (broken_at o) (map header_of w.headers.items)) p.nothing.whole
+    ∙ headers_unfound a20 rs ws w.headers.items unfound_reads
+    (apart_of s.memory w.headers.items a20 ws unfound_writes) in
+    let places : of_places s.memory ws ≡ [] = places_unfound s.memory w.headers.items ws
+    (memory_of s.memory w.headers.items a20 ws unfound_writes) in
     touching p.ins p.length (still_running s t a) (no_call s.cpu p.below) p.begins (sym (ap₂ (λ (l m : List Finding). l
     ++ m) headers places))
 
@@ -294,14 +297,14 @@ abbrev pub HasPages : State → Type 0
 HasPages s = (k : ℕ) → IfSome (slice_index_or s.memory.windows k None) (IsPage s.memory)
 
 -- memory still shows what was kept
-clear_seen : (s t : State) (w : Watch) → IsClearAt s w → HasPages s → Answers s None t → IsWatch s.upper s.memory w →
-    IsSeen t.upper t.memory w
-clear_seen s t w p pages a x =
+unfound_seen : (s t : State) (w : ArenaCopy) → FindsNothingAt s w → HasPages s → Answers s None t →
+    IsArenaCopy s.upper s.memory w → IsSeen t.upper t.memory w
+unfound_seen s t w p pages a x =
     let g = guest s.cpu s.memory in
     let n : Memory = (effect g p.ins p.length).memory in
     let left = next_leaves s t p.ins p.length p.below p.begins a in
-    let seen : IsSeen s.upper n w = seen_clear s.upper s.memory n w _ _ x pages (writes_listed g p.ins p.length)
-    p.clear in
+    let seen : IsSeen s.upper n w = seen_unfound s.upper s.memory n w _ _ x pages (writes_listed g p.ins p.length)
+    p.nothing in
     let G : Bool → Type 0 = λ b. IsSeen b t.memory w in
     let H : Memory → Type 0 = λ m. IsSeen s.upper m w in
     subst G (sym left.upper) (subst H (sym left.memory) seen)
@@ -321,9 +324,9 @@ pass_more p q h a20 e t =
     (element_more p q h a20 e.third (and_right (a && b) c t))
 
 -- nothing is found of a step that touches nothing that is marked
-unmarked_is_clear : (s : State) (w : Watch) → w.broken ≡ None → IsWatch s.upper s.memory w → IsUnmarked w.marks s →
-    Begins s → IsClearAt s w
-unmarked_is_clear s w whole x u b =
+unmarked_finds_nothing : (s : State) (w : ArenaCopy) → w.broken ≡ None → IsArenaCopy s.upper s.memory w →
+    IsUnmarked w.marks s → Begins s → FindsNothingAt s w
+unmarked_finds_nothing s w whole x u b =
     let g = guest s.cpu s.memory in
     let quiet = u.quiet b.ins b.length b.begins in
     record {
@@ -331,43 +334,43 @@ unmarked_is_clear s w whole x u b =
       length = b.length;
       below = u.below;
       begins = b.begins;
-      clear = record {
+      nothing = record {
         whole = whole;
-        reads = pass_more (lies_below w.marks 2) (is_read_clear w.headers.items) (λ a t. x.marked.reads a t)
+        reads = pass_more (lies_below w.marks 2) (is_read_unfound w.headers.items) (λ a t. x.marked.reads a t)
             s.memory.a20 (reads g b.ins b.length) quiet.reads;
-        writes = pass_more (lies_below w.marks 1) (is_write_clear s.memory w.headers.items)
+        writes = pass_more (lies_below w.marks 1) (is_write_unfound s.memory w.headers.items)
             (λ a t. x.marked.writes s.memory (sym x.windows) a t) s.memory.a20 (writes g b.ins b.length) quiet.writes;
       };
     }
 
 -- so many such steps lead from s to t
-pub record StaysUnfound (s t : State) (w : Watch) (n : ℕ) : Type 0 where
+pub record StaysUnfound (s t : State) (w : ArenaCopy) (n : ℕ) : Type 0 where
   pub unfound : GoesUnfound s n t
-  pub watch : IsWatch t.upper t.memory w
+  pub arena : IsArenaCopy t.upper t.memory w
   pub pages : HasPages t
 
-unfound_more : (s t u : State) (w : Watch) (n : ℕ) → w.broken ≡ None → StaysUnfound s t w n → IsUnmarked w.marks t →
+unfound_more : (s t u : State) (w : ArenaCopy) (n : ℕ) → w.broken ≡ None → StaysUnfound s t w n → IsUnmarked w.marks t →
     MakesStep t (record { stop = None; state = u }) → StaysUnfound s u w (n + 1)
 unfound_more s t u w n whole p x step =
-    let passed = unmarked_is_clear t w whole p.watch x (begins_of t u x.below step) in
-    let seen = clear_seen t u w passed p.pages step p.watch in
+    let passed = unmarked_finds_nothing t w whole p.arena x (begins_of t u x.below step) in
+    let seen = unfound_seen t u w passed p.pages step p.arena in
     let uncalled = no_call t.cpu passed.below in
-    let watch = seen_watch t.upper u.upper t.memory u.memory w p.watch seen in
+    let arena = seen_arena t.upper u.upper t.memory u.memory w p.arena seen in
     let passing : IsUnfound t u = record {
-      finds = nothing_by t u w uncalled p.watch seen (clear_touched t u w passed
+      finds = nothing_by t u w uncalled p.arena seen (unfound_touched t u w passed
           step);
-      knows = λ k. known_still t u w w k uncalled p.watch watch;
+      knows = λ k. known_still t u w w k uncalled p.arena arena;
     } in
-    record { unfound = steps.further n t u p.unfound step passing; watch = watch; pages = seen.pages }
+    record { unfound = steps.further n t u p.unfound step passing; arena = arena; pages = seen.pages }
 
-unfound_all : (s : State) (w : Watch) (t : State) (n : ℕ) → w.broken ≡ None → IsWatch s.upper s.memory w → HasPages s →
-    GoesUnmarked w.marks s n t → StaysUnfound s t w n
-unfound_all s w _ _ whole x pages unmarked.here = record { unfound = steps.here; watch = x; pages = pages }
+unfound_all : (s : State) (w : ArenaCopy) (t : State) (n : ℕ) → w.broken ≡ None → IsArenaCopy s.upper s.memory w →
+    HasPages s → GoesUnmarked w.marks s n t → StaysUnfound s t w n
+unfound_all s w _ _ whole x pages unmarked.here = record { unfound = steps.here; arena = x; pages = pages }
 unfound_all s w _ _ whole x pages (unmarked.further n t u g i h) =
     unfound_more s t u w n whole (unfound_all s w t n whole x pages g) i h
 
-pub unfound : (s t : State) (w : Watch) (n : ℕ) → w.broken ≡ None → IsWatch s.upper s.memory w → AreConsistent s →
-    GoesUnmarked w.marks s n t → StaysUnfound s t w n
+pub unfound : (s t : State) (w : ArenaCopy) (n : ℕ) → w.broken ≡ None → IsArenaCopy s.upper s.memory w →
+    AreConsistent s → GoesUnmarked w.marks s n t → StaysUnfound s t w n
 unfound s t w n whole x linked g = unfound_all s w t n whole x (pages_there s linked) g
 
 pub not_broken : {T : Type 0} (o : Option T) → is_some o ≡ false → o ≡ None

@@ -4,12 +4,12 @@ use Rattle.std.specs.Prelude.{if◌then◌else◌}
 use Rattle.dm_services.specs.state.State.{State}
 use Rattle.dm_findings.specs.declared.finding.Finding.{Finding}
 use Rattle.dm_findings.specs.Calls.{call_of}
-use Rattle.dm_checker.specs.declared.watch.Watch.{Watch}
+use Rattle.dm_checker.specs.declared.arena_copy.ArenaCopy.{ArenaCopy}
 use Rattle.dm_origins.specs.outcomes.Calls.{arranges, call_findings}
 use Rattle.dm_checker.specs.Freed.{freed_twice}
 use Rattle.dm_checker.specs.Findings.{turn_found, findings}
-use Rattle.dm_checker.specs.Watching.{header_of, broken_at, IsWatch}
-use Rattle.dm_checker.specs.inner.Watching.{shown_of, IsSeen}
+use Rattle.dm_checker.specs.ArenaCopy.{header_of, broken_at, IsArenaCopy}
+use Rattle.dm_checker.specs.inner.ArenaCopy.{shown_of, IsSeen}
 use Rattle.dm_checker.proofs.Seen.{seen_overwritten, seen_mapped_away}
 
 pub seen_turned : (o : Option ℕ) → turn_found o o ≡ []
@@ -24,7 +24,7 @@ four_none : (a b c d e : List Finding) → a ≡ [] → b ≡ [] → c ≡ [] �
 four_none a b c d e p q r = rw (p, q, r) refl
 
 -- of a step after which memory shows the same headers, only what a call did is found
-pub seen_findings : (s t : State) (w : Watch) → IsWatch s.upper s.memory w → IsSeen t.upper t.memory w →
+pub seen_findings : (s t : State) (w : ArenaCopy) → IsArenaCopy s.upper s.memory w → IsSeen t.upper t.memory w →
     findings s t (shown_of w) (shown_of w) ≡ freed_twice s.cpu t.cpu (call_of s.cpu) (map header_of w.headers.items)
     ++ call_findings s.cpu t.cpu (call_of s.cpu)
 seen_findings s t w x y = four_none _ _ _ _ _

@@ -11,13 +11,13 @@ use Rattle.dm_origins.specs.Origins.{Known}
 use Rattle.dm_checker.specs.Origins.{known_at, OriginsIn}
 use Rattle.dm_checker.specs.Processes.{AreProcesses}
 use Rattle.dm_checker.specs.Processes as processes
-use Rattle.dm_checker.specs.declared.watch.Watch.{Watch}
+use Rattle.dm_checker.specs.declared.arena_copy.ArenaCopy.{ArenaCopy}
 use Rattle.dm_checker.specs.Checks.{FindsIn, IsReport, RunsPart, reported}
 use Rattle.dm_checker.specs.Checks as checks
 use Rattle.dm_checker.specs.Checking.{UnderWay, HasMade, IsLonger, IsUnderWay, going, had_ended, founds, ListsSame, GoesToFirst, lists_more}
 use Rattle.dm_checker.specs.Checking as checking
 use Rattle.dm_checker.specs.inner.Steps.{ChecksOne, IsPart, GoesUnfound}
-use Rattle.dm_checker.specs.Watching.{IsWatch}
+use Rattle.dm_checker.specs.ArenaCopy.{IsArenaCopy}
 use Rattle.dm_checker.proofs.Checking.{HasChecked, checked_none, checked_on, checked_all, checked_cut, checked_more, part_next}
 use Rattle.dm_checker.proofs.Longer.{longer_by, listed_same}
 
@@ -48,28 +48,28 @@ checked_of s t n c h = record { running = h.running; found = h.found; finds = h.
 pub record Going (s : State) (n : ℕ) (t : State) (c : UnderWay) : Type 0 where
   pub few : c.left ≤ n
   pub checked : HasChecked c.free s (n - c.left) t c.origins c.report
-  pub watch : IsWatch t.upper t.memory c.watch
+  pub arena : IsArenaCopy t.upper t.memory c.arena
 
 pub going_of : (s t : State) (n : ℕ) (c : UnderWay) → c.over ≡ None → IsUnderWay s n t c → Going s n t c
-going_of s t n c e (going f made watch) = record { few = made.few; checked = checked_of s t n c made; watch = watch }
+going_of s t n c e (going f made arena) = record { few = made.few; checked = checked_of s t n c made; arena = arena }
 going_of s t n c e (had_ended code f g h i first) = absurd (let no : Some code ≡ None = sym f ∙ e in cc)
 
 pub ended_of : (s t : State) (n code : ℕ) (c : UnderWay) → c.over ≡ Some code → IsUnderWay s n t c →
     IsReport s n c.free (Exited code) t c.report
-ended_of s t n code c e (going f made watch) = absurd (let no : Some code ≡ None = sym e ∙ f in cc)
+ended_of s t n code c e (going f made arena) = absurd (let no : Some code ≡ None = sym e ∙ f in cc)
 ended_of s t n code c e (had_ended other f g h i first) =
     let same : Some other ≡ Some code = sym f ∙ e in
     record { found = []; checks = checks.over code (g ∙ same) refl h refl; is = i }
 
 pub begins : (s t : State) (n : ℕ) (c : UnderWay) → c.over ≡ s.exited → t ≡ s → c.left ≡ n → c.report ≡ report_of [] →
-    c.origins ≡ known_at s → IsWatch t.upper t.memory c.watch → IsUnderWay s n t c
-begins s t n c e same left empty first watch = by s.exited refl
+    c.origins ≡ known_at s → IsArenaCopy t.upper t.memory c.arena → IsUnderWay s n t c
+begins s t n c e same left empty first arena = by s.exited refl
   where
     by : (o : Option ℕ) → s.exited ≡ o → IsUnderWay s n t c
     by None h =
         let none : 0 ≡ n - c.left = omega (arith, left) in
         going (e ∙ h) (made_of s t n c (omega (arith, left)) (subst (λ (k : ℕ). HasChecked c.free s k t c.origins
-        c.report) none (checked_none c.free s t c.origins c.report h same first empty))) watch
+        c.report) none (checked_none c.free s t c.origins c.report h same first empty))) arena
     by (Some code) h = had_ended code (e ∙ h) h same empty first
 
 -- ---- one more step
@@ -84,7 +84,7 @@ module _ (free : Bool) (s t u : State) (n left passed : ℕ) (k : Known) (r : Re
   all_made all = checked_all free s u (n - left + passed) n k r on (omega (arith, all, few))
 
   -- a stop came
-  pub stopped : passed < left → (v : State) (stop : Stop) (w : Watch) (l : Known) (new : Reported) →
+  pub stopped : passed < left → (v : State) (stop : Stop) (w : ArenaCopy) (l : Known) (new : Reported) →
       ChecksOne free u (Some stop) v w k l r new → IsReport s n free stop v new
   stopped less v stop w l new x = checked_cut free s u v (n - left + passed) n stop w k l r new on (omega (
     arith,
@@ -93,7 +93,7 @@ module _ (free : Bool) (s t u : State) (n left passed : ℕ) (k : Known) (r : Re
   )) x
 
   -- the machine goes on
-  pub gone_on : passed < left → (v : State) (w : Watch) (l : Known) (new : Reported) →
+  pub gone_on : passed < left → (v : State) (w : ArenaCopy) (l : Known) (new : Reported) →
       ChecksOne free u None v w k l r new → HasChecked free s (n - (left - passed - 1)) v l new
   gone_on less v w l new x =
       let one_more : n - left + passed + 1 ≡ n - (left - passed - 1) = omega (arith, less, few) in
@@ -105,7 +105,7 @@ module _ (free : Bool) (s t u : State) (n left passed : ℕ) (k : Known) (r : Re
   part_lost less v x = part_next free s u v (n - left + passed) n k r on (omega (arith, less, few)) x
 
   -- what is listed stays listed
-  pub listed_on : (v : State) (stop : Option Stop) (w : Watch) (l : Known) (new : Reported) →
+  pub listed_on : (v : State) (stop : Option Stop) (w : ArenaCopy) (l : Known) (new : Reported) →
       ChecksOne free u stop v w k l r new → IsLonger r new
   listed_on v stop w l new x = longer_by free r new h.found x.found h.is x.reports
 
@@ -120,7 +120,7 @@ module _ (free : Bool) (s t u : State) (n left passed : ℕ) (k : Known) (r : Re
         are = refl;
       }
 
-  pub stop_processes : passed < left → (v : State) (stop : Stop) (w : Watch) (l : Known) (new : Reported) →
+  pub stop_processes : passed < left → (v : State) (stop : Stop) (w : ArenaCopy) (l : Known) (new : Reported) →
       ChecksOne free u (Some stop) v w k l r new → AreProcesses s n stop v l.processes
   stop_processes less v stop w l new x =
       record {
@@ -149,7 +149,7 @@ module _ (free : Bool) (s t u : State) (n left passed : ℕ) (k : Known) (r : Re
     report_as x fs e = e ∙ ap (λ (b : Bool). report_of (reported b fs)) (sym same)
 
     -- the machine goes on, and the report lists more
-    pub first_listed : passed < left → (v : State) (w : Watch) (l : Known) →
+    pub first_listed : passed < left → (v : State) (w : ArenaCopy) (l : Known) →
         ChecksOne free u None v w k l r new.report → new.left ≡ left - passed - 1
         → length old.report.listed < length new.report.listed → GoesToFirst s n old v new None
     first_listed less v w l x left_is more =
@@ -161,7 +161,7 @@ module _ (free : Bool) (s t u : State) (n left passed : ℕ) (k : Known) (r : Re
         (subst (λ (i : ℕ). FindsIn s i v g.found) all g.finds) more (report_as new.report g.found g.is)
 
     -- a stop came
-    pub first_stopped : passed < left → (v : State) (stop : Stop) (w : Watch) (l : Known) →
+    pub first_stopped : passed < left → (v : State) (stop : Stop) (w : ArenaCopy) (l : Known) →
         ChecksOne free u (Some stop) v w k l r new.report → GoesToFirst s n old v new (Some stop)
     first_stopped less v stop w l x =
         checking.cut (n - left + passed) u k on.found x.found stop h.running (omega (
@@ -181,14 +181,14 @@ module _ (free : Bool) (s t u : State) (n left passed : ℕ) (k : Known) (r : Re
 -- the program had ended
 pub ended_processes : (s t : State) (n code : ℕ) (c : UnderWay) → c.over ≡ Some code → IsUnderWay s n t c →
     AreProcesses s n (Exited code) t c.origins.processes
-ended_processes s t n code c e (going f made watch) = absurd (let no : Some code ≡ None = sym e ∙ f in cc)
+ended_processes s t n code c e (going f made arena) = absurd (let no : Some code ≡ None = sym e ∙ f in cc)
 ended_processes s t n code c e (had_ended other f g h i first) =
     let same : Some other ≡ Some code = sym f ∙ e in
     record { known = c.origins; knows = processes.over code (g ∙ same) refl h first; are = refl }
 
 pub first_ended : (s t : State) (n code : ℕ) (old new : UnderWay) → old.over ≡ Some code → new.report ≡ old.report →
     IsUnderWay s n t old → GoesToFirst s n old t new (Some (Exited code))
-first_ended s t n code old new e is (going f made watch) = absurd (let no : Some code ≡ None = sym e ∙ f in cc)
+first_ended s t n code old new e is (going f made arena) = absurd (let no : Some code ≡ None = sym e ∙ f in cc)
 first_ended s t n code old new e is (had_ended other f g h i first) = (let same : Some other ≡ Some code = sym f ∙ e in
     checking.over code (g ∙ same) h (is ∙ i))
 

@@ -10,15 +10,15 @@ use Rattle.dm_findings.specs.declared.finding.Finding.{Finding}
 use Rattle.dm_touches.specs.declared.elements.FarAddress.{FarAddress}
 use Rattle.dm_touches.specs.Elements.{far, linear_of, bytes_if, bytes_of}
 use Rattle.dm_touches.specs.Found.{is_between, first_that, if_some, is_in_free, is_in_tail, free_read, free_written, tail_written, of_header, window_lost, rom_written, nothing_written, of_places}
-use Rattle.dm_checker.specs.declared.watch.Watched.{Watched}
-use Rattle.dm_checker.specs.Watching.{header_of}
+use Rattle.dm_checker.specs.declared.arena_copy.HeaderCopy.{HeaderCopy}
+use Rattle.dm_checker.specs.ArenaCopy.{header_of}
 use Rattle.dm_cpu.specs.Guest.{up}
 use Rattle.dm_touches.specs.declared.elements.Element.{Element}
 use Rattle.dm_touches.specs.declared.elements.Element.TheVariants as element
 use Rattle.dm_touches.specs.declared.elements.Elements.{Elements}
 use Rattle.dm_findings.specs.declared.finding.Finding.TheVariants.{RomWritten, NothingWritten}
 use Rattle.dm_touches.specs.quiet.Marks.{satisfies, satisfy}
-use Rattle.dm_checker.specs.Clear.{is_free_of, is_at, is_high, keeps_writes, is_write_clear}
+use Rattle.dm_checker.specs.Unfound.{is_free_of, is_at, is_high, keeps_writes, is_write_unfound}
 
 -- ---- tests
 
@@ -113,9 +113,9 @@ apart_test h a e = grind (arith, nat_tests)
 tail_apart : (b : Header) (a : ℕ) → not (b.segment == a / 16) ≡ true → not (is_in_tail b a) ≡ true
 tail_apart b a e = ap not (apart_test b.segment a (not_false (b.segment == a / 16) e))
 
-header_clear : (a20 : Bool) (rs ws : List FarAddress) (x : Watched) → are_all (λ a. not (is_free_of a x)) a20 rs
+header_unfound : (a20 : Bool) (rs ws : List FarAddress) (x : HeaderCopy) → are_all (λ a. not (is_free_of a x)) a20 rs
     ≡ true → are_all (λ a. not (is_at a x)) a20 ws ≡ true → of_header a20 rs ws x.header ≡ []
-header_clear a20 rs ws x r w =
+header_unfound a20 rs ws x r w =
     let free = all_weaker (λ a. not (is_at a x)) (λ a. not (is_in_free x.header a))
     (λ a e. (neither (is_free_of a x) (x.header.segment == a / 16) e).0) a20 ws w in
     let tail = all_weaker (λ a. not (is_at a x)) (λ a. not (is_in_tail x.header a))
@@ -125,16 +125,16 @@ header_clear a20 rs ws x r w =
     let third : tail_written a20 ws x.header ≡ [] = none_of _ _ (none_that (is_in_tail x.header) a20 ws tail) in
     ap₂ (λ (l m : List Finding). l ++ m) (ap₂ (λ (l m : List Finding). l ++ m) first second) third
 
-pub headers_clear : (a20 : Bool) (rs ws : List FarAddress) (xs : List Watched) →
+pub headers_unfound : (a20 : Bool) (rs ws : List FarAddress) (xs : List HeaderCopy) →
     are_all (λ a. not (list_any (is_free_of a) xs)) a20 rs ≡ true → are_all (λ a. not (list_any (is_at a) xs)) a20 ws
     ≡ true → flat_map (of_header a20 rs ws) (map header_of xs) ≡ []
-headers_clear a20 rs ws [] r w = refl
-headers_clear a20 rs ws (x ∷ xs) r w =
-    let here = header_clear a20 rs ws x
+headers_unfound a20 rs ws [] r w = refl
+headers_unfound a20 rs ws (x ∷ xs) r w =
+    let here = header_unfound a20 rs ws x
     (all_weaker _ (λ a. not (is_free_of a x)) (λ a e. (neither (is_free_of a x) (list_any (is_free_of a) xs) e).0) a20
     rs r)
     (all_weaker _ (λ a. not (is_at a x)) (λ a e. (neither (is_at a x) (list_any (is_at a) xs) e).0) a20 ws w) in
-    let rest = headers_clear a20 rs ws xs
+    let rest = headers_unfound a20 rs ws xs
     (all_weaker _ (λ a. not (list_any (is_free_of a) xs)) (λ a e. (neither (is_free_of a x)
     (list_any (is_free_of a) xs) e).1) a20 rs r)
     (all_weaker _ (λ a. not (list_any (is_at a) xs)) (λ a e. (neither (is_at a x) (list_any (is_at a) xs) e).1) a20 ws
@@ -157,7 +157,7 @@ other_by a false false false true g h w p q r s t u e = (grind (arith, nat_tests
 other_by a false false false false true h w p q r s t u e = absurd (false≢true e)
 other_by a false false false false false h w p q r s t u e = (grind (arith, nat_tests), grind (arith, nat_tests))
 
-memory_tests : (m : Memory) (xs : List Watched) (a : ℕ) → keeps_writes m xs a ≡ true → IsOther a
+memory_tests : (m : Memory) (xs : List HeaderCopy) (a : ℕ) → keeps_writes m xs a ≡ true → IsOther a
 memory_tests m xs a e = other_by a _ _ _ _ _ _ _ refl refl refl refl refl refl e
 
 -- a byte of a window that shows no page is no memory
@@ -175,7 +175,7 @@ window_of_range k a small t =
     let less : a < 0xE4000 + 0x4000 * k = grind (arith, nat_tests) in
     omega (arith, least, less)
 
-in_window : (m : Memory) (xs : List Watched) (k a : ℕ) (b : Bool) → k < 4 → slice_index_or m.windows k None ≡ None →
+in_window : (m : Memory) (xs : List HeaderCopy) (k a : ℕ) (b : Bool) → k < 4 → slice_index_or m.windows k None ≡ None →
     is_between (0xE0000 + 0x4000 * k) (0xE0000 + 0x4000 * k + 0x4000) a ≡ b →
     (is_some (slice_index_or m.windows ((a - 0xE0000) / 0x4000) None) && not (list_any is_high xs)) ≡ true →
     not b ≡ true
@@ -186,7 +186,7 @@ in_window m xs k a true small none t e =
     ap (λ (n : ℕ). is_some (slice_index_or m.windows n None)) same ∙ ap is_some none in
     absurd (false≢true (sym hidden ∙ and_left _ _ e))
 
-out_by : (m : Memory) (xs : List Watched) (k a : ℕ) (b c d f g h : Bool) → k < 4 →
+out_by : (m : Memory) (xs : List HeaderCopy) (k a : ℕ) (b c d f g h : Bool) → k < 4 →
     slice_index_or m.windows k None ≡ None → nat_lt a 0xC0000 ≡ b → nat_lt a 0xD0000 ≡ c → nat_lt a 0xE0000 ≡ d →
     nat_lt a 0xF0000 ≡ f → nat_lt a 0x100000 ≡ g → nat_lt a 0x10FFF0 ≡ h → (if b then true else if c then false else
     if d then true else if f then is_some (slice_index_or m.windows ((a - 0xE0000) / 0x4000) None) &&
@@ -197,11 +197,11 @@ out_by m xs k a false false true f g h small none p q r s t u e = grind (arith, 
 out_by m xs k a false false false true g h small none p q r s t u e = in_window m xs k a _ small none refl e
 out_by m xs k a false false false false g h small none p q r s t u e = grind (arith, nat_tests)
 
-window_test : (m : Memory) (xs : List Watched) (k a : ℕ) → k < 4 → slice_index_or m.windows k None ≡ None →
+window_test : (m : Memory) (xs : List HeaderCopy) (k a : ℕ) → k < 4 → slice_index_or m.windows k None ≡ None →
     keeps_writes m xs a ≡ true → IsOut k a
 window_test m xs k a small none e = out_by m xs k a _ _ _ _ _ _ small none refl refl refl refl refl refl e
 
-window_by : (m : Memory) (xs : List Watched) (ws : List FarAddress) (k : ℕ) (o : Option ℕ) → k < 4 →
+window_by : (m : Memory) (xs : List HeaderCopy) (ws : List FarAddress) (k : ℕ) (o : Option ℕ) → k < 4 →
     are_all (keeps_writes m xs) m.a20 ws ≡ true → slice_index_or m.windows k None ≡ o → window_lost m ws k ≡ []
 window_by m xs ws k (Some page) small e is = rw is refl
 window_by m xs ws k None small e is =
@@ -210,32 +210,32 @@ window_by m xs ws k None small e is =
     (all_weaker (keeps_writes m xs) _ (λ a t. window_test m xs k a small is t) m.a20 ws e) in
     rw (is, gone) refl
 
-window_clear : (m : Memory) (xs : List Watched) (ws : List FarAddress) (k : ℕ) → k < 4 →
+window_unfound : (m : Memory) (xs : List HeaderCopy) (ws : List FarAddress) (k : ℕ) → k < 4 →
     are_all (keeps_writes m xs) m.a20 ws ≡ true → window_lost m ws k ≡ []
-window_clear m xs ws k small e = window_by m xs ws k _ small e refl
+window_unfound m xs ws k small e = window_by m xs ws k _ small e refl
 
-pub places_clear : (m : Memory) (xs : List Watched) (ws : List FarAddress) → are_all (keeps_writes m xs) m.a20 ws
+pub places_unfound : (m : Memory) (xs : List HeaderCopy) (ws : List FarAddress) → are_all (keeps_writes m xs) m.a20 ws
     ≡ true → of_places m ws ≡ []
-places_clear m xs ws e =
+places_unfound m xs ws e =
     let rom : rom_written m.a20 ws ≡ [] = none_of (λ (f : FarAddress). RomWritten f.segment f.offset) _
     (none_that (is_between 0xF0000 0x100000) m.a20 ws (all_weaker (keeps_writes m xs) _
     (λ a t. (memory_tests m xs a t).0) m.a20 ws e)) in
     let nothing : nothing_written m.a20 ws ≡ [] = none_of (λ (f : FarAddress). NothingWritten f.segment f.offset) _
     (none_that (is_between 0xC0000 0xD0000) m.a20 ws (all_weaker (keeps_writes m xs) _
     (λ a t. (memory_tests m xs a t).1) m.a20 ws e)) in
-    let w0 = window_clear m xs ws 0 (omega arith) e in
-    let w1 = window_clear m xs ws 1 (omega arith) e in
-    let w2 = window_clear m xs ws 2 (omega arith) e in
-    let w3 = window_clear m xs ws 3 (omega arith) e in
+    let w0 = window_unfound m xs ws 0 (omega arith) e in
+    let w1 = window_unfound m xs ws 1 (omega arith) e in
+    let w2 = window_unfound m xs ws 2 (omega arith) e in
+    let w3 = window_unfound m xs ws 3 (omega arith) e in
     rw (w0, w1, w2, w3, rom, nothing) refl
 
--- ---- what a write that is clear says
+-- ---- what a write of which nothing is found says
 
-pub memory_of : (m : Memory) (xs : List Watched) (a20 : Bool) (ws : List FarAddress) →
-    are_all (is_write_clear m xs) a20 ws ≡ true → are_all (keeps_writes m xs) a20 ws ≡ true
-memory_of m xs a20 ws e = all_weaker (is_write_clear m xs) (keeps_writes m xs)
+pub memory_of : (m : Memory) (xs : List HeaderCopy) (a20 : Bool) (ws : List FarAddress) →
+    are_all (is_write_unfound m xs) a20 ws ≡ true → are_all (keeps_writes m xs) a20 ws ≡ true
+memory_of m xs a20 ws e = all_weaker (is_write_unfound m xs) (keeps_writes m xs)
     (λ a t. and_left (keeps_writes m xs a) _ t) a20 ws e
 
-pub apart_of : (m : Memory) (xs : List Watched) (a20 : Bool) (ws : List FarAddress) →
-    are_all (is_write_clear m xs) a20 ws ≡ true → are_all (λ a. not (list_any (is_at a) xs)) a20 ws ≡ true
-apart_of m xs a20 ws e = all_weaker (is_write_clear m xs) _ (λ a t. and_right (keeps_writes m xs a) _ t) a20 ws e
+pub apart_of : (m : Memory) (xs : List HeaderCopy) (a20 : Bool) (ws : List FarAddress) →
+    are_all (is_write_unfound m xs) a20 ws ≡ true → are_all (λ a. not (list_any (is_at a) xs)) a20 ws ≡ true
+apart_of m xs a20 ws e = all_weaker (is_write_unfound m xs) _ (λ a t. and_right (keeps_writes m xs a) _ t) a20 ws e

@@ -8,11 +8,11 @@ use Rattle.dm_findings.specs.declared.finding.Found.{Found}
 use Rattle.dm_findings.specs.declared.report.Listed.{Listed}
 use Rattle.dm_findings.specs.Report.{Reported, report_of}
 use Rattle.dm_origins.specs.Origins.{Known}
-use Rattle.dm_checker.specs.declared.watch.Watch.{Watch}
+use Rattle.dm_checker.specs.declared.arena_copy.ArenaCopy.{ArenaCopy}
 use Rattle.dm_checker.specs.Checks.{FindsAtStop, FindsIn, IsReport, reported}
 use Rattle.dm_checker.specs.Processes.{AreProcesses}
 use Rattle.dm_checker.specs.Origins.{OriginsIn, known_at}
-use Rattle.dm_checker.specs.Watching.{IsWatch}
+use Rattle.dm_checker.specs.ArenaCopy.{IsArenaCopy}
 
 -- a checked run under way: the report so far, how many steps it may still make, whether it reports findings about free
 -- memory, the exit code of a program that had ended before its first step, if it had, what memory shows of the arena,
@@ -22,7 +22,7 @@ pub record UnderWay : Type 0 where
   pub left : ℕ
   pub free : Bool
   pub over : Option ℕ
-  pub watch : Watch
+  pub arena : ArenaCopy
   pub origins : Known
 
 -- the steps that c has made from s, of at most n, led to t, and its report has what is found in them; c has what is
@@ -38,7 +38,7 @@ pub record HasMade (s : State) (n : ℕ) (t : State) (c : UnderWay) : Type 0 whe
 -- c is a checked run of at most n steps from s, which has led to t: it goes on, or the program had ended before (then
 -- there is no step, and nothing is found)
 pub data IsUnderWay (s : State) (n : ℕ) (t : State) (c : UnderWay) : Type 0 where
-  going : c.over ≡ None → HasMade s n t c → IsWatch t.upper t.memory c.watch → IsUnderWay s n t c
+  going : c.over ≡ None → HasMade s n t c → IsArenaCopy t.upper t.memory c.arena → IsUnderWay s n t c
   had_ended : (code : ℕ) → c.over ≡ Some code → s.exited ≡ Some code → t ≡ s → c.report ≡ report_of [] →
       c.origins ≡ known_at s → IsUnderWay s n t c
 

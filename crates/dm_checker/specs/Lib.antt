@@ -8,8 +8,8 @@ pub mod Findings
 pub mod Checks
 pub mod Processes
 pub mod Marking
-pub mod Clear
-pub mod Watching
+pub mod Unfound
+pub mod ArenaCopy
 pub mod Checking
 pub mod Laws
 pub mod inner

@@ -1,5 +1,5 @@
 -- Definitions that private contracts and proofs alone name.
 pub mod Steps
-pub mod Clear
+pub mod Unfound
 pub mod Marking
-pub mod Watching
+pub mod ArenaCopy

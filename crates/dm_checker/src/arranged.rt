@@ -5,11 +5,11 @@ ghost use Rattle.std.specs.Prelude.{◌≡◌, ◌++◌, map, OnOk};
 ghost use Rattle.std.specs.List.{flat_map};
 ghost use Rattle.dm_space.specs.Memory.{linear};
 ghost use Rattle.dm_checker.specs.Arranged.{other_block, other_freed, stack_in, stack_freed, has_size, not_resized, found_after_call, arranged_by};
-ghost use Rattle.dm_checker.specs.Watching.{header_of};
-ghost use Rattle.dm_checker.specs.inner.Watching.{shown_of};
+ghost use Rattle.dm_checker.specs.ArenaCopy.{header_of};
+ghost use Rattle.dm_checker.specs.inner.ArenaCopy.{shown_of};
 
 use crate::acts::Before;
-use crate::watch::{Watch, Watched};
+use crate::arena_copy::{ArenaCopy, HeaderCopy};
 use dm_cpu::Cpu;
 use dm_findings::{Call, Finding};
 use dm_origins::outcomes::{append_finding, frees, resizes, stays_resident};
@@ -23,11 +23,11 @@ fn put_other_block(
     out: &mut Vec<Finding>,
     present: u16,
     segment: u16,
-    watched: &Watched,
+    copy: &HeaderCopy,
 ) -> Result<(), AllocError>
-    ensures { OnOk result (out.new.items ≡ out.old.items ++ other_block present segment (header_of watched.now)) }
+    ensures { OnOk result (out.new.items ≡ out.old.items ++ other_block present segment (header_of copy.now)) }
 {
-    let header = &watched.header;
+    let header = &copy.header;
     if header.segment as u32 + 1 == segment as u32 && header.owner != 0 && header.owner != present {
         return append_finding(out, Finding::OtherFreed(segment, header.owner));
     }
@@ -39,13 +39,13 @@ fn put_each_other(
     out: &mut Vec<Finding>,
     present: u16,
     segment: u16,
-    headers: &[Watched],
+    headers: &[HeaderCopy],
 ) -> Result<(), AllocError>
     ensures { OnOk result (out.new.items ≡ out.old.items ++ flat_map (other_block present segment)
         (map header_of headers.now)) }
 {
-    for watched in headers {
-        put_other_block(out, present, segment, watched)?;
+    for copy in headers {
+        put_other_block(out, present, segment, copy)?;
     }
     Ok(())
 }
@@ -57,7 +57,7 @@ fn put_other_freed(
     before: &Cpu,
     after: &Cpu,
     number: u8,
-    headers: &[Watched],
+    headers: &[HeaderCopy],
 ) -> Result<(), AllocError>
     ensures { OnOk result (out.new.items ≡ out.old.items ++ other_freed present before.now after.now number
         (map header_of headers.now)) }
@@ -69,24 +69,24 @@ fn put_other_freed(
 }
 
 /// Appends that the linear address, that of a stack, is in the memory behind the header, if that block is free.
-fn put_stack_in(out: &mut Vec<Finding>, at: u32, watched: &Watched) -> Result<(), AllocError>
-    ensures { OnOk result (out.new.items ≡ out.old.items ++ stack_in at (header_of watched.now)) }
+fn put_stack_in(out: &mut Vec<Finding>, at: u32, copy: &HeaderCopy) -> Result<(), AllocError>
+    ensures { OnOk result (out.new.items ≡ out.old.items ++ stack_in at (header_of copy.now)) }
 {
-    if is_in_free(&watched.header, at) {
+    if is_in_free(&copy.header, at) {
         return append_finding(
             out,
-            Finding::StackFreed(watched.header.segment.wrapping_add(1)),
+            Finding::StackFreed(copy.header.segment.wrapping_add(1)),
         );
     }
     Ok(())
 }
 
 /// Appends in which free block the linear address is, that of a stack.
-fn put_each_stack(out: &mut Vec<Finding>, at: u32, headers: &[Watched]) -> Result<(), AllocError>
+fn put_each_stack(out: &mut Vec<Finding>, at: u32, headers: &[HeaderCopy]) -> Result<(), AllocError>
     ensures { OnOk result (out.new.items ≡ out.old.items ++ flat_map (stack_in at) (map header_of headers.now)) }
 {
-    for watched in headers {
-        put_stack_in(out, at, watched)?;
+    for copy in headers {
+        put_stack_in(out, at, copy)?;
     }
     Ok(())
 }
@@ -99,7 +99,7 @@ fn put_stack_freed(
     before: &Cpu,
     after: &Cpu,
     number: u8,
-    headers: &[Watched],
+    headers: &[HeaderCopy],
 ) -> Result<(), AllocError>
     ensures { OnOk result (out.new.items ≡ out.old.items ++ stack_freed a20 before.now after.now number
         (map header_of headers.now)) }
@@ -115,11 +115,11 @@ fn put_stack_freed(
 }
 
 /// Whether one of the headers is that of the block at the segment, with this size.
-fn has_size(segment: u16, size: u16, headers: &[Watched]) -> bool
+fn has_size(segment: u16, size: u16, headers: &[HeaderCopy]) -> bool
     ensures { result ≡ has_size segment size (map header_of headers.now) }
 {
-    for watched in headers {
-        let header = &watched.header;
+    for copy in headers {
+        let header = &copy.header;
         if header.segment as u32 + 1 == segment as u32 && header.size == size {
             return true;
         }
@@ -134,7 +134,7 @@ fn put_not_resized(
     present: u16,
     before: &Cpu,
     number: u8,
-    headers: &[Watched],
+    headers: &[HeaderCopy],
 ) -> Result<(), AllocError>
     ensures { OnOk result (out.new.items ≡ out.old.items ++ not_resized present before.now number
         (map header_of headers.now)) }
@@ -151,7 +151,7 @@ fn put_after_call(
     before: &Before,
     after: &Cpu,
     number: u8,
-    new: &Watch,
+    new: &ArenaCopy,
 ) -> Result<(), AllocError>
     ensures { OnOk result (out.new.items ≡ out.old.items
         ++ found_after_call before.now.a20 before.now.present before.now.cpu after.now number (shown_of new.now)) }
@@ -170,8 +170,8 @@ pub(crate) fn put_arranged(
     out: &mut Vec<Finding>,
     before: &Before,
     after: &Cpu,
-    headers: &[Watched],
-    new: &Watch,
+    headers: &[HeaderCopy],
+    new: &ArenaCopy,
 ) -> Result<(), AllocError>
     ensures { OnOk result (out.new.items ≡ out.old.items
         ++ arranged_by before.now.a20 before.now.present before.now.cpu after.now before.now.call

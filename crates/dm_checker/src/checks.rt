@@ -7,8 +7,8 @@ ghost use Rattle.dm_findings.specs.Report.{report_of};
 ghost use Rattle.dm_checker.specs.Checks.{IsReport, RunsPart};
 ghost use Rattle.dm_checker.specs.Checking.{RunGoesOn, GoesToFirst, HasProcesses, IsLonger, IsUnderWay};
 
+use crate::arena_copy::{ArenaCopy, read_arena};
 use crate::steps::{look_at_step, run_unmarked};
-use crate::watch::{Watch, read_arena};
 use dm_findings::Report;
 use dm_findings::processes::Process;
 use dm_machine::{Machine, Stop};
@@ -23,7 +23,7 @@ pub struct CheckedRun {
     left: u64,
     free: bool,
     over: Option<u8>,
-    kept: Watch,
+    kept: ArenaCopy,
     origins: Origins,
 }
 
@@ -37,7 +37,7 @@ impl Model for CheckedRun {
       left = c.left;
       free = c.free;
       over = c.over;
-      watch = c.kept;
+      arena = c.kept;
       origins = c.origins;
     } };
 }

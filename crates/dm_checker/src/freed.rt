@@ -2,9 +2,9 @@
 
 ghost use Rattle.std.specs.Prelude.{◌≡◌, ◌++◌, map, OnOk};
 ghost use Rattle.dm_checker.specs.Freed.{is_free_at, freed_twice};
-ghost use Rattle.dm_checker.specs.Watching.{header_of};
+ghost use Rattle.dm_checker.specs.ArenaCopy.{header_of};
 
-use crate::watch::Watched;
+use crate::arena_copy::HeaderCopy;
 use dm_cpu::Cpu;
 use dm_findings::{Call, Finding};
 use dm_origins::outcomes::{append_finding, frees};
@@ -12,11 +12,11 @@ use dm_services::function_of;
 use std::alloc::AllocError;
 
 /// Whether one of the headers is that of the block at `segment`, and the block is free.
-fn is_free_at(headers: &[Watched], segment: u16) -> bool
+fn is_free_at(headers: &[HeaderCopy], segment: u16) -> bool
     ensures { result ≡ is_free_at (map header_of headers.now) segment }
 {
-    for watched in headers {
-        if watched.header.segment as u32 + 1 == segment as u32 && watched.header.owner == 0 {
+    for copy in headers {
+        if copy.header.segment as u32 + 1 == segment as u32 && copy.header.owner == 0 {
             return true;
         }
     }
@@ -30,7 +30,7 @@ pub(crate) fn put_freed_twice(
     before: &Cpu,
     after: &Cpu,
     call: Option<Call>,
-    headers: &[Watched],
+    headers: &[HeaderCopy],
 ) -> Result<(), AllocError>
     ensures { OnOk result (out.new.items ≡ out.old.items ++ freed_twice before.now after.now call
         (map header_of headers.now)) }

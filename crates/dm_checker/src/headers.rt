@@ -1,4 +1,4 @@
-//! The findings about what a step did to the headers of the arena: overwritten, or mapped away. `headers`, `watched`
+//! The findings about what a step did to the headers of the arena: overwritten, or mapped away. `headers`, `copy`
 //! and `windows` are those before the step, `space` is memory after it. Each function `put_..` appends its findings to
 //! `out`; an `Err` is a failed allocation.
 
@@ -6,10 +6,10 @@ ghost use Rattle.std.specs.Prelude.{◌≡◌, ◌++◌, ◌+◌, ◌*◌, ◌<�
 ghost use Rattle.std.specs.List.{flat_map};
 ghost use Rattle.dm_space.specs.Memory.{Memory};
 ghost use Rattle.dm_checker.specs.Headers.{shown_at, same_contents, overwritten, mapped_away};
-ghost use Rattle.dm_checker.specs.Watching.{IsBits, IsWatched, header_of};
-ghost use Rattle.dm_checker.specs.inner.Watching.{IsKept, contents_by};
+ghost use Rattle.dm_checker.specs.ArenaCopy.{IsBits, IsHeaderCopy, header_of};
+ghost use Rattle.dm_checker.specs.inner.ArenaCopy.{IsKept, contents_by};
 
-use crate::watch::{Watched, bits_at};
+use crate::arena_copy::{HeaderCopy, bits_at};
 use dm_findings::{Contents, Finding};
 use dm_origins::outcomes::append_finding;
 use dm_pool::Block;
@@ -102,19 +102,19 @@ fn put_overwritten(
     out: &mut Vec<Finding>,
     space: &Space,
     windows: &[Option<Block>; 4],
-    watched: &Watched,
+    copy: &HeaderCopy,
 ) -> Result<(), AllocError>
-    ensures { OnOk result ((S : Memory) → windows.now ≡ S.windows → IsWatched S watched.now →
-        out.new.items ≡ out.old.items ++ overwritten S space.now.memory watched.now.header) }
+    ensures { OnOk result ((S : Memory) → windows.now ≡ S.windows → IsHeaderCopy S copy.now →
+        out.new.items ≡ out.old.items ++ overwritten S space.now.memory copy.now.header) }
 {
-    let Some(kept) = kept_of(space, windows, watched.header.segment) else {
+    let Some(kept) = kept_of(space, windows, copy.header.segment) else {
         return Ok(());
     };
-    let old = contents_of(watched.bits);
+    let old = contents_of(copy.bits);
     if is_same(kept, old) {
         return Ok(());
     }
-    append_finding(out, Finding::Overwritten(watched.header.segment, old, kept))
+    append_finding(out, Finding::Overwritten(copy.header.segment, old, kept))
 }
 
 /// Appends that a header was mapped away, if its page was freed or its segment now shows another signature, owner or
@@ -123,18 +123,18 @@ fn put_mapped_away(
     out: &mut Vec<Finding>,
     space: &Space,
     windows: &[Option<Block>; 4],
-    watched: &Watched,
+    copy: &HeaderCopy,
 ) -> Result<(), AllocError>
-    ensures { OnOk result ((S : Memory) → windows.now ≡ S.windows → IsWatched S watched.now →
-        out.new.items ≡ out.old.items ++ mapped_away S space.now.memory watched.now.header) }
+    ensures { OnOk result ((S : Memory) → windows.now ≡ S.windows → IsHeaderCopy S copy.now →
+        out.new.items ≡ out.old.items ++ mapped_away S space.now.memory copy.now.header) }
 {
-    if let Some(kept) = kept_of(space, windows, watched.header.segment) {
-        let shown = contents_of(bits_at(space, watched.header.segment));
+    if let Some(kept) = kept_of(space, windows, copy.header.segment) {
+        let shown = contents_of(bits_at(space, copy.header.segment));
         if is_same(kept, shown) {
             return Ok(());
         }
     }
-    append_finding(out, Finding::MappedAway(watched.header.segment))
+    append_finding(out, Finding::MappedAway(copy.header.segment))
 }
 
 /// Appends which headers were overwritten, in their order.
@@ -142,13 +142,13 @@ pub(crate) fn put_all_overwritten(
     out: &mut Vec<Finding>,
     space: &Space,
     windows: &[Option<Block>; 4],
-    headers: &[Watched],
+    headers: &[HeaderCopy],
 ) -> Result<(), AllocError>
-    ensures { OnOk result ((S : Memory) → windows.now ≡ S.windows → All (IsWatched S) headers.now →
+    ensures { OnOk result ((S : Memory) → windows.now ≡ S.windows → All (IsHeaderCopy S) headers.now →
         out.new.items ≡ out.old.items ++ flat_map (overwritten S space.now.memory) (map header_of headers.now)) }
 {
-    for watched in headers {
-        put_overwritten(out, space, windows, watched)?;
+    for copy in headers {
+        put_overwritten(out, space, windows, copy)?;
     }
     Ok(())
 }
@@ -158,13 +158,13 @@ pub(crate) fn put_all_mapped_away(
     out: &mut Vec<Finding>,
     space: &Space,
     windows: &[Option<Block>; 4],
-    headers: &[Watched],
+    headers: &[HeaderCopy],
 ) -> Result<(), AllocError>
-    ensures { OnOk result ((S : Memory) → windows.now ≡ S.windows → All (IsWatched S) headers.now →
+    ensures { OnOk result ((S : Memory) → windows.now ≡ S.windows → All (IsHeaderCopy S) headers.now →
         out.new.items ≡ out.old.items ++ flat_map (mapped_away S space.now.memory) (map header_of headers.now)) }
 {
-    for watched in headers {
-        put_mapped_away(out, space, windows, watched)?;
+    for copy in headers {
+        put_mapped_away(out, space, windows, copy)?;
     }
     Ok(())
 }

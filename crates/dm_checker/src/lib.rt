@@ -3,6 +3,7 @@
 #![tactic(auto)]
 
 mod acts;
+mod arena_copy;
 mod arranged;
 mod checks;
 mod freed;
@@ -12,7 +13,6 @@ mod marking;
 mod recording;
 mod steps;
 mod touched;
-mod watch;
 
 pub use checks::{CheckedRun, check};
 pub use laws::{a_check_has_one_report, a_checked_run_is_a_run, unserved_calls_are_found};

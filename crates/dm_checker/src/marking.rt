@@ -4,11 +4,11 @@
 ghost use Rattle.std.specs.Prelude.{◌≡◌, ◌+◌, ◌*◌, ◌<◌, ◌≤◌, ◌&&◌, not, false, is_some, slice_index_or, ℕ, All, IfOk, None};
 ghost use Rattle.std.specs.List.{list_any};
 ghost use Rattle.dm_touches.specs.quiet.Marks.{level_at};
-ghost use Rattle.dm_checker.specs.Clear.{is_high};
+ghost use Rattle.dm_checker.specs.Unfound.{is_high};
 ghost use Rattle.dm_checker.specs.Marking.{IsMarked};
 ghost use Rattle.dm_checker.specs.inner.Marking.{Keeps, HasMap, HasHeader, HasFree};
 
-use crate::watch::Watched;
+use crate::arena_copy::HeaderCopy;
 use dm_blocks::Header;
 use dm_pool::Block;
 use dm_touches::quiet::Marks;
@@ -33,17 +33,17 @@ const BELOW: usize = 0x1_0000;
 const PARAGRAPHS: usize = 0x1_1000;
 
 /// Whether the header is in the page frame or above it.
-fn is_high(watched: &Watched) -> bool
-    ensures { result ≡ is_high watched.now }
+fn is_high(copy: &HeaderCopy) -> bool
+    ensures { result ≡ is_high copy.now }
 {
-    watched.header.segment > 0xDFFF
+    copy.header.segment > 0xDFFF
 }
 
 /// Whether a header is in the page frame or above it.
-fn has_high(headers: &[Watched]) -> bool
+fn has_high(headers: &[HeaderCopy]) -> bool
     ensures { result ≡ list_any is_high headers.now }
 {
-    headers.iter().any(|watched| is_high(watched))
+    headers.iter().any(|copy| is_high(copy))
 }
 
 /// Marks writes to a window of the frame, from 0, if it shows no page or a header is in the frame (`high`).
@@ -75,21 +75,21 @@ fn mark_map(marks: &mut Marks, windows: &[Option<Block>; 4], high: bool)
 }
 
 /// Marks writes to the paragraph of a header.
-fn mark_header(marks: &mut Marks, watched: &Watched)
+fn mark_header(marks: &mut Marks, copy: &HeaderCopy)
     ensures keeps { Keeps 1 marks.old marks.new }
-    ensures marked { HasHeader marks.new watched.now }
+    ensures marked { HasHeader marks.new copy.now }
 {
-    let paragraph = watched.header.segment as usize;
+    let paragraph = copy.header.segment as usize;
     marks.mark(paragraph, paragraph + 1, 1);
 }
 
 /// Marks writes to the paragraphs of the headers.
-fn mark_headers(marks: &mut Marks, headers: &[Watched])
+fn mark_headers(marks: &mut Marks, headers: &[HeaderCopy])
     ensures keeps { Keeps 1 marks.old marks.new }
     ensures marked { All (HasHeader marks.new) headers.now }
 {
-    for watched in headers {
-        mark_header(marks, watched);
+    for copy in headers {
+        mark_header(marks, copy);
     }
 }
 
@@ -107,12 +107,12 @@ fn mark_block(marks: &mut Marks, header: &Header)
 }
 
 /// Marks reads of and writes to the memory of free blocks.
-fn mark_free(marks: &mut Marks, headers: &[Watched])
+fn mark_free(marks: &mut Marks, headers: &[HeaderCopy])
     ensures keeps { (n : ℕ) → n ≤ 2 → Keeps n marks.old marks.new }
     ensures marked { All (λ w. HasFree marks.new w.header) headers.now }
 {
-    for watched in headers {
-        mark_block(marks, &watched.header);
+    for copy in headers {
+        mark_block(marks, &copy.header);
     }
 }
 
@@ -120,7 +120,7 @@ fn mark_free(marks: &mut Marks, headers: &[Watched])
 /// is a failed allocation.
 pub(crate) fn marks_of(
     alloc: Global,
-    headers: &[Watched],
+    headers: &[HeaderCopy],
     windows: &[Option<Block>; 4],
 ) -> Result<Marks, AllocError>
     ensures { IfOk result (λ marks. IsMarked windows.now headers.now marks) }

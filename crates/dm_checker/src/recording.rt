@@ -5,12 +5,12 @@ ghost use Rattle.dm_checker.specs.Courses.{with_course};
 ghost use Rattle.dm_services.specs.state.State.{State};
 ghost use Rattle.dm_origins.specs.Origins.{with_freed};
 ghost use Rattle.dm_checker.specs.Origins.{if_both_whole, known_by};
-ghost use Rattle.dm_checker.specs.Watching.{header_of, broken_at};
-ghost use Rattle.dm_checker.specs.inner.Watching.{shown_of};
+ghost use Rattle.dm_checker.specs.ArenaCopy.{header_of, broken_at};
+ghost use Rattle.dm_checker.specs.inner.ArenaCopy.{shown_of};
 ghost use Rattle.dm_checker.specs.inner.Steps.{IsBefore};
 
 use crate::acts::Before;
-use crate::watch::{Watch, Watched};
+use crate::arena_copy::{ArenaCopy, HeaderCopy};
 use dm_blocks::Header;
 use dm_findings::processes::Process;
 use dm_findings::{Call, Origin};
@@ -20,12 +20,12 @@ use dm_origins::outcomes::{arranges, ends_process, has_started};
 use std::alloc::{AllocError, Global};
 
 /// The headers without their bytes. An `Err` is a failed allocation.
-fn headers_of(alloc: Global, headers: &[Watched]) -> Result<Vec<Header>, AllocError>
+fn headers_of(alloc: Global, headers: &[HeaderCopy]) -> Result<Vec<Header>, AllocError>
     ensures { IfOk result (λ list. list.items ≡ map header_of headers.now) }
 {
     let mut list = Vec::new(alloc);
-    for watched in headers {
-        list.push(watched.header)?;
+    for copy in headers {
+        list.push(copy.header)?;
     }
     Ok(list)
 }
@@ -35,8 +35,8 @@ fn headers_of(alloc: Global, headers: &[Watched]) -> Result<Vec<Header>, AllocEr
 fn record_arena(
     alloc: Global,
     origins: &mut Origins,
-    old: &Watch,
-    new: &Watch,
+    old: &ArenaCopy,
+    new: &ArenaCopy,
     origin: Origin,
 ) -> Result<(), AllocError>
     ensures { OnOk result (origins.new ≡ if_both_whole (broken_at old.now.broken) (broken_at new.now.broken) origins.old
@@ -79,8 +79,8 @@ pub(crate) fn record_step(
     alloc: Global,
     origins: &mut Origins,
     before: &Before,
-    old: &Watch,
-    new: &Watch,
+    old: &ArenaCopy,
+    new: &ArenaCopy,
     machine: &Machine,
 ) -> Result<(), AllocError>
     ensures { OnOk result ((s : State) → IsBefore s before.now →

@@ -12,17 +12,17 @@ ghost use Rattle.dm_machine.specs.Run.{Answers};
 ghost use Rattle.dm_checker.specs.Findings.{turn_found, IsFound, FindsTouched};
 ghost use Rattle.dm_checker.specs.Origins.{IsKnownAfter};
 ghost use Rattle.dm_checker.specs.Checks.{FindsAtEnd};
-ghost use Rattle.dm_checker.specs.Watching.{IsWatch, broken_at};
-ghost use Rattle.dm_checker.specs.inner.Watching.{shown_of};
+ghost use Rattle.dm_checker.specs.ArenaCopy.{IsArenaCopy, broken_at};
+ghost use Rattle.dm_checker.specs.inner.ArenaCopy.{shown_of};
 ghost use Rattle.dm_checker.specs.inner.Steps.{IsBefore, IsPart, Looks, ReportsMore, found_by, ChecksOne, GoesUnfound};
 
 use crate::acts::Before;
+use crate::arena_copy::{ArenaCopy, Broken, read_arena};
 use crate::arranged::put_arranged;
 use crate::freed::put_freed_twice;
 use crate::headers::{put_all_mapped_away, put_all_overwritten};
 use crate::recording::record_step;
 use crate::touched::put_touched;
-use crate::watch::{Broken, Watch, read_arena};
 use dm_findings::{Act, Call, Finding, Found, Report};
 use dm_machine::{Machine, Stop, tables_and_memory_are_consistent};
 use dm_origins::Origins;
@@ -51,13 +51,13 @@ fn put_turned(
 fn look_anew(
     out: &mut Vec<Finding>,
     before: &Before,
-    old: &Watch,
-    new: &Watch,
+    old: &ArenaCopy,
+    new: &ArenaCopy,
     machine: &Machine,
 ) -> Result<(), AllocError>
-    requires before { (s : State) × IsBefore s before.now × IsWatch s.upper s.memory old.now }
-    requires after { IsWatch machine.now.upper machine.now.memory new.now }
-    ensures { OnOk result ((s : State) → IsBefore s before.now → IsWatch s.upper s.memory old.now →
+    requires before { (s : State) × IsBefore s before.now × IsArenaCopy s.upper s.memory old.now }
+    requires after { IsArenaCopy machine.now.upper machine.now.memory new.now }
+    ensures { OnOk result ((s : State) → IsBefore s before.now → IsArenaCopy s.upper s.memory old.now →
         Looks s machine.now old.now out.old.items out.new.items) }
 {
     let space = machine.space();
@@ -79,15 +79,15 @@ fn look(
     alloc: Global,
     out: &mut Vec<Finding>,
     before: &Before,
-    kept: &mut Watch,
+    kept: &mut ArenaCopy,
     origins: &mut Origins,
     machine: &Machine,
 ) -> Result<(), AllocError>
-    requires { (s : State) × IsBefore s before.now × IsWatch s.upper s.memory kept.old }
-    ensures looks { OnOk result ((s : State) → IsBefore s before.now → IsWatch s.upper s.memory kept.old →
+    requires { (s : State) × IsBefore s before.now × IsArenaCopy s.upper s.memory kept.old }
+    ensures looks { OnOk result ((s : State) → IsBefore s before.now → IsArenaCopy s.upper s.memory kept.old →
         Looks s machine.now kept.old out.old.items out.new.items) }
-    ensures watch { OnOk result (IsWatch machine.now.upper machine.now.memory kept.new) }
-    ensures knows { OnOk result ((s : State) → IsBefore s before.now → IsWatch s.upper s.memory kept.old →
+    ensures arena { OnOk result (IsArenaCopy machine.now.upper machine.now.memory kept.new) }
+    ensures knows { OnOk result ((s : State) → IsBefore s before.now → IsArenaCopy s.upper s.memory kept.old →
         IsKnownAfter s machine.now origins.old origins.new) }
 {
     if !arranges(&before.cpu, before.call) && kept.is_seen(machine) {
@@ -177,17 +177,17 @@ fn check_end(
     found: &mut Vec<Finding>,
     before: &Before,
     call: Call,
-    kept: &mut Watch,
+    kept: &mut ArenaCopy,
     origins: &mut Origins,
     machine: &Machine,
     report: &mut Report,
     free: bool,
 ) -> Result<(), AllocError>
-    requires before { (s : State) × IsBefore s before.now × IsWatch s.upper s.memory kept.old }
+    requires before { (s : State) × IsBefore s before.now × IsArenaCopy s.upper s.memory kept.old }
     requires call { before.now.call ≡ Some call }
-    ensures knows { OnOk result ((s : State) → IsBefore s before.now → IsWatch s.upper s.memory kept.old →
+    ensures knows { OnOk result ((s : State) → IsBefore s before.now → IsArenaCopy s.upper s.memory kept.old →
         IsKnownAfter s machine.now origins.old origins.new) }
-    ensures finds { OnOk result ((s : State) → IsBefore s before.now → IsWatch s.upper s.memory kept.old →
+    ensures finds { OnOk result ((s : State) → IsBefore s before.now → IsArenaCopy s.upper s.memory kept.old →
         FindsTouched s (shown_of kept.old) found.old.items → (more : List Found) ×
         FindsAtEnd s machine.now origins.old more × ReportsMore free report.old report.new more) }
 {
@@ -240,12 +240,12 @@ pub(crate) fn look_at_step(
     alloc: Global,
     machine: &mut Machine,
     free: bool,
-    kept: &mut Watch,
+    kept: &mut ArenaCopy,
     origins: &mut Origins,
     report: &mut Report,
 ) -> Result<Option<Stop>, AllocError>
     requires program { HasProgram machine.old }
-    requires watch { IsWatch machine.old.upper machine.old.memory kept.old }
+    requires arena { IsArenaCopy machine.old.upper machine.old.memory kept.old }
     ensures ok { IfOk result (λ stop. ChecksOne free machine.old stop machine.new kept.new origins.old origins.new
         report.old report.new) }
     ensures err { OnErr result (IsPart machine.old machine.new) }
@@ -281,12 +281,12 @@ const BEFORE_A_LOOK: u64 = 0x1_0000;
 
 /// Makes at most `most` steps of instructions of which nothing is found, by the bytes that they touch, and that
 /// allocate and free nothing, and returns how many. `kept` is the arena before them, and after them.
-pub(crate) fn run_unmarked(machine: &mut Machine, kept: &Watch, most: u64) -> u64
+pub(crate) fn run_unmarked(machine: &mut Machine, kept: &ArenaCopy, most: u64) -> u64
     requires program { HasProgram machine.old }
-    requires watch { IsWatch machine.old.upper machine.old.memory kept.now }
+    requires arena { IsArenaCopy machine.old.upper machine.old.memory kept.now }
     ensures unfound { GoesUnfound machine.old result machine.new }
     ensures most { result ≤ most }
-    ensures watch { IsWatch machine.new.upper machine.new.memory kept.now }
+    ensures arena { IsArenaCopy machine.new.upper machine.new.memory kept.now }
     ensures program { HasProgram machine.new }
 {
     if kept.broken.is_some() {

@@ -6,11 +6,11 @@ ghost use Rattle.std.specs.List.{flat_map};
 ghost use Rattle.dm_services.specs.state.State.{State};
 ghost use Rattle.dm_touches.specs.Elements.{bytes_of};
 ghost use Rattle.dm_touches.specs.Found.{of_header, of_headers};
-ghost use Rattle.dm_checker.specs.Watching.{IsWatch, header_of, broken_at};
+ghost use Rattle.dm_checker.specs.ArenaCopy.{IsArenaCopy, header_of, broken_at};
 ghost use Rattle.dm_checker.specs.inner.Steps.{IsBefore, IsNextAct, Touches};
 
 use crate::acts::Before;
-use crate::watch::{Watch, Watched};
+use crate::arena_copy::{ArenaCopy, HeaderCopy};
 use dm_decode::decode;
 use dm_findings::Finding;
 use dm_ins::Ins;
@@ -36,14 +36,14 @@ fn put_of_each(
     out: &mut Vec<Finding>,
     a20: bool,
     touched: &Touched,
-    headers: &[Watched],
+    headers: &[HeaderCopy],
 ) -> Result<(), AllocError>
     ensures { OnOk result (out.new.items ≡ out.old.items
         ++ flat_map (of_header a20 (bytes_of touched.now.reads) (bytes_of touched.now.writes))
         (map header_of headers.now)) }
 {
-    for watched in headers {
-        put_of_header(out, a20, touched, &watched.header)?;
+    for copy in headers {
+        put_of_header(out, a20, touched, &copy.header)?;
     }
     Ok(())
 }
@@ -53,7 +53,7 @@ fn put_of_headers(
     out: &mut Vec<Finding>,
     a20: bool,
     touched: &Touched,
-    kept: &Watch,
+    kept: &ArenaCopy,
 ) -> Result<(), AllocError>
     ensures { OnOk result (out.new.items ≡ out.old.items ++ of_headers a20 (bytes_of touched.now.reads)
         (bytes_of touched.now.writes) (broken_at kept.now.broken) (map header_of kept.now.headers.items)) }
@@ -69,7 +69,7 @@ fn put_of_headers(
 pub(crate) fn put_touched(
     out: &mut Vec<Finding>,
     before: &Before,
-    kept: &Watch,
+    kept: &ArenaCopy,
     machine: &Machine,
 ) -> Result<(), AllocError>
     requires { IsBefore machine.now before.now }

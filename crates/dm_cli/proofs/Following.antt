@@ -92,7 +92,7 @@ none_listed r e = ap (λ (x : Reported). x.listed) (e ∙ none-reported)
 
 pub lost_of : (form : Format) (s t : State) (n : ℕ) (c : UnderWay) (failed : Bool) (a b : Stream) → IsUnderWay s n t c →
     HasPrinted failed (lines_in form c.report.listed) a b → IsLost s n c.free form a b
-lost_of form s t n c failed a b (going e made watch) h =
+lost_of form s t n c failed a b (going e made arena) h =
     some_steps (n - c.left) t made.found (omega arith) made.finds
     (subst (λ (r : Reported). Prints (lines_in form r.listed) a b) made.reports (prints_of failed _ a b h))
 lost_of form s t n c failed a b (had_ended code e f g i first) h =

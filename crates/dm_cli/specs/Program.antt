@@ -63,10 +63,10 @@ pub record Given : Type 0 where
   -- standard error
   pub messages : Stream
 
--- what `dm` leaves at its end: what standard output has taken and which files were written, each where it is known; how
--- many writes and flushes of standard output, saves of files and reads of files have failed, and how often two paths
--- were found to lead to one file; standard error; and the exit status
-pub record Left : Type 0 where
+-- what `dm` has produced at its end: what standard output has taken and which files were written, each where it is
+-- known; how many writes and flushes of standard output, saves of files and reads of files have failed, and how often
+-- two paths were found to lead to one file; standard error; and the exit status
+pub record Produced : Type 0 where
   pub output : Option (List ℕ)
   pub failures : ℕ
   pub saved : Option (List (List ℕ × List ℕ))
@@ -82,21 +82,21 @@ pub record IsParsed (words : List Text) (o : Options) : Type 0 where
   pub says : IsSomeAnd (subcommand_of dm_app words) (λ given. HasOptions given o)
 
 -- nothing is written to standard output, and no write or flush of it fails
-abbrev pub IsSilent : Given → Left → Type 0
+abbrev pub IsSilent : Given → Produced → Type 0
 IsSilent g l = Keeps g.output l.output × (l.failures ≡ g.failures)
 
 -- no read of a file fails
-abbrev pub ReadsAll : Given → Left → Type 0
+abbrev pub ReadsAll : Given → Produced → Type 0
 ReadsAll g l = l.unread ≡ g.unread
 
 -- no file is written, no save of a file fails, and no two paths are found to lead to one file
-abbrev pub SavesNothing : Given → Left → Type 0
+abbrev pub SavesNothing : Given → Produced → Type 0
 SavesNothing g l = (l.saved ≡ g.saved) × (l.failed_saves ≡ g.failed_saves) × (l.found_same ≡ g.found_same)
 
 -- `dm` with these words leads from g to l: a wrong line, or a call for help, has status 2, and nothing is written but
 -- `clap`'s text on standard error, of which nothing is said here; a correct line does what its command does; and an
 -- allocation may fail while the words are read
-pub data Does (g : Given) (words : List Text) (l : Left) : Type 0 where
+pub data Does (g : Given) (words : List Text) (l : Produced) : Type 0 where
   usage : fault_of dm_app words ≢ [] → IsSilent g l → ReadsAll g l → SavesNothing g l → l.status ≡ 2 → Does g words l
   no_memory : Prints (fault_line OutOfMemory) g.messages l.messages → IsSilent g l → ReadsAll g l → SavesNothing g l →
       l.status ≡ 126 → Does g words l
@@ -128,6 +128,6 @@ pub data Does (g : Given) (words : List Text) (l : Left) : Type 0 where
 -- the exit status is one that `dm` can have with these words, over files and streams of which nothing is known
 pub record EndsWith (words : List Text) (status : ℕ) : Type 0 where
   pub given : Given
-  pub left : Left
-  pub does : Does given words left
-  pub is : status ≡ left.status
+  pub produced : Produced
+  pub does : Does given words produced
+  pub is : status ≡ produced.status

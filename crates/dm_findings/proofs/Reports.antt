@@ -158,7 +158,7 @@ listed-by ls f again room e h = ap₂ (λ (a r : Bool). not a && r) (any-found f
 
 -- a finding that repeats one that is listed
 pub enters_again : (f : Found) (old new : Reported) → list_any (is_again f) old.listed ≡ true →
-    new.listed ≡ map (counted f) old.listed → new.not_listed ≡ old.not_listed → new.errors ≡ old.errors →
+    new.listed ≡ map (counted f) old.listed → new.omitted ≡ old.omitted → new.errors ≡ old.errors →
     new.notes ≡ old.notes → Lists f old new
 enters_again f old new known lines out errors notes =
     let off : is_listed (map found_of old.listed) f ≡ false =
@@ -167,28 +167,28 @@ enters_again f old new known lines out errors notes =
     record {
       listed = lines ∙ sym (append-nil _) ∙ ap (λ (b : Bool). map (counted f) old.listed
           ++ (if b then line_of f [] ∷ [] else [])) (sym off);
-      not_listed = out ∙ (rw (off, again) refl);
+      omitted = out ∙ (rw (off, again) refl);
       errors = errors;
       notes = notes;
     }
 
 -- a finding that is listed
 pub enters_new : (f : Found) (old new : Reported) → list_any (is_again f) old.listed ≡ false →
-    room_for old.listed f ≡ true → new.listed ≡ old.listed ++ line_of f [] ∷ [] → new.not_listed ≡ old.not_listed →
+    room_for old.listed f ≡ true → new.listed ≡ old.listed ++ line_of f [] ∷ [] → new.omitted ≡ old.omitted →
     new.errors ≡ old.errors → new.notes ≡ old.notes → Lists f old new
 enters_new f old new none room lines out errors notes =
     let on : is_listed (map found_of old.listed) f ≡ true = listed-by old.listed f false true none room in
     record {
       listed = lines ∙ ap₂ (λ (ls : List Listed) (b : Bool). ls ++ (if b then line_of f [] ∷ [] else
           [])) (sym (none-counted f old.listed none)) (sym on);
-      not_listed = out ∙ (rw on refl);
+      omitted = out ∙ (rw on refl);
       errors = errors;
       notes = notes;
     }
 
 -- a finding that is left out
 pub enters_out : (f : Found) (old new : Reported) → list_any (is_again f) old.listed ≡ false →
-    room_for old.listed f ≡ false → new.listed ≡ old.listed → new.not_listed ≡ min (old.not_listed + 1) most_counted →
+    room_for old.listed f ≡ false → new.listed ≡ old.listed → new.omitted ≡ min (old.omitted + 1) most_counted →
     new.errors ≡ old.errors → new.notes ≡ old.notes → Lists f old new
 enters_out f old new none room lines out errors notes =
     let off : is_listed (map found_of old.listed) f ≡ false = listed-by old.listed f false false none room in
@@ -196,20 +196,20 @@ enters_out f old new none room lines out errors notes =
     record {
       listed = lines ∙ sym (append-nil _) ∙ ap₂ (λ (ls : List Listed) (b : Bool). ls
           ++ (if b then line_of f [] ∷ [] else [])) (sym (none-counted f old.listed none)) (sym off);
-      not_listed = out ∙ (rw (off, again) refl);
+      omitted = out ∙ (rw (off, again) refl);
       errors = errors;
       notes = notes;
     }
 
 -- ---- reports
 
-parts : (r : Reported) (a : List Listed) (b c d : ℕ) → r.listed ≡ a → r.errors ≡ b → r.notes ≡ c → r.not_listed ≡ d →
-    r ≡ record { listed = a; errors = b; notes = c; not_listed = d }
+parts : (r : Reported) (a : List Listed) (b c d : ℕ) → r.listed ≡ a → r.errors ≡ b → r.notes ≡ c → r.omitted ≡ d →
+    r ≡ record { listed = a; errors = b; notes = c; omitted = d }
 parts r a b c d e f g h =
-    ap (λ (x : List Listed). record { listed = x; errors = r.errors; notes = r.notes; not_listed = r.not_listed }) e
-    ∙ ap (λ (x : ℕ). record { listed = a; errors = x; notes = r.notes; not_listed = r.not_listed }) f
-    ∙ ap (λ (x : ℕ). record { listed = a; errors = b; notes = x; not_listed = r.not_listed }) g
-    ∙ ap (λ (x : ℕ). record { listed = a; errors = b; notes = c; not_listed = x }) h
+    ap (λ (x : List Listed). record { listed = x; errors = r.errors; notes = r.notes; omitted = r.omitted }) e
+    ∙ ap (λ (x : ℕ). record { listed = a; errors = x; notes = r.notes; omitted = r.omitted }) f
+    ∙ ap (λ (x : ℕ). record { listed = a; errors = b; notes = x; omitted = r.omitted }) g
+    ∙ ap (λ (x : ℕ). record { listed = a; errors = b; notes = c; omitted = x }) h
 
 -- the lines and the findings left out, with one finding more
 lines-of : (f : Found) (fs : List Found) (old new : Reported) → Lists f old new → old.listed ≡ lines_from [] fs →
@@ -218,21 +218,21 @@ lines-of f fs old new x e = x.listed ∙ ap (λ (ls : List Listed). map (counted
     ∙ sym (lines-more fs [] f)
 
 out-of : (f : Found) (fs : List Found) (old new : Reported) → Lists f old new → old.listed ≡ lines_from [] fs →
-    old.not_listed ≡ min (left_out [] fs) most_counted → new.not_listed ≡ min (left_out [] (fs ++ f ∷ [])) most_counted
+    old.omitted ≡ min (left_out [] fs) most_counted → new.omitted ≡ min (left_out [] (fs ++ f ∷ [])) most_counted
 out-of f fs old new x e h =
     let seen = map found_of (lines_from [] fs) in
-    x.not_listed ∙ ap₂ (λ (ls : List Listed) (n : ℕ). out_with ls f n) e h
+    x.omitted ∙ ap₂ (λ (ls : List Listed) (n : ℕ). out_with ls f n) e h
     ∙ sym (bounded-out seen f (left_out [] fs) (is_listed seen f) (repeats seen f) refl refl)
     ∙ ap (λ (n : ℕ). min n most_counted) (sym (out-more fs [] f))
 
 -- the report with an error more
 pub error-added : (old mid new : Reported) (f : Found) → is_an_error f ≡ true → Lists f old mid →
-    new.listed ≡ mid.listed → new.not_listed ≡ mid.not_listed → new.errors ≡ min (mid.errors + 1) most_counted →
+    new.listed ≡ mid.listed → new.omitted ≡ mid.omitted → new.errors ≡ min (mid.errors + 1) most_counted →
     new.notes ≡ mid.notes → (fs : List Found) → old ≡ report_of fs → new ≡ report_of (fs ++ f ∷ [])
 unfolding report_of
 error-added old mid new f is x lines out errors notes fs e =
     let k : old.listed ≡ lines_from [] fs = ap (λ (r : Reported). r.listed) e in
-    let u : old.not_listed ≡ min (left_out [] fs) most_counted = ap (λ (r : Reported). r.not_listed) e in
+    let u : old.omitted ≡ min (left_out [] fs) most_counted = ap (λ (r : Reported). r.omitted) e in
     let n : old.errors ≡ bounded_count is_an_error fs = ap (λ (r : Reported). r.errors) e in
     let m : old.notes ≡ bounded_count is_a_note fs = ap (λ (r : Reported). r.notes) e in
     parts new _ _ _ _
@@ -243,13 +243,13 @@ error-added old mid new f is x lines out errors notes fs e =
 
 -- the report with a note more
 pub note-added : (old mid new : Reported) (f : Found) → is_an_error f ≡ false → Lists f old mid →
-    new.listed ≡ mid.listed → new.not_listed ≡ mid.not_listed → new.errors ≡ mid.errors →
+    new.listed ≡ mid.listed → new.omitted ≡ mid.omitted → new.errors ≡ mid.errors →
     new.notes ≡ min (mid.notes + 1) most_counted → (fs : List Found) → old ≡ report_of fs →
     new ≡ report_of (fs ++ f ∷ [])
 unfolding report_of
 note-added old mid new f is x lines out errors notes fs e =
     let k : old.listed ≡ lines_from [] fs = ap (λ (r : Reported). r.listed) e in
-    let u : old.not_listed ≡ min (left_out [] fs) most_counted = ap (λ (r : Reported). r.not_listed) e in
+    let u : old.omitted ≡ min (left_out [] fs) most_counted = ap (λ (r : Reported). r.omitted) e in
     let n : old.errors ≡ bounded_count is_an_error fs = ap (λ (r : Reported). r.errors) e in
     let m : old.notes ≡ bounded_count is_a_note fs = ap (λ (r : Reported). r.notes) e in
     parts new _ _ _ _
@@ -258,6 +258,6 @@ note-added old mid new f is x lines out errors notes fs e =
     (notes ∙ ap (λ (z : ℕ). min (z + 1) most_counted) (x.notes ∙ m) ∙ counted-more is_a_note fs f (ap not is))
     (out ∙ out-of f fs old mid x k u)
 
-pub none-reported : report_of [] ≡ record { listed = []; errors = 0; notes = 0; not_listed = 0 }
+pub none-reported : report_of [] ≡ record { listed = []; errors = 0; notes = 0; omitted = 0 }
 unfolding report_of
 none-reported = refl

@@ -9,7 +9,7 @@ use Rattle.dm_findings.specs.declared.sites.Site.TheVariants.{At, Before}
 use Rattle.dm_findings.specs.declared.finding.Act.{Act}
 use Rattle.dm_findings.specs.declared.finding.Act.TheVariants as act
 use Rattle.dm_findings.specs.declared.finding.Finding.{Finding}
-use Rattle.dm_findings.specs.declared.finding.Finding.TheVariants.{Overwritten, MappedAway, Destroyed, Whole, FreedTwice, Refused, NotAllocated, DivisionError, NotServed, Short, Left, Held, FreeRead, FreeWritten, StackFreed, WindowLost, RomWritten, NothingWritten, TailWritten, OtherFreed, NotResized}
+use Rattle.dm_findings.specs.declared.finding.Finding.TheVariants.{Overwritten, MappedAway, Destroyed, Whole, FreedTwice, Refused, NotAllocated, DivisionError, NotServed, Short, NotFreed, Held, FreeRead, FreeWritten, StackFreed, WindowLost, RomWritten, NothingWritten, TailWritten, OtherFreed, NotResized}
 use Rattle.dm_findings.specs.declared.finding.Found.{Found}
 use Rattle.dm_findings.specs.declared.finding.Kept.{Kept}
 use Rattle.dm_findings.specs.declared.finding.Kept.TheVariants as kept
@@ -17,13 +17,13 @@ use Rattle.dm_findings.specs.declared.finding.Kept.TheVariants as kept
 -- ---- findings
 
 -- which kind it is that something was left allocated: its place among the kinds of findings
-abbrev pub left_kind : Kept → ℕ
-left_kind (kept.Handle handle pages saved) = 19
-left_kind (kept.Window window) = 20
-left_kind (kept.Block handle kib locked) = 21
-left_kind (kept.Upper at) = 22
-left_kind kept.Area = 23
-left_kind kept.Line = 24
+abbrev pub not_freed_kind : Kept → ℕ
+not_freed_kind (kept.Handle handle pages saved) = 19
+not_freed_kind (kept.Window window) = 20
+not_freed_kind (kept.Block handle kib locked) = 21
+not_freed_kind (kept.Upper at) = 22
+not_freed_kind kept.Area = 23
+not_freed_kind kept.Line = 24
 
 -- which kind it is that a resident program holds something: its place among the kinds of findings
 abbrev pub held_kind : Kept → ℕ
@@ -64,7 +64,7 @@ kind_of (NothingWritten segment offset) = 15
 kind_of (TailWritten at byte) = 16
 kind_of (OtherFreed at owner) = 17
 kind_of (NotResized asked) = 18
-kind_of (Left k) = left_kind k
+kind_of (NotFreed k) = not_freed_kind k
 kind_of (Held k) = held_kind k
 
 -- what the finding is about: the segment of a header or a block, a handle, a window, or an error code; 0 for a kind
@@ -82,7 +82,7 @@ subject_of (StackFreed block) = block
 subject_of (WindowLost window segment offset) = window
 subject_of (TailWritten at byte) = at
 subject_of (OtherFreed at owner) = at
-subject_of (Left k) = kept_subject k
+subject_of (NotFreed k) = kept_subject k
 subject_of (Held k) = kept_subject k
 subject_of _ = 0
 

@@ -59,7 +59,7 @@ pub record Reported : Type 0 where
   pub listed : List Listed
   pub errors : ℕ
   pub notes : ℕ
-  pub not_listed : ℕ
+  pub omitted : ℕ
 
 -- the report of a list of findings: of the errors, and of the notes, the first 100 that repeat none before them, in the
 -- order of the list, and how many there are; no number goes over 2^64 - 1
@@ -68,5 +68,5 @@ report_of fs = record {
   listed = lines_from [] fs;
   errors = bounded_count is_an_error fs;
   notes = bounded_count is_a_note fs;
-  not_listed = min (left_out [] fs) (2 ^ 64 - 1);
+  omitted = min (left_out [] fs) (2 ^ 64 - 1);
 }

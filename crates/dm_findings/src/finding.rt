@@ -78,8 +78,8 @@ pub enum Finding {
     OtherFreed(u16, u16),
     /// The process stays resident, and its block could not be resized to so many paragraphs.
     NotResized(u16),
-    /// Left allocated by a program that has ended.
-    Left(Kept),
+    /// Not freed by a program that has ended.
+    NotFreed(Kept),
     /// Held by a program that stays resident.
     Held(Kept),
 }

@@ -1,15 +1,15 @@
 //! When a finding repeats an earlier one.
 
 ghost use Rattle.std.specs.Prelude.{◌≡◌};
-ghost use Rattle.dm_findings.specs.Repeats.{kind_of, left_kind, held_kind, kept_subject, subject_of, is_same_site, callee_of, function_number, is_same_act, is_repeated};
+ghost use Rattle.dm_findings.specs.Repeats.{kind_of, not_freed_kind, held_kind, kept_subject, subject_of, is_same_site, callee_of, function_number, is_same_act, is_repeated};
 
 use crate::calls::Call;
 use crate::finding::{Act, Finding, Found, Kept};
 use crate::sites::Site;
 
 /// Which kind it is that something was left allocated: its place among the kinds of findings.
-fn left_kind(kept: &Kept) -> u8
-    ensures { result ≡ left_kind kept.now }
+fn not_freed_kind(kept: &Kept) -> u8
+    ensures { result ≡ not_freed_kind kept.now }
 {
     match kept {
         Kept::Handle(_, _, _) => 19,
@@ -73,7 +73,7 @@ pub fn kind_of(finding: &Finding) -> u8
         Finding::TailWritten(_, _) => 16,
         Finding::OtherFreed(_, _) => 17,
         Finding::NotResized(_) => 18,
-        Finding::Left(kept) => left_kind(kept),
+        Finding::NotFreed(kept) => not_freed_kind(kept),
         Finding::Held(kept) => held_kind(kept),
     }
 }
@@ -96,7 +96,7 @@ fn subject_of(finding: &Finding) -> u16
         Finding::WindowLost(window, _, _) => *window as u16,
         Finding::TailWritten(at, _) => *at,
         Finding::OtherFreed(at, _) => *at,
-        Finding::Left(kept) | Finding::Held(kept) => kept_subject(kept),
+        Finding::NotFreed(kept) | Finding::Held(kept) => kept_subject(kept),
         _ => 0,
     }
 }

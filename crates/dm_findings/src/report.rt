@@ -34,7 +34,7 @@ pub struct Report {
     listed: Vec<Listed>,
     errors: u64,
     notes: u64,
-    not_listed: u64,
+    omitted: u64,
 }
 
 impl Model for Report {
@@ -46,7 +46,7 @@ impl Model for Report {
       listed = r.listed.items;
       errors = r.errors;
       notes = r.notes;
-      not_listed = r.not_listed;
+      omitted = r.omitted;
     } };
 }
 
@@ -110,7 +110,7 @@ impl Report {
             listed: Vec::new(alloc),
             errors: 0,
             notes: 0,
-            not_listed: 0,
+            omitted: 0,
         }
     }
 
@@ -127,7 +127,7 @@ impl Report {
                 last: found.step,
             })?;
         } else {
-            self.not_listed = self.not_listed.saturating_add(1);
+            self.omitted = self.omitted.saturating_add(1);
         }
         Ok(())
     }
@@ -185,9 +185,9 @@ impl Report {
     }
 
     /// How many findings were added that are neither listed nor repeat one that is; at 2^64 - 1 the number stays.
-    pub fn not_listed(&self) -> u64
-        ensures { result ≡ self.now.not_listed }
+    pub fn omitted(&self) -> u64
+        ensures { result ≡ self.now.omitted }
     {
-        self.not_listed
+        self.omitted
     }
 }

@@ -10,7 +10,7 @@ use Rattle.dm_machine.specs.Run.{Answers, IsRun}
 use Rattle.dm_findings.specs.declared.finding.Found.{Found}
 use Rattle.dm_findings.specs.declared.report.Listed.{Listed}
 use Rattle.dm_findings.specs.Report.{Reported, report_of}
-use Rattle.dm_reports.specs.Reports.{lines_text, not_listed_line}
+use Rattle.dm_reports.specs.Reports.{lines_text, omitted_line}
 use Rattle.dm_reports.specs.Stops.{reason_text}
 use Rattle.dm_origins.specs.Origins.{Known}
 use Rattle.dm_checker.specs.Checks.{FindsAtStop, FindsIn}
@@ -31,8 +31,8 @@ most_checked = 100000000
 -- the lines of the findings that are listed, as `dm check` prints them, and how many have no line; or that there is
 -- none
 abbrev pub findings_text : List Listed → ℕ → List ℕ
-findings_text [] not_listed = codes "nothing is found" ++ 10 ∷ []
-findings_text (l ∷ ls) not_listed = lines_text (l ∷ ls) ++ not_listed_line not_listed
+findings_text [] omitted = codes "nothing is found" ++ 10 ∷ []
+findings_text (l ∷ ls) omitted = lines_text (l ∷ ls) ++ omitted_line omitted
 
 -- the line that says that the program has stopped, and why
 abbrev pub stopped_line : Stop → List ℕ
@@ -46,7 +46,7 @@ checked_end_line (Some why) = stopped_line why
 
 -- what is printed, by the report of the steps
 unfoldable pub checked_text : Reported → Option Stop → List ℕ
-checked_text r why = findings_text r.listed r.not_listed ++ checked_end_line why
+checked_text r why = findings_text r.listed r.omitted ++ checked_end_line why
 
 -- ---- what the command does
 

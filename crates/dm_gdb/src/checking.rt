@@ -13,7 +13,7 @@ use crate::server::Server;
 use dm_checker::CheckedRun;
 use dm_findings::{Listed, Report};
 use dm_machine::{Machine, Stop};
-use dm_reports::{put_lines, put_not_listed, reason_of};
+use dm_reports::{put_lines, put_omitted, reason_of};
 use dm_requests::packets::Payload;
 use std::alloc::{AllocError, Global};
 
@@ -36,14 +36,14 @@ pub(crate) fn is_check(line: &[u8]) -> bool
 
 /// Appends the lines of the findings, and how many are left out; or that there is none. An `Err` is a failed
 /// allocation.
-fn put_findings(out: &mut Vec<u8>, listed: &[Listed], not_listed: u64) -> Result<(), AllocError>
-    ensures { OnOk result (out.new.items ≡ out.old.items ++ findings_text listed.now not_listed) }
+fn put_findings(out: &mut Vec<u8>, listed: &[Listed], omitted: u64) -> Result<(), AllocError>
+    ensures { OnOk result (out.new.items ≡ out.old.items ++ findings_text listed.now omitted) }
 {
     if listed.is_empty() {
         return out.extend_from_slice(b"nothing is found\n");
     }
     put_lines(out, listed)?;
-    put_not_listed(out, not_listed)
+    put_omitted(out, omitted)
 }
 
 /// Appends that the program has stopped, and why. An `Err` is a failed allocation.
@@ -73,7 +73,7 @@ fn checked_text(alloc: Global, report: &Report, why: Option<Stop>) -> Result<Vec
     ensures { IfOk result (λ text. text.items ≡ checked_text report.now why) }
 {
     let mut text = Vec::new(alloc);
-    put_findings(&mut text, report.listed(), report.not_listed())?;
+    put_findings(&mut text, report.listed(), report.omitted())?;
     put_end(&mut text, why)?;
     Ok(text)
 }

@@ -18,7 +18,7 @@ pub record Hosted : Type 0 where
 
 -- a report of no findings
 abbrev pub no_report : Reported
-no_report = record { listed = []; errors = 0; notes = 0; not_listed = 0 }
+no_report = record { listed = []; errors = 0; notes = 0; omitted = 0 }
 
 -- the host with this setup, no program loaded, no answer and no report
 abbrev pub new_host : Prepared → Hosted

@@ -13,7 +13,7 @@ pub struct KeptReport {
     listed: Vec<Listed>,
     errors: u64,
     notes: u64,
-    not_listed: u64,
+    omitted: u64,
 }
 
 impl Model for KeptReport {
@@ -25,7 +25,7 @@ impl Model for KeptReport {
       listed = k.listed.items;
       errors = k.errors;
       notes = k.notes;
-      not_listed = k.not_listed;
+      omitted = k.omitted;
     } };
 }
 
@@ -38,7 +38,7 @@ impl KeptReport {
             listed: Vec::new(alloc),
             errors: 0,
             notes: 0,
-            not_listed: 0,
+            omitted: 0,
         }
     }
 
@@ -50,7 +50,7 @@ impl KeptReport {
             listed: Vec::from_slice(alloc, report.listed())?,
             errors: report.errors(),
             notes: report.notes(),
-            not_listed: report.not_listed(),
+            omitted: report.omitted(),
         })
     }
 
@@ -62,7 +62,7 @@ impl KeptReport {
             listed: Vec::from_slice(alloc, self.listed.as_slice())?,
             errors: self.errors,
             notes: self.notes,
-            not_listed: self.not_listed,
+            omitted: self.omitted,
         })
     }
 
@@ -88,9 +88,9 @@ impl KeptReport {
     }
 
     /// How many findings are neither listed nor repeat one that is.
-    pub fn not_listed(&self) -> u64
-        ensures { result ≡ self.now.not_listed }
+    pub fn omitted(&self) -> u64
+        ensures { result ≡ self.now.omitted }
     {
-        self.not_listed
+        self.omitted
     }
 }

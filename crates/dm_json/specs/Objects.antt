@@ -16,7 +16,7 @@ use Rattle.dm_findings.specs.declared.finding.Contents.{Contents}
 use Rattle.dm_findings.specs.declared.finding.Act.{Act}
 use Rattle.dm_findings.specs.declared.finding.Act.TheVariants as act
 use Rattle.dm_findings.specs.declared.finding.Finding.{Finding}
-use Rattle.dm_findings.specs.declared.finding.Finding.TheVariants.{Overwritten, MappedAway, Destroyed, Whole, FreedTwice, Refused, NotAllocated, DivisionError, NotServed, Short, Left, Held, FreeRead, FreeWritten, StackFreed, WindowLost, RomWritten, NothingWritten, TailWritten, OtherFreed, NotResized}
+use Rattle.dm_findings.specs.declared.finding.Finding.TheVariants.{Overwritten, MappedAway, Destroyed, Whole, FreedTwice, Refused, NotAllocated, DivisionError, NotServed, Short, NotFreed, Held, FreeRead, FreeWritten, StackFreed, WindowLost, RomWritten, NothingWritten, TailWritten, OtherFreed, NotResized}
 use Rattle.dm_findings.specs.declared.finding.Found.{Found}
 use Rattle.dm_findings.specs.declared.finding.Origin.{Origin}
 use Rattle.dm_findings.specs.declared.finding.Kept.{Kept}
@@ -118,7 +118,7 @@ kind_word (NotAllocated code) = codes "not_allocated"
 kind_word DivisionError = codes "division_error"
 kind_word NotServed = codes "not_served"
 kind_word (Short asked largest) = codes "short"
-kind_word (Left k) = kept_word k
+kind_word (NotFreed k) = kept_word k
 kind_word (Held k) = kept_word k
 kind_word (FreeRead block segment offset) = codes "free_read"
 kind_word (FreeWritten block segment offset) = codes "free_written"
@@ -161,7 +161,7 @@ detail_members DivisionError = []
 detail_members NotServed = []
 detail_members (Short asked largest) = number_member (codes "code") 8 ++ number_member (codes "wanted") asked
     ++ number_member (codes "available") largest
-detail_members (Left k) = kept_members k
+detail_members (NotFreed k) = kept_members k
 detail_members (Held k) = kept_members k
 detail_members (FreeRead block segment offset) = number_member (codes "block") block ++ byte_members segment offset
 detail_members (FreeWritten block segment offset) = number_member (codes "block") block ++ byte_members segment offset
@@ -180,7 +180,7 @@ kept_name _ = codes "allocated_by"
 
 -- the name of the step that did something to what the finding is about
 abbrev pub origin_name : Finding → List ℕ
-origin_name (Left k) = kept_name k
+origin_name (NotFreed k) = kept_name k
 origin_name (Held k) = kept_name k
 origin_name _ = codes "freed_by"
 
@@ -223,17 +223,17 @@ again_object l = if l.more == 0 then [] else repeated_object l
 
 -- the line about findings that are left out: how many they are
 abbrev pub left_out_object : ℕ → List ℕ
-left_out_object n = opening (codes "not_listed") ++ number_member (codes "findings") n ++ object_end
+left_out_object n = opening (codes "omitted") ++ number_member (codes "findings") n ++ object_end
 
 -- the line about the findings that the report leaves out; none if there are none
-abbrev pub not_listed_object : ℕ → List ℕ
-not_listed_object n = if n == 0 then [] else left_out_object n
+abbrev pub omitted_object : ℕ → List ℕ
+omitted_object n = if n == 0 then [] else left_out_object n
 
 -- what follows the lines of the findings: a line for each finding that is repeated; a line about those that are left
 -- out, if there are any; and a line with the numbers of all errors and notes
 unfoldable pub summary_objects : Reported → List ℕ
 summary_objects r =
-    flat_map again_object r.listed ++ not_listed_object r.not_listed
+    flat_map again_object r.listed ++ omitted_object r.omitted
     ++ opening (codes "summary") ++ number_member (codes "errors") r.errors ++ number_member (codes "notes") r.notes
     ++ object_end
 

@@ -5,7 +5,7 @@ ghost use Rattle.std.specs.Prelude.{◌≡◌, ◌++◌, OnOk, codes};
 ghost use Rattle.std.specs.List.{flat_map};
 ghost use Rattle.dm_decode.specs.Texts.{text_of};
 ghost use Rattle.dm_reports.specs.Texts.{told_text};
-ghost use Rattle.dm_json.specs.Objects.{act_members, again_object, bool_member, byte_members, object_end, code_member, contents_member, detail_members, end_object, found_members, found_object, kept_members, kept_name, kept_word, kind_word, left_out_object, next_members, number_member, opening, origin_member, origin_name, repeated_object, stopped_object, string_member, summary_objects, not_listed_object, what_members};
+ghost use Rattle.dm_json.specs.Objects.{act_members, again_object, bool_member, byte_members, object_end, code_member, contents_member, detail_members, end_object, found_members, found_object, kept_members, kept_name, kept_word, kind_word, left_out_object, next_members, number_member, opening, origin_member, origin_name, repeated_object, stopped_object, string_member, summary_objects, omitted_object, what_members};
 
 use crate::members::{
     put_bool_member, put_byte_members, put_call_members, put_contents_member, put_name,
@@ -50,7 +50,7 @@ fn word_of(finding: &Finding) -> &'static [u8]
         Finding::DivisionError => b"division_error",
         Finding::NotServed => b"not_served",
         Finding::Short(_, _) => b"short",
-        Finding::Left(kept) | Finding::Held(kept) => kept_word(kept),
+        Finding::NotFreed(kept) | Finding::Held(kept) => kept_word(kept),
         Finding::FreeRead(_, _, _) => b"free_read",
         Finding::FreeWritten(_, _, _) => b"free_written",
         Finding::StackFreed(_) => b"stack_freed",
@@ -172,7 +172,7 @@ fn put_details(out: &mut Vec<u8>, alloc: Global, finding: &Finding) -> Result<()
             put_number_member(out, b"code", *code as u64)
         }
         Finding::Short(asked, largest) => put_short_members(out, *asked, *largest),
-        Finding::Left(kept) | Finding::Held(kept) => put_kept_members(out, kept),
+        Finding::NotFreed(kept) | Finding::Held(kept) => put_kept_members(out, kept),
         Finding::FreeRead(block, segment, offset) | Finding::FreeWritten(block, segment, offset) =>
             { put_byte_in(out, alloc, b"block", *block, *segment, *offset) }
         Finding::WindowLost(window, segment, offset) => {
@@ -229,7 +229,7 @@ fn origin_name(finding: &Finding) -> &'static [u8]
     ensures { result.now ≡ origin_name finding.now }
 {
     match finding {
-        Finding::Left(kept) | Finding::Held(kept) => kept_name(kept),
+        Finding::NotFreed(kept) | Finding::Held(kept) => kept_name(kept),
         _ => b"freed_by",
     }
 }
@@ -338,22 +338,22 @@ fn put_all_again_objects(
 }
 
 /// Appends the line about findings that are left out: how many they are.
-fn put_left_out_object(out: &mut Vec<u8>, not_listed: u64) -> Result<(), AllocError>
-    ensures { OnOk result (out.new.items ≡ out.old.items ++ left_out_object not_listed) }
+fn put_left_out_object(out: &mut Vec<u8>, omitted: u64) -> Result<(), AllocError>
+    ensures { OnOk result (out.new.items ≡ out.old.items ++ left_out_object omitted) }
 {
-    put_opening(out, b"not_listed")?;
-    put_number_member(out, b"findings", not_listed)?;
+    put_opening(out, b"omitted")?;
+    put_number_member(out, b"findings", omitted)?;
     out.extend_from_slice(b"}\n")
 }
 
 /// Appends the line about the findings that are left out, if there are any.
-fn put_not_listed_object(out: &mut Vec<u8>, not_listed: u64) -> Result<(), AllocError>
-    ensures { OnOk result (out.new.items ≡ out.old.items ++ not_listed_object not_listed) }
+fn put_omitted_object(out: &mut Vec<u8>, omitted: u64) -> Result<(), AllocError>
+    ensures { OnOk result (out.new.items ≡ out.old.items ++ omitted_object omitted) }
 {
-    if not_listed == 0 {
+    if omitted == 0 {
         return Ok(());
     }
-    put_left_out_object(out, not_listed)
+    put_left_out_object(out, omitted)
 }
 
 /// Appends what follows the lines of the findings that a report lists.
@@ -366,7 +366,7 @@ pub(crate) fn put_summary_objects(
     ensures { OnOk result (out.new.items ≡ out.old.items ++ summary_objects report.now) }
 {
     put_all_again_objects(out, alloc, report.listed())?;
-    put_not_listed_object(out, report.not_listed())?;
+    put_omitted_object(out, report.omitted())?;
     put_opening(out, b"summary")?;
     put_number_member(out, b"errors", report.errors())?;
     put_number_member(out, b"notes", report.notes())?;

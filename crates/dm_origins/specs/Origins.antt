@@ -11,7 +11,7 @@ use Rattle.dm_xms.specs.Tables as xms
 use Rattle.dm_xms.specs.Calls.{slot}
 use Rattle.dm_xms.specs.declared.tables.Upper.{Upper}
 use Rattle.dm_findings.specs.declared.finding.Finding.{Finding}
-use Rattle.dm_findings.specs.declared.finding.Finding.TheVariants.{FreeRead, FreeWritten, FreedTwice, Left, Held}
+use Rattle.dm_findings.specs.declared.finding.Finding.TheVariants.{FreeRead, FreeWritten, FreedTwice, NotFreed, Held}
 use Rattle.dm_findings.specs.declared.finding.Kept.{Kept}
 use Rattle.dm_findings.specs.declared.finding.Kept.TheVariants as kept
 use Rattle.dm_findings.specs.declared.finding.Origin.{Origin}
@@ -141,6 +141,6 @@ abbrev pub origin_of : Known → Bool → Finding → Option Origin
 origin_of k a20 (FreeRead block segment offset) = of_paragraph k (linear a20 segment offset / 16)
 origin_of k a20 (FreeWritten block segment offset) = of_paragraph k (linear a20 segment offset / 16)
 origin_of k a20 (FreedTwice at) = of_paragraph k (at - 1)
-origin_of k a20 (Left k') = of_kept k k'
+origin_of k a20 (NotFreed k') = of_kept k k'
 origin_of k a20 (Held k') = of_kept k k'
 origin_of k a20 _ = None

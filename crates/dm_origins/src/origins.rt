@@ -170,7 +170,7 @@ impl Origins {
                 self.of_paragraph(paragraph_of(a20, *segment, *offset))
             }
             Finding::FreedTwice(at) => self.of_paragraph(at.saturating_sub(1) as usize),
-            Finding::Left(kept) | Finding::Held(kept) => self.of_kept(kept),
+            Finding::NotFreed(kept) | Finding::Held(kept) => self.of_kept(kept),
             _ => None,
         }
     }

@@ -313,7 +313,8 @@ fn tells(
     Ok(())
 }
 
-/// Definitions: dm_cli Program Does IsParsed Given Left Runs; dm_cli Starting IsStartedBy sizes_of paths_of typed_in
+/// Definitions: dm_cli Program Does IsParsed Given Produced Runs
+/// Definitions: dm_cli Starting IsStartedBy sizes_of paths_of typed_in
 /// Definitions: dm_cli Statuses exit_status_of status_after; dm_cli Names last_part
 /// Definitions: dm_cli Stores AddsFile Stores IsStarted IsBegun
 #[test]
@@ -324,7 +325,7 @@ fn runs_stop(rt: HostRuntime) -> Result<(), Fail> {
     Ok(())
 }
 
-/// Definitions: dm_cli Program Does IsParsed Given Left; dm_cli Checking Checks checked_status check_status
+/// Definitions: dm_cli Program Does IsParsed Given Produced; dm_cli Checking Checks checked_status check_status
 /// Definitions: dm_cli Messages Prints stop_text; dm_reports Reports report_text; dm_reports Names call_text dos_name
 /// Definitions: dm_reports Texts found_line finding_text contents_text act_text kind_text
 #[test]
@@ -335,7 +336,7 @@ fn runs_are_checked(rt: HostRuntime) -> Result<(), Fail> {
     Ok(())
 }
 
-/// Definitions: dm_proc Programs IsName; dm_cli Program Does IsParsed Given Left
+/// Definitions: dm_proc Programs IsName; dm_cli Program Does IsParsed Given Produced
 /// Definitions: dm_cli Starting IsStartFault IsFileFault IsMachineFault IsLoadFault
 /// Definitions: dm_cli Statuses exit_status_of status_after; dm_cli Names last_part
 /// Definitions: dm_cli Faults refusal_fault IsUnread IsUnwritten IsReadFault IsWriteFault

@@ -15,11 +15,11 @@ again_line l = if l.more == 0 then [] else repeated_line l
 
 -- the line about findings that are left out: how many they are
 abbrev pub left_out_line : ℕ → List ℕ
-left_out_line n = codes "not listed: " ++ count_text n (codes "finding") ++ 10 ∷ []
+left_out_line n = codes "omitted: " ++ count_text n (codes "finding") ++ 10 ∷ []
 
 -- the line about the findings that the report leaves out; none if there are none
-abbrev pub not_listed_line : ℕ → List ℕ
-not_listed_line n = if n == 0 then [] else left_out_line n
+abbrev pub omitted_line : ℕ → List ℕ
+omitted_line n = if n == 0 then [] else left_out_line n
 
 -- the lines of the findings that a report lists, in their order
 abbrev pub lines_text : List Listed → List ℕ
@@ -29,7 +29,7 @@ lines_text ls = flat_map listed_line ls
 -- are any; and a line with the numbers of all errors and notes
 unfoldable pub summary_text : Reported → List ℕ
 summary_text r =
-    flat_map again_line r.listed ++ not_listed_line r.not_listed
+    flat_map again_line r.listed ++ omitted_line r.omitted
     ++ codes "errors: " ++ decimal r.errors ++ codes ", notes: " ++ decimal r.notes ++ 10 ∷ []
 
 -- the text of a report: a line for each finding that it lists, and what follows them

@@ -6,7 +6,7 @@ use Rattle.dm_findings.specs.declared.finding.Contents.{Contents}
 use Rattle.dm_findings.specs.declared.finding.Act.{Act}
 use Rattle.dm_findings.specs.declared.finding.Act.TheVariants as act
 use Rattle.dm_findings.specs.declared.finding.Finding.{Finding}
-use Rattle.dm_findings.specs.declared.finding.Finding.TheVariants.{Overwritten, MappedAway, Destroyed, Whole, FreedTwice, Refused, NotAllocated, DivisionError, NotServed, Short, Left, Held, FreeRead, FreeWritten, StackFreed, WindowLost, RomWritten, NothingWritten, TailWritten, OtherFreed, NotResized}
+use Rattle.dm_findings.specs.declared.finding.Finding.TheVariants.{Overwritten, MappedAway, Destroyed, Whole, FreedTwice, Refused, NotAllocated, DivisionError, NotServed, Short, NotFreed, Held, FreeRead, FreeWritten, StackFreed, WindowLost, RomWritten, NothingWritten, TailWritten, OtherFreed, NotResized}
 use Rattle.dm_findings.specs.declared.finding.Found.{Found}
 use Rattle.dm_findings.specs.declared.finding.Origin.{Origin}
 use Rattle.dm_findings.specs.declared.finding.Kept.{Kept}
@@ -76,7 +76,7 @@ finding_text a (NotAllocated code) = refusal_text a code
 finding_text a DivisionError = codes "division error ended the process"
 finding_text a NotServed = codes "not served"
 finding_text a (Short asked largest) = short_text asked largest
-finding_text a (Left k) = kept_text k
+finding_text a (NotFreed k) = kept_text k
 finding_text a (Held k) = codes "kept resident: " ++ kept_text k
 finding_text a (FreeRead block segment offset) = free_text (codes "reads ") block segment offset
 finding_text a (FreeWritten block segment offset) = free_text (codes "writes ") block segment offset
@@ -114,7 +114,7 @@ kept_verb _ = codes "allocated"
 
 -- what a step did to what the finding is about: it allocated what is left or held, or turned it on, and freed memory
 abbrev pub origin_verb : Finding → List ℕ
-origin_verb (Left k) = kept_verb k
+origin_verb (NotFreed k) = kept_verb k
 origin_verb (Held k) = kept_verb k
 origin_verb _ = codes "freed"
 

@@ -13,6 +13,6 @@ mod texts;
 
 pub use names::put_call;
 pub use processes::put_processes;
-pub use reports::{put_lines, put_not_listed, put_report, put_summary};
+pub use reports::{put_lines, put_omitted, put_report, put_summary};
 pub use stops::{put_stop, reason_of};
 pub use texts::{put_found, put_instruction, put_number, put_told, severity_word};

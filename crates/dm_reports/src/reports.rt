@@ -2,7 +2,7 @@
 
 ghost use Rattle.std.specs.Prelude.{◌≡◌, ◌++◌, OnOk};
 ghost use Rattle.std.specs.List.{flat_map};
-ghost use Rattle.dm_reports.specs.Reports.{again_line, left_out_line, lines_text, report_text, summary_text, not_listed_line};
+ghost use Rattle.dm_reports.specs.Reports.{again_line, left_out_line, lines_text, report_text, summary_text, omitted_line};
 
 use crate::texts::{put_counted, put_found, put_number, put_repeated};
 use dm_findings::{Listed, Report};
@@ -43,11 +43,11 @@ fn put_all_again(out: &mut Vec<u8>, lines: &[Listed]) -> Result<(), AllocError>
 }
 
 /// Appends the line about findings that are left out: how many they are.
-fn put_left_out(out: &mut Vec<u8>, not_listed: u64) -> Result<(), AllocError>
-    ensures { OnOk result (out.new.items ≡ out.old.items ++ left_out_line not_listed) }
+fn put_left_out(out: &mut Vec<u8>, omitted: u64) -> Result<(), AllocError>
+    ensures { OnOk result (out.new.items ≡ out.old.items ++ left_out_line omitted) }
 {
-    out.extend_from_slice(b"not listed: ")?;
-    put_counted(out, not_listed, b"finding")?;
+    out.extend_from_slice(b"omitted: ")?;
+    put_counted(out, omitted, b"finding")?;
     out.extend_from_slice(b"\n")
 }
 
@@ -56,13 +56,13 @@ fn put_left_out(out: &mut Vec<u8>, not_listed: u64) -> Result<(), AllocError>
 /// # Errors
 ///
 /// `AllocError` if an allocation fails.
-pub fn put_not_listed(out: &mut Vec<u8>, not_listed: u64) -> Result<(), AllocError>
-    ensures { OnOk result (out.new.items ≡ out.old.items ++ not_listed_line not_listed) }
+pub fn put_omitted(out: &mut Vec<u8>, omitted: u64) -> Result<(), AllocError>
+    ensures { OnOk result (out.new.items ≡ out.old.items ++ omitted_line omitted) }
 {
-    if not_listed == 0 {
+    if omitted == 0 {
         return Ok(());
     }
-    put_left_out(out, not_listed)
+    put_left_out(out, omitted)
 }
 
 /// Appends what follows the lines of the findings that a report lists: a line for each of them that is repeated; a line
@@ -76,7 +76,7 @@ pub fn put_summary(out: &mut Vec<u8>, report: &Report) -> Result<(), AllocError>
     ensures { OnOk result (out.new.items ≡ out.old.items ++ summary_text report.now) }
 {
     put_all_again(out, report.listed())?;
-    put_not_listed(out, report.not_listed())?;
+    put_omitted(out, report.omitted())?;
     out.extend_from_slice(b"errors: ")?;
     put_number(out, report.errors())?;
     out.extend_from_slice(b", notes: ")?;

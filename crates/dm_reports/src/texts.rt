@@ -274,7 +274,7 @@ fn put_finding(out: &mut Vec<u8>, act: &Act, finding: &Finding) -> Result<(), Al
         Finding::DivisionError => out.extend_from_slice(b"division error ended the process"),
         Finding::NotServed => out.extend_from_slice(b"not served"),
         Finding::Short(asked, largest) => put_short(out, *asked, *largest),
-        Finding::Left(kept) => put_kept(out, kept),
+        Finding::NotFreed(kept) => put_kept(out, kept),
         Finding::Held(kept) => put_held(out, kept),
         Finding::FreeRead(block, segment, offset) => {
             put_free(out, b"reads ", *block, *segment, *offset)
@@ -367,7 +367,7 @@ fn verb_of(finding: &Finding) -> &'static [u8]
     ensures { result.now ≡ origin_verb finding.now }
 {
     match finding {
-        Finding::Left(kept) | Finding::Held(kept) => kept_verb(kept),
+        Finding::NotFreed(kept) | Finding::Held(kept) => kept_verb(kept),
         _ => b"freed",
     }
 }

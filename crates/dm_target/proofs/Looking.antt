@@ -25,7 +25,7 @@ use Rattle.dm_target.specs.declared.going.Pause.{Pause}
 use Rattle.dm_target.specs.declared.going.Pause.TheVariants.{Hit, Stopped}
 use Rattle.dm_target.specs.declared.going.StepRange.{StepRange}
 use Rattle.dm_target.specs.Watching.{Hits, performed, acted, is_touched, is_changed}
-use Rattle.dm_target.specs.inner.Looking.{Looks, IsGuarded, RunsNear, all_bytes, pause_at, pairs_of, missed, hits, stops, wants}
+use Rattle.dm_target.specs.inner.Looking.{Looks, IsGuarded, RunsUnhit, all_bytes, pause_at, pairs_of, missed, hits, stops, wants}
 use Rattle.dm_target.proofs.Passing.{Misses, misses_none, misses_marked, near_passes}
 use Rattle.dm_target.proofs.Stepping.{performs, decoded_as}
 
@@ -137,11 +137,11 @@ pub passes_near : (points : List ℕ) (watches : List Point) (span : Option Step
     (pairs slice : List Breakpoint) (o : Option (List ℕ)) (n : ℕ) → span ≡ None → m ≡ s → c ≡ m.cpu → c.cs < 65536
     → pairs ≡ pairs_of c.cs points → slice ≡ pairs → IfSome o (λ ms. All (IsGuarded ms) watches) →
     IfSome o (λ ms. GoesUnmarked ms s n t) → (o ≡ None → watches ≡ []) → GoesNear slice s n t
-    → RunsNear points watches span s n t
+    → RunsUnhit points watches span s n t
 passes_near points watches span s m t c pairs slice o n ends same cpu small are is g u h near =
     let segment : c.cs ≡ s.cpu.cs = ap (λ (x : Cpu). x.cs) cpu ∙ ap (λ (x : State). x.cpu.cs) same in
     let whole : slice ≡ pairs_of s.cpu.cs points = is ∙ are ∙ ap (λ k. pairs_of k points) segment in
-    subst (λ (x : Option StepRange). RunsNear points watches x s n t) (sym ends)
+    subst (λ (x : Option StepRange). RunsUnhit points watches x s n t) (sym ends)
     (near_passes points watches s t n (subst (λ k. k < 65536) segment small) (misses_by watches s t n o g u h)
     (subst (λ (x : List Breakpoint). GoesNear x s n t) whole near))
 

@@ -25,7 +25,7 @@ use Rattle.dm_target.specs.declared.going.StepRange.{StepRange}
 use Rattle.dm_target.specs.Going.{RunsPast, Continues, has_arrived, is_among, code_address}
 use Rattle.dm_target.specs.Going as going
 use Rattle.dm_target.specs.Watching.{Hits, performed, unwatched}
-use Rattle.dm_target.specs.inner.Looking.{IsGuarded, Looks, Ends, RunsNear, pairs_of}
+use Rattle.dm_target.specs.inner.Looking.{IsGuarded, Looks, Ends, RunsUnhit, pairs_of}
 use Rattle.dm_target.specs.inner.Looking as looking
 use Rattle.dm_target.proofs.Guarding.{none_touched}
 use Rattle.dm_target.proofs.Nearing.{points_other}
@@ -99,7 +99,7 @@ within_passes points watches s t m n small miss le (near.further k v u g h cs ip
     (not_arrived points s t small (cs ∙ within_segment ps s v k g) ip off)
 
 pub near_passes : (points : List ℕ) (watches : List Point) (s t : State) (n : ℕ) → s.cpu.cs < 65536 →
-    Misses watches s n → GoesNear (pairs_of s.cpu.cs points) s n t → RunsNear points watches None s n t
+    Misses watches s n → GoesNear (pairs_of s.cpu.cs points) s n t → RunsUnhit points watches None s n t
 near_passes points watches s t n small miss near.start = looking.none
 near_passes points watches s t n small miss (near.ended k v u g h) =
     looking.last k v t (within_passes points watches s v k (k + 1) small miss (omega arith) g) (run_one v t h)
@@ -117,20 +117,20 @@ passes_append points watches span s t u m n p (going.further k v w q step hits o
 
 -- no steps were made
 pub near_none : (points : List ℕ) (watches : List Point) (span : Option StepRange) (s t : State) (n : ℕ) →
-    RunsNear points watches span s n t → n ≡ 0 → t ≡ s
+    RunsUnhit points watches span s n t → n ≡ 0 → t ≡ s
 near_none points watches span s t n looking.none e = refl
 near_none points watches span s t n (looking.last k v u p step hits) e = absurd (omega arith)
 
 -- the last step has led to no breakpoint: none has
 near_all : (points : List ℕ) (watches : List Point) (span : Option StepRange) (s t : State) (n : ℕ) →
-    RunsNear points watches span s n t → has_arrived points span t ≡ false → RunsPast points watches span s n t
+    RunsUnhit points watches span s n t → has_arrived points span t ≡ false → RunsPast points watches span s n t
 near_all points watches span s t n looking.none off = going.here
 near_all points watches span s t n (looking.last k v u p step hits) off = going.further k v t p step hits off
 
 -- steps that were made at once, behind others
 pub more_passes : (points : List ℕ) (watches : List Point) (span : Option StepRange) (s t u : State)
     (most left made : ℕ) → left ≤ most → made ≤ left → RunsPast points watches span s (most - left) t
-    → RunsNear points watches span t made u → has_arrived points span u ≡ false →
+    → RunsUnhit points watches span t made u → has_arrived points span u ≡ false →
     RunsPast points watches span s (most - (left - made)) u
 more_passes points watches span s t u most left made few less p q off =
     subst (λ (j : ℕ). RunsPast points watches span s j u) (omega (arith, few, less))
@@ -148,7 +148,7 @@ one_passes points watches span s t u most left few some p step hits off =
 -- the last of steps that were made at once has led to a breakpoint
 pub near_arrives : (points : List ℕ) (watches : List Point) (span : Option StepRange) (s t u : State)
     (most left made : ℕ) → left ≤ most → made ≤ left → 1 ≤ made → RunsPast points watches span s (most - left) t
-    → RunsNear points watches span t made u → has_arrived points span u ≡ true →
+    → RunsUnhit points watches span t made u → has_arrived points span u ≡ true →
     Continues points watches span s most Arrived u
 near_arrives points watches span s t u most left made few less some p looking.none there = absurd (omega (arith, some))
 near_arrives points watches span s t u most left made few less some p (looking.last k v w q step hits) there =

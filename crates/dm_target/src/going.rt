@@ -6,7 +6,7 @@ ghost use Rattle.dm_target.specs.Going.{is_among, is_outside, code_address, has_
 ghost use Rattle.dm_target.specs.inner.Looking.{Ends, IsGuarded};
 
 use crate::memory::linear_of;
-use crate::nearby::{marks_if_any, run_near};
+use crate::nearby::{marks_if_any, run_unhit};
 use crate::watching::look;
 use dm_history::History;
 use dm_machine::{Breakpoint, Machine, Stop};
@@ -109,7 +109,7 @@ fn go_marked(
         if left == 0 {
             return Pause::Stopped(Stop::Steps);
         }
-        let made = run_near(history, left, span, points, watches, marks, pairs);
+        let made = run_unhit(history, left, span, points, watches, marks, pairs);
         if made == 0 {
             if let Some(pause) = look_on(alloc, history, span, points, watches) {
                 return pause;

@@ -3,7 +3,7 @@
 ghost use Rattle.std.specs.Prelude.{◌≡◌, ◌≤◌, ◌<◌, ◌++◌, [], ℕ, All, IfOk, OnOk, IfSome, IsTrue, None};
 ghost use Rattle.dm_machine.specs.Unmarked.{GoesUnmarked};
 ghost use Rattle.dm_machine.specs.Near.{GoesNear};
-ghost use Rattle.dm_target.specs.inner.Looking.{HasLevel, IsGuarded, IsGuardedAt, Keeps, RunsNear, level_of, pair_at, pairs_at, pairs_of};
+ghost use Rattle.dm_target.specs.inner.Looking.{HasLevel, IsGuarded, IsGuardedAt, Keeps, RunsUnhit, level_of, pair_at, pairs_at, pairs_of};
 
 use crate::going::StepRange;
 use dm_history::History;
@@ -134,7 +134,7 @@ fn run_marked(history: &mut History, most: u64, pairs: &[Breakpoint], marks: &Op
 }
 
 /// Whether steps can be made at once: they do not end outside a range, and there are marks if there are watchpoints.
-fn may_run_near(span: Option<StepRange>, watches: &[Point], marks: &Option<Marks>) -> bool
+fn may_run_unhit(span: Option<StepRange>, watches: &[Point], marks: &Option<Marks>) -> bool
     ensures span { IsTrue result → span ≡ None }
     ensures marks { IsTrue result → marks.now ≡ None → watches.now ≡ [] }
 {
@@ -147,7 +147,7 @@ fn may_run_near(span: Option<StepRange>, watches: &[Point], marks: &Option<Marks
 /// Makes at most `most` steps that hit no watchpoint, none but the last of which leads to a breakpoint, and returns how
 /// many. It may make none: it makes none where steps end outside a range, nor where there are watchpoints and no marks.
 /// `pairs` is room for breakpoints. Nothing but the machine changes.
-pub(crate) fn run_near(
+pub(crate) fn run_unhit(
     history: &mut History,
     most: u64,
     span: Option<StepRange>,
@@ -157,12 +157,12 @@ pub(crate) fn run_near(
     pairs: &mut Vec<Breakpoint>,
 ) -> u64
     requires { IfSome marks.now (λ m. All (IsGuarded m) watches.now) }
-    ensures near { RunsNear points.now watches.now span history.old.machine result history.new.machine }
+    ensures near { RunsUnhit points.now watches.now span history.old.machine result history.new.machine }
     ensures most { result ≤ most }
     ensures beginning { history.new.beginning ≡ history.old.beginning }
     ensures edits { history.new.edits ≡ history.old.edits }
 {
-    if !may_run_near(span, watches, marks) {
+    if !may_run_unhit(span, watches, marks) {
         return 0;
     }
     let segment = history.machine().cpu().cs;

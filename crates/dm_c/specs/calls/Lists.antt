@@ -106,8 +106,8 @@ FindingsTo h before after wanted_before wanted status g =
 -- `dm_c_finding_counts`: how many errors and notes the last checked run had, and how many findings its report neither
 -- lists nor counts as repetitions
 abbrev pub FindingCountsTo : Hosted → ℕ → ℕ → ℕ → ℕ → Hosted → Type 0
-FindingCountsTo h errors notes not_listed status g = (status ≡ 0) × (errors ≡ h.report.errors) ×
-    (notes ≡ h.report.notes) × (not_listed ≡ h.report.not_listed) × (g ≡ h)
+FindingCountsTo h errors notes omitted status g = (status ≡ 0) × (errors ≡ h.report.errors) ×
+    (notes ≡ h.report.notes) × (omitted ≡ h.report.omitted) × (g ≡ h)
 
 -- `dm_c_finding_line`: the line of finding k of that report is copied to the front of the buffer, if it fits, and
 -- `wanted` is how many bytes it has; if the report lists no finding k, or an allocation failed, nothing changes

@@ -141,15 +141,15 @@ pub fn findings(alloc: Global, host: &Host, buffer: &mut [FoundRecord], wanted: 
     status_by!(host.findings(alloc), records => give_items(records.as_slice(), buffer, wanted))
 }
 
-/// Sets `errors` and `notes` to how many of each the last checked run had, and `not_listed` to how many findings its
+/// Sets `errors` and `notes` to how many of each the last checked run had, and `omitted` to how many findings its
 /// report neither lists nor counts as repetitions.
-pub fn finding_counts(host: &Host, errors: &mut u64, notes: &mut u64, not_listed: &mut u64) -> u32
-    ensures { FindingCountsTo host.now errors.new notes.new not_listed.new result host.now }
+pub fn finding_counts(host: &Host, errors: &mut u64, notes: &mut u64, omitted: &mut u64) -> u32
+    ensures { FindingCountsTo host.now errors.new notes.new omitted.new result host.now }
 {
     let report = host.report();
     *errors = report.errors();
     *notes = report.notes();
-    *not_listed = report.not_listed();
+    *omitted = report.omitted();
     OK
 }
 

@@ -2,7 +2,7 @@
 use Rattle.std.specs.Prelude.{◌≡◌, ℕ, ◌+◌, ◌-◌, ◌/◌, ◌<◌, ◌≤◌, ◌&&◌, not, is_some, Bool, false, List, slice_index_or, Option, None}
 use Rattle.dm_blocks.specs.declared.header.Header.{Header}
 use Rattle.dm_touches.specs.quiet.Marks.{level_at}
-use Rattle.dm_checker.specs.declared.watch.Watched.{Watched}
+use Rattle.dm_checker.specs.declared.arena_copy.HeaderCopy.{HeaderCopy}
 
 -- where `old` has level n or a higher one, `new` has too
 abbrev pub Keeps : ℕ → List ℕ → List ℕ → Type 0
@@ -18,7 +18,7 @@ pub record HasMap (windows : List (Option ℕ)) (high : Bool) (ms : List ℕ) : 
   pub top : (p : ℕ) → 0x10FFF ≤ p → 1 ≤ level_at ms p
 
 -- writes to the paragraph of the header are marked
-abbrev pub HasHeader : List ℕ → Watched → Type 0
+abbrev pub HasHeader : List ℕ → HeaderCopy → Type 0
 HasHeader ms x = 1 ≤ level_at ms x.header.segment
 
 -- reads of and writes to the memory of the block behind the header are marked, if the block is free

@@ -16,13 +16,13 @@ use Rattle.dm_findings.specs.Report.{Reported, report_of}
 use Rattle.dm_origins.specs.Origins.{Known, origin_of}
 use Rattle.dm_machine.specs.Step.{MakesStep}
 use Rattle.dm_checker.specs.declared.acts.Before.{Before}
-use Rattle.dm_checker.specs.declared.watch.Watch.{Watch}
+use Rattle.dm_checker.specs.declared.arena_copy.ArenaCopy.{ArenaCopy}
 use Rattle.dm_checker.specs.Findings.{Finds, FindsTouched}
 use Rattle.dm_checker.specs.Origins.{IsKnownAfter}
 use Rattle.dm_checker.specs.Checks.{FindsAt, FindsAtStop, reported}
 use Rattle.dm_checker.specs.Processes.{KnowsAtStop}
-use Rattle.dm_checker.specs.Watching.{IsWatch}
-use Rattle.dm_checker.specs.inner.Watching.{shown_of}
+use Rattle.dm_checker.specs.ArenaCopy.{IsArenaCopy}
+use Rattle.dm_checker.specs.inner.ArenaCopy.{shown_of}
 
 -- b is what the checker keeps of the state s before a step: the registers, A20, the present process, the call, where in
 -- its code the program performs it, and, if there is no call, the bytes at CS:IP
@@ -66,7 +66,7 @@ pub data IsNextAct (s : State) : Option (Ins × ℕ) → Type 0 where
 
 -- `new` is `old` with what is found appended of the bytes that the step from s touches, if it is made; w is what memory
 -- shows of the arena before it
-pub record Touches (s : State) (w : Watch) (old new : List Finding) : Type 0 where
+pub record Touches (s : State) (w : ArenaCopy) (old new : List Finding) : Type 0 where
   pub more : List Finding
   pub is : new ≡ old ++ more
   pub going : (t : State) → Answers s None t → FindsTouched s (shown_of w) more
@@ -74,7 +74,7 @@ pub record Touches (s : State) (w : Watch) (old new : List Finding) : Type 0 whe
 
 -- `new` is `old` with what is found of the step from s to t appended, but for the bytes that it touches; w is what
 -- memory shows of the arena before it
-pub record Looks (s t : State) (w : Watch) (old new : List Finding) : Type 0 where
+pub record Looks (s t : State) (w : ArenaCopy) (old new : List Finding) : Type 0 where
   pub more : List Finding
   pub is : new ≡ old ++ more
   pub finds : (touched : List Finding) → FindsTouched s (shown_of w) touched → Finds s t (touched ++ more)
@@ -108,11 +108,11 @@ pub data GoesUnfound (s : State) : ℕ → State → Type 0 where
 -- one checked step from s to t, with this stop or None: the report `new` is `old` with the findings of the step added,
 -- those about free memory only with `free`; and if the machine goes on, w is what memory shows of the arena after the
 -- step, and l what is known of who allocated and who freed, if k was before it
-pub record ChecksOne (free : Bool) (s : State) (stop : Option Stop) (t : State) (w : Watch) (k l : Known)
+pub record ChecksOne (free : Bool) (s : State) (stop : Option Stop) (t : State) (w : ArenaCopy) (k l : Known)
     (old new : Reported) : Type 0 where
   pub answers : Answers s stop t
   pub found : List Found
   pub finds : FindsAtAny s stop t k l found
   pub reports : ReportsMore free old new found
-  pub watch : stop ≡ None → IsWatch t.upper t.memory w
+  pub arena : stop ≡ None → IsArenaCopy t.upper t.memory w
   pub knows : KnowsAtAny s stop t k l

@@ -27,7 +27,7 @@ use Rattle.dm_debug.specs.declared.stops.events.Event.{Event}
 use Rattle.dm_debug.specs.declared.stops.events.Event.TheVariants.{At, Address, Change, Call, Function}
 use Rattle.dm_debug.specs.declared.stops.events.Range.{Range}
 use Rattle.dm_debug.specs.stops.Events.{segment_below, byte_at, bytes_there, range_bytes, reads_as, bytes_for, has_come, first_from}
-use Rattle.dm_debug.specs.stops.inner.Marking.{is_quick, HasLevel, IsGuarded, AreStill}
+use Rattle.dm_debug.specs.stops.inner.Marking.{is_markable, HasLevel, IsGuarded, AreStill}
 use Rattle.dm_debug.proofs.stops.Nearing.{and_left, and_right}
 
 and_both : (a b : Bool) → a ≡ true → b ≡ true → (a && b) ≡ true
@@ -158,28 +158,28 @@ range_still g i k ms r low marked quiet =
     let level : 1 ≤ level_at ms (x / 16) = marked (x / 16) (omega (arith, from)) (omega (arith, to, few r)) in
     low_byte_at n x under ∙ keeps_byte g i k ms x under level quiet ∙ sym (low_byte_at m x under))
 
-event_still : (g : Guest) (i : Ins) (k : ℕ) (ms : List ℕ) (e : Event) → is_quick e ≡ true → IsGuarded ms e →
+event_still : (g : Guest) (i : Ins) (k : ℕ) (ms : List ℕ) (e : Event) → is_markable e ≡ true → IsGuarded ms e →
     satisfy (lies_below ms 1) g.memory.a20 (writes g i k) ≡ true
     → bytes_for (effect g i k).memory e ≡ bytes_for g.memory e
-event_still g i k ms (At p) quick marked quiet = refl
-event_still g i k ms (Address a) quick marked quiet = refl
-event_still g i k ms (Change r) quick marked quiet = (let low : r.address + r.length ≤ 0xC0000 =
+event_still g i k ms (At p) markable marked quiet = refl
+event_still g i k ms (Address a) markable marked quiet = refl
+event_still g i k ms (Change r) markable marked quiet = (let low : r.address + r.length ≤ 0xC0000 =
     grind (arith, nat_tests) in range_still g i k ms r low marked quiet)
-event_still g i k ms (Call n) quick marked quiet = refl
-event_still g i k ms (Function n ah) quick marked quiet = refl
+event_still g i k ms (Call n) markable marked quiet = refl
+event_still g i k ms (Function n ah) markable marked quiet = refl
 
 -- all ranges stay as they are
 pub all_still : (start : Memory) (g : Guest) (i : Ins) (k : ℕ) (ms : List ℕ) (es : List Event) →
-    list_all is_quick es ≡ true → All (IsGuarded ms) es → satisfy (lies_below ms 1) g.memory.a20 (writes g i k) ≡ true
-    → AreStill start g.memory es → AreStill start (effect g i k).memory es
-all_still start g i k ms [] quick marked quiet still = All-nil (λ (e : Event). bytes_for (effect g i k).memory e
+    list_all is_markable es ≡ true → All (IsGuarded ms) es → satisfy (lies_below ms 1) g.memory.a20 (writes g i k)
+    ≡ true → AreStill start g.memory es → AreStill start (effect g i k).memory es
+all_still start g i k ms [] markable marked quiet still = All-nil (λ (e : Event). bytes_for (effect g i k).memory e
     ≡ bytes_for start e)
-all_still start g i k ms (e ∷ es) quick marked quiet still =
-    let here = event_still g i k ms e (and_left (is_quick e) (list_all is_quick es) quick)
+all_still start g i k ms (e ∷ es) markable marked quiet still =
+    let here = event_still g i k ms e (and_left (is_markable e) (list_all is_markable es) markable)
     (All-head (IsGuarded ms) e es marked) quiet in
     All-cons (λ (e : Event). bytes_for (effect g i k).memory e ≡ bytes_for start e) e es (here
     ∙ All-head (λ (e : Event). bytes_for g.memory e ≡ bytes_for start e) e es still)
-    (all_still start g i k ms es (and_right (is_quick e) (list_all is_quick es) quick)
+    (all_still start g i k ms es (and_right (is_markable e) (list_all is_markable es) markable)
     (All-tail (IsGuarded ms) e es marked) quiet (All-tail (λ (e : Event). bytes_for g.memory e
     ≡ bytes_for start e) e es still))
 

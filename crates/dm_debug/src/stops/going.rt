@@ -7,13 +7,13 @@ ghost use Rattle.dm_services.specs.declared.state.stop.Stop.TheVariants.{Steps a
 ghost use Rattle.dm_services.specs.state.State.{HasProgram};
 ghost use Rattle.dm_machine.specs.Run.{IsRun};
 ghost use Rattle.dm_debug.specs.stops.Runs.{RunsTo};
-ghost use Rattle.dm_debug.specs.stops.inner.Marking.{is_quick, AreStill, IsGuarded};
-ghost use Rattle.dm_debug.specs.stops.inner.Nearby.{is_at_address, RunsNear};
+ghost use Rattle.dm_debug.specs.stops.inner.Marking.{is_markable, AreStill, IsGuarded};
+ghost use Rattle.dm_debug.specs.stops.inner.Nearby.{is_at_address, RunsUpToEvent};
 ghost use Rattle.dm_debug.specs.stops.inner.Watching.{watch_of, GoesTo};
 
 use crate::stops::events::{Event, Watch, first_come, watches_of};
-use crate::stops::marking::{are_quick, marks_of};
-use crate::stops::nearby::{are_at_addresses, run_near};
+use crate::stops::marking::{are_markable, marks_of};
+use crate::stops::nearby::{are_at_addresses, run_up_to_event};
 use dm_machine::{Breakpoint, Machine, Stop};
 use dm_touches::quiet::Marks;
 use std::alloc::{AllocError, Global};
@@ -28,29 +28,29 @@ pub enum RunEnd {
 }
 
 /// Makes at least one step and at most `most`, none but the last of which leads to an event, and returns how many; an
-/// `Err` is why the machine stopped instead. `quick` says that marks tell whether events can come, and `pairs` is room
-/// for breakpoints.
+/// `Err` is why the machine stopped instead. `markable` says that marks tell whether events can come, and `pairs` is
+/// room for breakpoints.
 fn advance(
     machine: &mut Machine,
     most: u64,
     events: &[Event],
-    quick: bool,
+    markable: bool,
     marks: &Option<Marks>,
     pairs: &mut Vec<Breakpoint>,
 ) -> Result<u64, Stop>
     requires loaded { HasProgram machine.old }
     requires some { 0 < most }
-    requires quick { IsTrue quick → list_all is_quick events.now ≡ true }
+    requires markable { IsTrue markable → list_all is_markable events.now ≡ true }
     requires addresses { marks.now ≡ None → list_all is_at_address events.now ≡ true }
     requires marked { IfSome marks.now (λ m. All (IsGuarded m) events.now) }
     ensures near { IfOk result (λ n. (start : Memory) → AreStill start machine.old.memory events.now →
-        RunsNear start events.now machine.old n machine.new) }
+        RunsUpToEvent start events.now machine.old n machine.new) }
     ensures some { IfOk result (λ n. 0 < n) }
     ensures most { IfOk result (λ n. n ≤ most) }
     ensures stops { IfErr result (λ why. (why ≢ AllSteps) × IsRun machine.old 1 why machine.new) }
     ensures loaded { HasProgram machine.new }
 {
-    let made = run_near(machine, most, events, quick, marks, pairs);
+    let made = run_up_to_event(machine, most, events, markable, marks, pairs);
     if made != 0 {
         return Ok(made);
     }
@@ -60,19 +60,19 @@ fn advance(
     }
 }
 
-/// Makes at most `most` steps, as `run_to` does. `watches` are the events with the bytes before the run, `quick` says
-/// that marks tell whether events can come, and `pairs` is room for breakpoints.
+/// Makes at most `most` steps, as `run_to` does. `watches` are the events with the bytes before the run, `markable`
+/// says that marks tell whether events can come, and `pairs` is room for breakpoints.
 fn go(
     machine: &mut Machine,
     most: u64,
     events: &[Event],
     watches: &[Watch],
-    quick: bool,
+    markable: bool,
     marks: &Option<Marks>,
     pairs: &mut Vec<Breakpoint>,
 ) -> RunEnd
     requires loaded { HasProgram machine.old }
-    requires quick { IsTrue quick → list_all is_quick events.now ≡ true }
+    requires markable { IsTrue markable → list_all is_markable events.now ≡ true }
     requires addresses { marks.now ≡ None → list_all is_at_address events.now ≡ true }
     requires marked { IfSome marks.now (λ m. All (IsGuarded m) events.now) }
     ensures goes { (start : Memory) → watches.now ≡ map (watch_of start) events.now →
@@ -84,7 +84,7 @@ fn go(
         if left == 0 {
             return RunEnd::Stopped(Stop::Steps);
         }
-        match advance(machine, left, events, quick, marks, pairs) {
+        match advance(machine, left, events, markable, marks, pairs) {
             Ok(made) => left -= made,
             Err(stop) => return RunEnd::Stopped(stop),
         }
@@ -129,13 +129,13 @@ pub fn run_to(
     let watches = watches_of(alloc, events, machine.space())?;
     let mut pairs = Vec::new(alloc);
     let marks = marks_if_any(alloc, events)?;
-    let quick = are_quick(events);
+    let markable = are_markable(events);
     Ok(go(
         machine,
         most,
         events,
         watches.as_slice(),
-        quick,
+        markable,
         &marks,
         &mut pairs,
     ))

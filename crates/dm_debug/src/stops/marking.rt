@@ -2,7 +2,7 @@
 
 ghost use Rattle.std.specs.Prelude.{◌≡◌, ◌≤◌, ◌<◌, ℕ, All, IfOk};
 ghost use Rattle.std.specs.List.{list_all};
-ghost use Rattle.dm_debug.specs.stops.inner.Marking.{level_of, first_of, end_of, is_quick, HasLevel, IsGuarded, IsGuardedAt, Keeps};
+ghost use Rattle.dm_debug.specs.stops.inner.Marking.{level_of, first_of, end_of, is_markable, HasLevel, IsGuarded, IsGuardedAt, Keeps};
 
 use crate::stops::events::Event;
 use dm_touches::quiet::Marks;
@@ -95,8 +95,8 @@ pub(crate) fn marks_of(alloc: Global, events: &[Event]) -> Result<Marks, AllocEr
 }
 
 /// Whether marks tell whether the event can come: a range must end below C0000h.
-fn is_quick(event: &Event) -> bool
-    ensures { result ≡ is_quick event.now }
+fn is_markable(event: &Event) -> bool
+    ensures { result ≡ is_markable event.now }
 {
     match event {
         Event::Change(range) => range.address as u64 + range.length as u64 <= LIMIT,
@@ -105,8 +105,8 @@ fn is_quick(event: &Event) -> bool
 }
 
 /// Whether marks tell of all events whether they can come.
-pub(crate) fn are_quick(events: &[Event]) -> bool
-    ensures { result ≡ list_all is_quick events.now }
+pub(crate) fn are_markable(events: &[Event]) -> bool
+    ensures { result ≡ list_all is_markable events.now }
 {
-    events.iter().all(|event| is_quick(event))
+    events.iter().all(|event| is_markable(event))
 }

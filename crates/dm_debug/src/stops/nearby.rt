@@ -6,8 +6,8 @@ ghost use Rattle.dm_space.specs.Memory.{Memory};
 ghost use Rattle.dm_services.specs.state.State.{HasProgram};
 ghost use Rattle.dm_machine.specs.Near.{GoesNear};
 ghost use Rattle.dm_machine.specs.Unmarked.{GoesUnmarked};
-ghost use Rattle.dm_debug.specs.stops.inner.Marking.{is_quick, AreStill, IsGuarded};
-ghost use Rattle.dm_debug.specs.stops.inner.Nearby.{is_at_address, pair_at, pairs_at, pairs_for, pairs_of, RunsNear};
+ghost use Rattle.dm_debug.specs.stops.inner.Marking.{is_markable, AreStill, IsGuarded};
+ghost use Rattle.dm_debug.specs.stops.inner.Nearby.{is_at_address, pair_at, pairs_at, pairs_for, pairs_of, RunsUpToEvent};
 
 use crate::stops::events::Event;
 use dm_machine::{Breakpoint, Machine};
@@ -93,26 +93,26 @@ fn run_marked(machine: &mut Machine, most: u64, pairs: &[Breakpoint], marks: &Op
 }
 
 /// Makes at most `most` steps, none but the last of which leads to an event, and returns how many. It may make none.
-/// `quick` says that marks tell whether events can come; where there are no marks all events are at addresses. `pairs`
-/// is room for breakpoints.
-pub(crate) fn run_near(
+/// `markable` says that marks tell whether events can come; where there are no marks all events are at addresses.
+/// `pairs` is room for breakpoints.
+pub(crate) fn run_up_to_event(
     machine: &mut Machine,
     most: u64,
     events: &[Event],
-    quick: bool,
+    markable: bool,
     marks: &Option<Marks>,
     pairs: &mut Vec<Breakpoint>,
 ) -> u64
     requires loaded { HasProgram machine.old }
-    requires quick { IsTrue quick → list_all is_quick events.now ≡ true }
+    requires markable { IsTrue markable → list_all is_markable events.now ≡ true }
     requires addresses { marks.now ≡ None → list_all is_at_address events.now ≡ true }
     requires marked { IfSome marks.now (λ m. All (IsGuarded m) events.now) }
     ensures near { (start : Memory) → AreStill start machine.old.memory events.now →
-        RunsNear start events.now machine.old result machine.new }
+        RunsUpToEvent start events.now machine.old result machine.new }
     ensures most { result ≤ most }
     ensures loaded { HasProgram machine.new }
 {
-    if !quick {
+    if !markable {
         return 0;
     }
     let segment = machine.cpu().cs;

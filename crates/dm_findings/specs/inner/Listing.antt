@@ -40,6 +40,6 @@ out_with ls f n = if is_listed (map found_of ls) f then n else if repeats (map f
 -- `new` is the report `old` with f listed, counted as a repetition or left out; the numbers of errors and notes stay
 pub record Lists (f : Found) (old new : Reported) : Type 0 where
   pub listed : new.listed ≡ map (counted f) old.listed ++ new_line old.listed f
-  pub not_listed : new.not_listed ≡ out_with old.listed f old.not_listed
+  pub omitted : new.omitted ≡ out_with old.listed f old.omitted
   pub errors : new.errors ≡ old.errors
   pub notes : new.notes ≡ old.notes

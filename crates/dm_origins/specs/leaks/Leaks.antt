@@ -12,7 +12,7 @@ use Rattle.dm_xms.specs.Tables as xms
 use Rattle.dm_xms.specs.Calls.{slot}
 use Rattle.dm_services.specs.state.State.{State}
 use Rattle.dm_findings.specs.declared.finding.Finding.{Finding}
-use Rattle.dm_findings.specs.declared.finding.Finding.TheVariants.{Left, Held}
+use Rattle.dm_findings.specs.declared.finding.Finding.TheVariants.{NotFreed, Held}
 use Rattle.dm_findings.specs.declared.finding.Kept.{Kept}
 use Rattle.dm_findings.specs.declared.finding.Kept.TheVariants as kept
 
@@ -23,7 +23,7 @@ of_each f (suc n) = of_each f n ++ f n
 
 -- the finding about what a program has: it holds it if it stays resident, otherwise it left it
 abbrev pub told : Bool → Kept → List Finding
-told resident k = (if resident then Held k else Left k) ∷ []
+told resident k = (if resident then Held k else NotFreed k) ∷ []
 
 -- ---- expanded memory
 

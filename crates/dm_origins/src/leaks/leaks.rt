@@ -23,7 +23,7 @@ fn append_kept(out: &mut Vec<Finding>, resident: bool, kept: Kept) -> Result<(),
     if resident {
         out.push(Finding::Held(kept))?;
     } else {
-        out.push(Finding::Left(kept))?;
+        out.push(Finding::NotFreed(kept))?;
     }
     Ok(())
 }

@@ -45,11 +45,11 @@ pub data Ends (points : List ℕ) (watches : List Point) (span : Option StepRang
   ends : (pause : Pause) (t : State) → Looks watches s (Some pause) t → Ends points watches span s (Some pause) t
 
 -- n steps lead from s to this state and hit no watchpoint; the last may have led to a breakpoint, none before it did
-pub data RunsNear (points : List ℕ) (watches : List Point) (span : Option StepRange) (s : State) : ℕ → State →
+pub data RunsUnhit (points : List ℕ) (watches : List Point) (span : Option StepRange) (s : State) : ℕ → State →
     Type 0 where
-  none : RunsNear points watches span s 0 s
+  none : RunsUnhit points watches span s 0 s
   last : (n : ℕ) (t u : State) → RunsPast points watches span s n t → IsRun t 1 AllSteps u → Hits watches t u None →
-      RunsNear points watches span s (n + 1) u
+      RunsUnhit points watches span s (n + 1) u
 
 -- what the range of a watchpoint is marked with
 abbrev pub level_of : WatchedAccess → ℕ

@@ -3,7 +3,7 @@
 use Rattle.std.specs.Prelude.{ℕ, Bool, if◌then◌else◌}
 use Rattle.dm_findings.specs.declared.finding.Contents as found
 use Rattle.dm_findings.specs.declared.finding.Finding.{Finding}
-use Rattle.dm_findings.specs.declared.finding.Finding.TheVariants.{Overwritten, MappedAway, Destroyed, Whole, FreedTwice, Refused, NotAllocated, DivisionError, NotServed, Short, Left, Held, FreeRead, FreeWritten, StackFreed, WindowLost, RomWritten, NothingWritten, TailWritten, OtherFreed, NotResized}
+use Rattle.dm_findings.specs.declared.finding.Finding.TheVariants.{Overwritten, MappedAway, Destroyed, Whole, FreedTwice, Refused, NotAllocated, DivisionError, NotServed, Short, NotFreed, Held, FreeRead, FreeWritten, StackFreed, WindowLost, RomWritten, NothingWritten, TailWritten, OtherFreed, NotResized}
 use Rattle.dm_findings.specs.declared.finding.Kept.{Kept}
 use Rattle.dm_findings.specs.declared.finding.Kept.TheVariants as kept
 use Rattle.dm_views.specs.declared.inventory.details.Contents.{Contents}
@@ -88,5 +88,5 @@ details_of (NothingWritten segment offset) = record no_details { segment = segme
 details_of (TailWritten at byte) = record no_details { header = at; byte = byte }
 details_of (OtherFreed at owner) = record no_details { block = at; owner = owner }
 details_of (NotResized asked) = record no_details { wanted = asked }
-details_of (Left kept) = kept_details kept
+details_of (NotFreed kept) = kept_details kept
 details_of (Held kept) = kept_details kept

@@ -14,7 +14,7 @@ use Rattle.dm_findings.specs.declared.finding.Origin.{Origin}
 use Rattle.dm_findings.specs.declared.report.Listed.{Listed}
 use Rattle.dm_findings.specs.Findings.{is_error}
 use Rattle.dm_findings.specs.Repeats as findings
-use Rattle.dm_findings.specs.Repeats.{left_kind}
+use Rattle.dm_findings.specs.Repeats.{not_freed_kind}
 use Rattle.dm_views.specs.declared.inventory.findings.Act as performed
 use Rattle.dm_views.specs.declared.inventory.findings.CodePlace.{CodePlace}
 use Rattle.dm_views.specs.declared.inventory.findings.FoundRecord.{FoundRecord}
@@ -26,7 +26,7 @@ use Rattle.dm_views.specs.inventory.Details.{details_of}
 -- the kind of a finding, as a number: its place among the kinds, where what a resident program holds counts as left
 -- allocated. C has these numbers (`mezguld_finding_kind`), `dm check --json` a word for each
 abbrev pub kind_number : Finding → ℕ
-kind_number (Held k) = left_kind k
+kind_number (Held k) = not_freed_kind k
 kind_number f = findings.kind_of f
 
 -- ---- what was performed, and where

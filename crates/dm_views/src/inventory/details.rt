@@ -191,7 +191,7 @@ pub(crate) fn details_of(finding: &Finding) -> Details
         Finding::RomWritten(segment, offset) | Finding::NothingWritten(segment, offset) => {
             byte_details(0, 0, *segment, *offset)
         }
-        Finding::Left(kept) | Finding::Held(kept) => kept_details(kept),
+        Finding::NotFreed(kept) | Finding::Held(kept) => kept_details(kept),
         Finding::Whole | Finding::DivisionError | Finding::NotServed => no_details(),
     }
 }

@@ -1,6 +1,6 @@
 //! The findings of a checked run as records.
 ghost use Rattle.std.specs.Prelude.{◌≡◌, ◌++◌, map, OnOk};
-ghost use Rattle.dm_findings.specs.Repeats.{left_kind};
+ghost use Rattle.dm_findings.specs.Repeats.{not_freed_kind};
 ghost use Rattle.dm_views.specs.inventory.Findings.{kind_number, call_record, act_of, site_record, origin_site, origin_step, record_of};
 
 use crate::inventory::details::{Details, details_of};
@@ -57,7 +57,7 @@ pub struct FoundRecord {
 
 /// The kind of what a program has allocated at its end.
 fn kept_kind(kept: &Kept) -> u32
-    ensures { result ≡ left_kind kept.now }
+    ensures { result ≡ not_freed_kind kept.now }
 {
     match kept {
         Kept::Handle(_, _, _) => 19,

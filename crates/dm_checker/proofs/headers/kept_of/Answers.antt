@@ -1,5 +1,5 @@
 use Rattle.std.proofs.Common.{ℕ, ◌-◌, ◌*◌, ◌%◌, ◌<◌, ◌⊎◌, inl, inr, List, refl, ◌∙◌, ap, arith}
-use Rattle.dm_checker.specs.inner.Watching.{contents_by}
+use Rattle.dm_checker.specs.inner.ArenaCopy.{contents_by}
 use Rattle.dm_checker.proofs.Framed.{kept_outside, kept_nothing, kept_freed, kept_page, window_of, no_block, not_live}
 use Rattle.dm_checker.proofs.headers.kept_of.Goals as goal
 use Rattle.dm_checker.proofs.headers.kept_of.Goals.{then-segment-lt-FRAME-via-then-segment-lt-FRAME, then-segment-lt-FRAME-via-else-segment-lt-FRAME+then-segment-gt-FRAME_END}

@@ -3,10 +3,10 @@ use Rattle.std.specs.Prelude.{All}
 use Rattle.std.specs.List.{flat_map}
 use Rattle.dm_space.specs.Memory.{Memory}
 use Rattle.dm_checker.specs.Headers.{mapped_away}
-use Rattle.dm_checker.specs.Watching.{header_of, IsWatched}
+use Rattle.dm_checker.specs.ArenaCopy.{header_of, IsHeaderCopy}
 use Rattle.dm_checker.proofs.headers.put_all_mapped_away.Given as goal
 
-abbrev pub invariant-loop-watched : goal.invariant-loop-watched
-invariant-loop-watched l = (S : Memory) → l.windows ≡ S.windows → All (IsWatched S) l.headers →
+abbrev pub invariant-loop-copy : goal.invariant-loop-copy
+invariant-loop-copy l = (S : Memory) → l.windows ≡ S.windows → All (IsHeaderCopy S) l.headers →
     l.out.items ≡ l.initial.out.items ++ flat_map (mapped_away S l.space.memory)
-    (map header_of (take l.watched-index l.headers))
+    (map header_of (take l.copy-index l.headers))

@@ -16,9 +16,9 @@ returns-in-None-clause-ok c =
     c.in_ok-put_touched.ensures c.in-None.ensures.answers in
     goes_on c.args.free s t v c.look.new.kept c.args.origins.now c.look.new.origins c.put_touched.new.out.items
     c.look.new.out.items c.deref.result.now c.args.report.now c.tell_step.new.report c.in-None.ensures.answers
-    touched (c.in_ok-look-in-None.ensures.looks s before c.requires.watch) c.deref.ensures.value
-    (c.in_ok-tell_step-in-None.ensures s before) c.in_ok-look-in-None.ensures.watch
-    (c.in_ok-look-in-None.ensures.knows s before c.requires.watch)
+    touched (c.in_ok-look-in-None.ensures.looks s before c.requires.arena) c.deref.ensures.value
+    (c.in_ok-tell_step-in-None.ensures s before) c.in_ok-look-in-None.ensures.arena
+    (c.in_ok-look-in-None.ensures.knows s before c.requires.arena)
 
 pub returns-in-Some-call-clause-ok : goal.returns-in-Some-call-clause-ok
 returns-in-Some-call-clause-ok c =
@@ -37,8 +37,8 @@ returns-in-Some-call-clause-ok c =
     subst F (sym exited)
     (exits c.args.free s t code c.check_end.new.kept c.args.origins.now c.check_end.new.origins c.args.report.now
     c.check_end.new.report (subst A exited c.make_step-stop.ensures.answers)
-    (c.in_ok-check_end-in-Some-Exited.ensures.finds s before c.requires.watch touched)
-    (c.in_ok-check_end-in-Some-Exited.ensures.knows s before c.requires.watch))
+    (c.in_ok-check_end-in-Some-Exited.ensures.finds s before c.requires.arena touched)
+    (c.in_ok-check_end-in-Some-Exited.ensures.knows s before c.requires.arena))
 
 pub returns-in-Some-Exited-clause-ok : goal.returns-in-Some-Exited-clause-ok
 returns-in-Some-Exited-clause-ok c =
@@ -52,5 +52,5 @@ returns-in-Some-Exited-clause-ok c =
     let exited : c.make_step-stop.result ≡ Some (Exited code) = c.in-Some-Exited.is ∙ ap (λ (x : Stop). Some x) is in
     subst F (sym exited)
     (was_over c.args.free s t c.of-before.result code c.args.kept.now c.args.origins.now c.args.report.now
-    (subst A exited c.make_step-stop.ensures.answers) c.of-before.ensures c.in_default.is c.requires.watch
+    (subst A exited c.make_step-stop.ensures.answers) c.of-before.ensures c.in_default.is c.requires.arena
     c.tables_and_memory_are_consistent.ensures)

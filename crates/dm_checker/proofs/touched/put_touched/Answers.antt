@@ -3,7 +3,7 @@ use Rattle.std.proofs.lemmas.Result.{on_ok_weaker}
 use Rattle.dm_ins.specs.declared.ins.Ins.{Ins}
 use Rattle.dm_touches.specs.Elements.{bytes_of}
 use Rattle.dm_touches.specs.Found.{of_headers}
-use Rattle.dm_checker.specs.Watching.{header_of, broken_at}
+use Rattle.dm_checker.specs.ArenaCopy.{header_of, broken_at}
 use Rattle.dm_checker.specs.inner.Steps.{IsNextAct}
 use Rattle.dm_checker.proofs.Touching.{touches_none, touches_some}
 use Rattle.dm_checker.proofs.touched.put_touched.Goals as goal

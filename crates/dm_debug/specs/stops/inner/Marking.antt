@@ -31,9 +31,9 @@ end_of (Call n) = n / 4 + 1
 end_of (Function n ah) = n / 4 + 1
 
 -- whether marks tell whether the event can come: a range ends below C0000h, where an address is its own place
-abbrev pub is_quick : Event → Bool
-is_quick (Change r) = nat_le (r.address + r.length) 0xC0000
-is_quick _ = true
+abbrev pub is_markable : Event → Bool
+is_markable (Change r) = nat_le (r.address + r.length) 0xC0000
+is_markable _ = true
 
 -- the paragraphs of an event have this level or a higher one
 abbrev pub HasLevel : ℕ → List ℕ → Event → Type 0

@@ -6,6 +6,6 @@ use Rattle.dm_json.proofs.objects.put_left_out_object.Goals as goal
 pub returns : goal.returns
 returns c =
     let old = c.args.out.now.items in
-    let count = behind old (opening (codes "not_listed")) (number_member (codes "findings") c.args.not_listed) _ _
+    let count = behind old (opening (codes "omitted")) (number_member (codes "findings") c.args.omitted) _ _
     c.in_ok-put_opening.ensures c.in_ok-put_number_member.ensures in
     ends_with c.extend_from_slice.result old _ object_end _ _ _ count c.extend_from_slice.ensures.items

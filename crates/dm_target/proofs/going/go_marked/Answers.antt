@@ -20,9 +20,9 @@ loop-init c = record {
 
 pub returns-in-Some-clause-goes : goal.returns-in-Some-clause-goes
 returns-in-Some-clause-goes c =
-    let near : c.run_near-made.new.history.machine ≡ c.loop.history.machine =
+    let near : c.run_unhit-made.new.history.machine ≡ c.loop.history.machine =
     near_none c.args.points.now c.args.watches.now c.args.span c.loop.history.machine
-    c.run_near-made.new.history.machine c.run_near-made.result c.run_near-made.ensures.near c.if-made-eq0.true in
+    c.run_unhit-made.new.history.machine c.run_unhit-made.result c.run_unhit-made.ensures.near c.if-made-eq0.true in
     ends_with c.args.points.now c.args.watches.now c.args.span c.args.history.now.machine c.loop.history.machine
     c.look_on.new.history.machine c.args.most c.loop.left c.look_on.result c.in-Some.pause c.in-Some.is
     (omega (arith, c.loop.invariant.counted)) (omega arith) c.loop.invariant.passes
@@ -32,9 +32,9 @@ returns-in-Some-clause-goes c =
 pub returns-then-has_arrived-clause-goes : goal.returns-then-has_arrived-clause-goes
 returns-then-has_arrived-clause-goes c =
     near_arrives c.args.points.now c.args.watches.now c.args.span c.args.history.now.machine c.loop.history.machine
-    c.run_near-made.new.history.machine c.args.most c.loop.left c.run_near-made.result
-    (omega (arith, c.loop.invariant.counted)) c.run_near-made.ensures.most (omega arith) c.loop.invariant.passes
-    c.run_near-made.ensures.near
+    c.run_unhit-made.new.history.machine c.args.most c.loop.left c.run_unhit-made.result
+    (omega (arith, c.loop.invariant.counted)) c.run_unhit-made.ensures.most (omega arith) c.loop.invariant.passes
+    c.run_unhit-made.ensures.near
     (ap (λ s. has_arrived c.args.points.now c.args.span s) (sym c.machine.ensures) ∙ sym c.has_arrived.ensures
     ∙ c.if-has_arrived.true)
 
@@ -45,9 +45,9 @@ loop-preserved c = elim c.if-made-eq0.branch [
       let ws = c.args.watches.now in
       let span = c.args.span in
       let s = c.args.history.now.machine in
-      let near : c.run_near-made.new.history.machine ≡ c.loop.history.machine =
-      near_none ps ws span c.loop.history.machine c.run_near-made.new.history.machine c.run_near-made.result
-      c.run_near-made.ensures.near w.if-made-eq0.true in
+      let near : c.run_unhit-made.new.history.machine ≡ c.loop.history.machine =
+      near_none ps ws span c.loop.history.machine c.run_unhit-made.new.history.machine c.run_unhit-made.result
+      c.run_unhit-made.ensures.near w.if-made-eq0.true in
       let left : c.if-made-eq0.left ≡ c.loop.left - 1 = w.left-is in
       record {
         counted = omega (arith, left, c.loop.invariant.counted, c.if-left-eq0.false);
@@ -61,8 +61,8 @@ loop-preserved c = elim c.if-made-eq0.branch [
             (subst (λ (x : State). Ends ps ws span x w.look_on.result w.look_on.new.history.machine) near
             w.look_on.ensures.ends));
         beginning = ap (λ (x : Timeline). x.beginning) w.history-is ∙ w.look_on.ensures.beginning
-            ∙ c.run_near-made.ensures.beginning ∙ c.loop.invariant.beginning;
-        edits = ap (λ (x : Timeline). x.edits) w.history-is ∙ w.look_on.ensures.edits ∙ c.run_near-made.ensures.edits
+            ∙ c.run_unhit-made.ensures.beginning ∙ c.loop.invariant.beginning;
+        edits = ap (λ (x : Timeline). x.edits) w.history-is ∙ w.look_on.ensures.edits ∙ c.run_unhit-made.ensures.edits
             ∙ c.loop.invariant.edits;
       }
   | else-made-eq0+else-has_arrived w ↦
@@ -70,18 +70,18 @@ loop-preserved c = elim c.if-made-eq0.branch [
       let ws = c.args.watches.now in
       let span = c.args.span in
       let s = c.args.history.now.machine in
-      let left : c.if-made-eq0.left ≡ c.loop.left - c.run_near-made.result = w.left-is in
+      let left : c.if-made-eq0.left ≡ c.loop.left - c.run_unhit-made.result = w.left-is in
       record {
-        counted = omega (arith, left, c.loop.invariant.counted, w.if-made-eq0.false, c.run_near-made.ensures.most);
-        passes = passes_at ps ws span s c.run_near-made.new.history c.if-made-eq0.history c.args.most
-            (c.loop.left - c.run_near-made.result) c.if-made-eq0.left w.history-is left
-            (more_passes ps ws span s c.loop.history.machine c.run_near-made.new.history.machine c.args.most c.loop.left
-            c.run_near-made.result (omega (arith, c.loop.invariant.counted)) c.run_near-made.ensures.most
-            c.loop.invariant.passes c.run_near-made.ensures.near
+        counted = omega (arith, left, c.loop.invariant.counted, w.if-made-eq0.false, c.run_unhit-made.ensures.most);
+        passes = passes_at ps ws span s c.run_unhit-made.new.history c.if-made-eq0.history c.args.most
+            (c.loop.left - c.run_unhit-made.result) c.if-made-eq0.left w.history-is left
+            (more_passes ps ws span s c.loop.history.machine c.run_unhit-made.new.history.machine c.args.most
+            c.loop.left c.run_unhit-made.result (omega (arith, c.loop.invariant.counted)) c.run_unhit-made.ensures.most
+            c.loop.invariant.passes c.run_unhit-made.ensures.near
             (ap (λ x. has_arrived ps span x) (sym w.machine.ensures) ∙ sym w.has_arrived.ensures
             ∙ w.if-has_arrived.false));
-        beginning = ap (λ (x : Timeline). x.beginning) w.history-is ∙ c.run_near-made.ensures.beginning
+        beginning = ap (λ (x : Timeline). x.beginning) w.history-is ∙ c.run_unhit-made.ensures.beginning
             ∙ c.loop.invariant.beginning;
-        edits = ap (λ (x : Timeline). x.edits) w.history-is ∙ c.run_near-made.ensures.edits ∙ c.loop.invariant.edits;
+        edits = ap (λ (x : Timeline). x.edits) w.history-is ∙ c.run_unhit-made.ensures.edits ∙ c.loop.invariant.edits;
       }
 ]

@@ -97,7 +97,7 @@ returns-then-listed-clause-ok c s n way =
     let made = subst (λ (f : Bool). HasChecked f s (n - (c.loop.left - c.run_unmarked-left.result - 1)) v
     c.look_at_step.new.origins report) (sym c.loop.invariant.free) x in (
       going (c.loop.invariant.over ∙ over) (made_of s v n _ (omega (arith, few)) made)
-          (c.in_ok-stop.ensures.ok.watch c.in_default-2.is),
+          (c.in_ok-stop.ensures.ok.arena c.in_default-2.is),
       omega (arith, c.loop.invariant.few, most, less),
       c.loop.invariant.free ∙ free,
     )
@@ -163,7 +163,7 @@ loop-preserved c =
           v None c.look_at_step.new.kept c.look_at_step.new.origins report x);
       over = c.loop.invariant.over;
       free = c.loop.invariant.free;
-      watch = c.in_ok-stop.ensures.ok.watch c.in_default-2.is;
+      arena = c.in_ok-stop.ensures.ok.arena c.in_default-2.is;
       program = c.look_at_step.ensures.program;
     }
 

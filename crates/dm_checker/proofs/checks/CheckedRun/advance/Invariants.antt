@@ -1,7 +1,7 @@
 use Rattle.std.proofs.Common.{◌≡◌, ◌+◌, ◌-◌, ◌≤◌, ℕ, true, length}
 use Rattle.dm_services.specs.state.State.{State, HasProgram}
 use Rattle.dm_checker.specs.Checking.{IsUnderWay, IsLonger}
-use Rattle.dm_checker.specs.Watching.{IsWatch}
+use Rattle.dm_checker.specs.ArenaCopy.{IsArenaCopy}
 use Rattle.dm_checker.proofs.Checking.{HasChecked}
 use Rattle.dm_checker.proofs.checks.CheckedRun.advance.Given as goal
 
@@ -14,6 +14,6 @@ invariant-loop l = record {
   longer : IsLonger l.fn.self.report l.self-inside.report;
   over : l.self-inside.over ≡ l.fn.self.over;
   free : l.self-inside.free ≡ l.free;
-  watch : IsWatch l.machine.upper l.machine.memory l.self-inside.kept;
+  arena : IsArenaCopy l.machine.upper l.machine.memory l.self-inside.kept;
   program : HasProgram l.machine;
 }

@@ -22,5 +22,5 @@ returns-then-is_known-clause-ok c =
     let same : length c.count_again.new.lines ≡ c.self.inside.listed.len =
     omega (arith, ap (λ (l : List Listed). length l) changed, length-map c.self.inside.listed.items (counted f)) in
     enters_again f old _ known (with_items_is c.self.inside.listed c.count_again.new.lines same ∙ changed
-    ∙ ap (map (counted f)) lines) (ap (λ (r : Reported). r.not_listed) c.self.view_is)
+    ∙ ap (map (counted f)) lines) (ap (λ (r : Reported). r.omitted) c.self.view_is)
     (ap (λ (r : Reported). r.errors) c.self.view_is) (ap (λ (r : Reported). r.notes) c.self.view_is)

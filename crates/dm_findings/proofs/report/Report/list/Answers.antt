@@ -18,7 +18,7 @@ returns-in_ok-push-clause-ok c =
     let room : nat_lt (count_by (is_kind (is_an_error f)) old.listed) 100 ≡ true =
     rw (sym counted) (let less = c.if-count_kind-lt-MOST.true in grind (arith, nat_tests)) in
     enters_new f old _ c.requires room (c.in_ok-push.ensures.items ∙ ap (λ (l : List Listed). l ++ line_of f []
-    ∷ []) lines) (ap (λ (r : Reported). r.not_listed) c.self.view_is)
+    ∷ []) lines) (ap (λ (r : Reported). r.omitted) c.self.view_is)
     (ap (λ (r : Reported). r.errors) c.self.view_is) (ap (λ (r : Reported). r.notes) c.self.view_is)
 
 pub returns-else-count_kind-lt-MOST-clause-ok : goal.returns-else-count_kind-lt-MOST-clause-ok
@@ -31,5 +31,5 @@ returns-else-count_kind-lt-MOST-clause-ok c =
     let room : nat_lt (count_by (is_kind (is_an_error f)) old.listed) 100 ≡ false =
     rw (sym counted) (let least = c.if-count_kind-lt-MOST.false in grind (arith, nat_tests)) in
     enters_out f old _ c.requires room lines (c.saturating_add-self-inside.ensures
-    ∙ ap (λ (r : Reported). min (r.not_listed + 1) most_counted) c.self.view_is)
+    ∙ ap (λ (r : Reported). min (r.omitted + 1) most_counted) c.self.view_is)
     (ap (λ (r : Reported). r.errors) c.self.view_is) (ap (λ (r : Reported). r.notes) c.self.view_is)

@@ -4,5 +4,5 @@ use Rattle.dm_findings.proofs.Reports.{none-reported}
 use Rattle.dm_findings.proofs.report.Report.new.Goals as goal
 
 pub returns : goal.returns
-returns c = ap (λ (l : List Listed). record { listed = l; errors = 0; notes = 0; not_listed = 0 }) c.new.ensures.items
+returns c = ap (λ (l : List Listed). record { listed = l; errors = 0; notes = 0; omitted = 0 }) c.new.ensures.items
     ∙ sym none-reported

@@ -2,8 +2,8 @@
 
 ghost use Rattle.std.specs.Prelude.{◌≡◌, ◌≢◌, All, false, IfOk, MatchBool, None, Some};
 ghost use Rattle.dm_blocks.specs.Listing.{start_of};
-ghost use Rattle.dm_checker.specs.Watching.{IsBits, IsWatched, IsWatch, IsBrokenIn};
-ghost use Rattle.dm_checker.specs.inner.Watching.{IsSeen, Collects, CollectsSecond, CollectsAll};
+ghost use Rattle.dm_checker.specs.ArenaCopy.{IsBits, IsHeaderCopy, IsArenaCopy, IsBrokenIn};
+ghost use Rattle.dm_checker.specs.inner.ArenaCopy.{IsSeen, Collects, CollectsSecond, CollectsAll};
 
 use crate::marking::marks_of;
 use dm_blocks::{Header, Headers, Met, is_linked, walk};
@@ -18,7 +18,7 @@ const FIVE: u64 = 0x100_0000_0000;
 
 /// A header as it was read, and its bytes 0 to 4 as a number, the first byte lowest.
 #[derive(Clone, Copy)]
-pub(crate) struct Watched {
+pub(crate) struct HeaderCopy {
     pub(crate) header: Header,
     pub(crate) bits: u64,
 }
@@ -33,8 +33,8 @@ pub(crate) struct Broken {
 /// What memory shows of the arena: the headers of its lists, where a list breaks (None: nowhere), whether upper memory
 /// belongs to the arena, and what the windows show; and marks on the memory of which something may be found.
 #[derive(Drop)]
-pub(crate) struct Watch {
-    pub(crate) headers: Vec<Watched>,
+pub(crate) struct ArenaCopy {
+    pub(crate) headers: Vec<HeaderCopy>,
     pub(crate) broken: Option<Broken>,
     pub(crate) upper: bool,
     pub(crate) windows: [Option<Block>; 4],
@@ -66,11 +66,11 @@ pub(crate) fn bits_at(space: &Space, segment: u16) -> u64
 }
 
 /// A header together with the five bytes that memory has at its segment.
-fn watched_of(space: &Space, header: Header) -> Watched
-    ensures watched { IsWatched space.now.memory result }
+fn copy_of(space: &Space, header: Header) -> HeaderCopy
+    ensures copied { IsHeaderCopy space.now.memory result }
     ensures header { result.header ≡ header }
 {
-    Watched {
+    HeaderCopy {
         header,
         bits: bits_at(space, header.segment),
     }
@@ -90,7 +90,7 @@ fn broken_of(space: &Space, segment: u16) -> Broken
 /// Appends the headers of the list that a walk is at the start of. Returns the walk at the end of its list, or as an
 /// inner `Err` the segment where the list breaks. The outer `Err` is a failed allocation.
 fn collect<'a>(
-    out: &mut Vec<Watched>,
+    out: &mut Vec<HeaderCopy>,
     space: &Space,
     headers: Headers<'a>,
 ) -> Result<Result<Headers<'a>, u16>, AllocError>
@@ -101,7 +101,7 @@ fn collect<'a>(
     let mut walked = headers;
     'walk: loop {
         match walked.advance() {
-            Met::Told(entry) => out.push(watched_of(space, entry.header))?,
+            Met::Told(entry) => out.push(copy_of(space, entry.header))?,
             Met::End => return Ok(Ok(walked)),
             Met::Destroyed(segment) => return Ok(Err(segment)),
         }
@@ -111,7 +111,7 @@ fn collect<'a>(
 /// Appends the headers of the second list, that of upper memory; `first` is the walk at the end of the first list.
 /// Returns where the second list breaks, or None. An `Err` is a failed allocation.
 fn collect_second(
-    out: &mut Vec<Watched>,
+    out: &mut Vec<HeaderCopy>,
     space: &Space,
     first: Headers<'_>,
 ) -> Result<Option<Broken>, AllocError>
@@ -130,7 +130,7 @@ fn collect_second(
 /// (`upper`) and the lists not linked, those of the second. Returns where a list breaks, or None. An `Err` is a failed
 /// allocation.
 fn collect_all(
-    out: &mut Vec<Watched>,
+    out: &mut Vec<HeaderCopy>,
     space: &Space,
     upper: bool,
 ) -> Result<Option<Broken>, AllocError>
@@ -147,8 +147,8 @@ fn collect_all(
 }
 
 /// What a machine's memory shows of the arena. An `Err` is a failed allocation.
-pub(crate) fn read_arena(alloc: Global, machine: &Machine) -> Result<Watch, AllocError>
-    ensures { IfOk result (λ w. IsWatch machine.now.upper machine.now.memory w) }
+pub(crate) fn read_arena(alloc: Global, machine: &Machine) -> Result<ArenaCopy, AllocError>
+    ensures { IfOk result (λ w. IsArenaCopy machine.now.upper machine.now.memory w) }
 {
     let space = machine.space();
     let upper = machine.upper();
@@ -156,7 +156,7 @@ pub(crate) fn read_arena(alloc: Global, machine: &Machine) -> Result<Watch, Allo
     let mut headers = Vec::new(alloc);
     let broken = collect_all(&mut headers, space, upper)?;
     let marks = marks_of(alloc, &headers, &windows)?;
-    Ok(Watch {
+    Ok(ArenaCopy {
         headers,
         broken,
         upper,
@@ -166,12 +166,12 @@ pub(crate) fn read_arena(alloc: Global, machine: &Machine) -> Result<Watch, Allo
 }
 
 /// Whether memory still has the five bytes of each header as they were read.
-fn are_seen(space: &Space, headers: &[Watched]) -> bool
-    ensures { MatchBool result (All (IsWatched space.now.memory) headers.now) (All (IsWatched space.now.memory)
+fn are_seen(space: &Space, headers: &[HeaderCopy]) -> bool
+    ensures { MatchBool result (All (IsHeaderCopy space.now.memory) headers.now) (All (IsHeaderCopy space.now.memory)
         headers.now → ⊥) }
 {
-    for watched in headers {
-        if bits_at(space, watched.header.segment) != watched.bits {
+    for copy in headers {
+        if bits_at(space, copy.header.segment) != copy.bits {
             return false;
         }
     }
@@ -209,7 +209,7 @@ fn are_same_windows(first: &[Option<Block>; 4], second: &[Option<Block>; 4]) -> 
         && is_same_window(first[3], second[3])
 }
 
-impl Watch {
+impl ArenaCopy {
     /// Finds out whether the segments of the machine's data and stack, and its extra segment, have marks. What is known
     /// of the arena stays.
     pub(crate) fn look_at_segments(&mut self, machine: &Machine)

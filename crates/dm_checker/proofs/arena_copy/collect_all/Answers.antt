@@ -1,7 +1,7 @@
 use Rattle.std.proofs.Common.{false}
 use Rattle.std.proofs.lemmas.Result.{IfOk-weaker}
 use Rattle.dm_checker.proofs.Shown.{collects_at, all_cut, all_parted, parted_by}
-use Rattle.dm_checker.proofs.watch.collect_all.Goals as goal
+use Rattle.dm_checker.proofs.arena_copy.collect_all.Goals as goal
 
 pub returns-in-Err : goal.returns-in-Err
 returns-in-Err c = all_cut c.args.upper c.args.space.now.memory c.walk.result c.in-Err.at c.broken_of.result _ _

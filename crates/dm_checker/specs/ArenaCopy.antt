@@ -4,9 +4,9 @@ use Rattle.std.specs.Prelude.{◌≡◌, ℕ, ◌+◌, ◌*◌, ◌<◌, Bool, A
 use Rattle.dm_space.specs.Memory.{Memory, peek}
 use Rattle.dm_space.specs.EightBytes.{little}
 use Rattle.dm_blocks.specs.declared.header.Header.{Header}
-use Rattle.dm_checker.specs.declared.watch.Watched.{Watched}
-use Rattle.dm_checker.specs.declared.watch.Broken.{Broken}
-use Rattle.dm_checker.specs.declared.watch.Watch.{Watch}
+use Rattle.dm_checker.specs.declared.arena_copy.HeaderCopy.{HeaderCopy}
+use Rattle.dm_checker.specs.declared.arena_copy.Broken.{Broken}
+use Rattle.dm_checker.specs.declared.arena_copy.ArenaCopy.{ArenaCopy}
 use Rattle.dm_checker.specs.Marking.{IsMarked}
 use Rattle.dm_checker.specs.Shown.{IsShown}
 
@@ -23,13 +23,13 @@ pub record IsBits (m : Memory) (segment bits : ℕ) : Type 0 where
 
 -- ---- headers
 
--- the header that is watched, without its bytes
-abbrev pub header_of : Watched → Header
+-- the header of a copy, without its bytes
+abbrev pub header_of : HeaderCopy → Header
 header_of w = w.header
 
--- the bytes kept of the watched header are those that memory has at its segment
-abbrev pub IsWatched : Memory → Watched → Type 0
-IsWatched m w = IsBits m w.header.segment w.bits
+-- the bytes kept of the header are those that memory has at its segment
+abbrev pub IsHeaderCopy : Memory → HeaderCopy → Type 0
+IsHeaderCopy m w = IsBits m w.header.segment w.bits
 
 -- the segment where a list breaks; None if it does not
 abbrev pub broken_at : Option Broken → Option ℕ
@@ -41,10 +41,10 @@ abbrev pub IsBrokenIn : Memory → Option Broken → Type 0
 IsBrokenIn m broken = IfSome broken (λ b. IsBits m b.segment b.bits)
 
 -- w is what memory m shows of the arena, and by which windows; `upper` is whether upper memory belongs to the arena
-pub record IsWatch (upper : Bool) (m : Memory) (w : Watch) : Type 0 where
+pub record IsArenaCopy (upper : Bool) (m : Memory) (w : ArenaCopy) : Type 0 where
   pub setting : w.upper ≡ upper
   pub windows : w.windows ≡ m.windows
   pub shown : IsShown upper m (record { headers = map header_of w.headers.items; broken = broken_at w.broken })
-  pub headers : All (IsWatched m) w.headers.items
+  pub headers : All (IsHeaderCopy m) w.headers.items
   pub there : IsBrokenIn m w.broken
   pub marked : IsMarked w.windows w.headers.items w.marks

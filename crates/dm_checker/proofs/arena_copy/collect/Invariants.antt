@@ -1,5 +1,5 @@
 use Rattle.dm_checker.proofs.Collected.{Collecting, ahead}
-use Rattle.dm_checker.proofs.watch.collect.Given as goal
+use Rattle.dm_checker.proofs.arena_copy.collect.Given as goal
 
 abbrev pub invariant-walk : goal.invariant-walk
 invariant-walk l = Collecting l.initial.walked l.initial.out.items l.walked l.out.items

@@ -16,14 +16,14 @@ use Rattle.dm_space.proofs.Places.{peek-place, place-windows}
 use Rattle.dm_touches.specs.declared.elements.FarAddress.{FarAddress}
 use Rattle.dm_touches.specs.Elements.{linear_of, byte_place, bytes_of}
 use Rattle.dm_touches.specs.Laws.{KeepsOthers}
-use Rattle.dm_checker.specs.declared.watch.Watched.{Watched}
-use Rattle.dm_checker.specs.declared.watch.Broken.{Broken}
-use Rattle.dm_checker.specs.declared.watch.Watch.{Watch}
-use Rattle.dm_checker.specs.Watching.{IsBits, IsWatched, IsBrokenIn, IsWatch}
-use Rattle.dm_checker.specs.inner.Watching.{IsSeen}
+use Rattle.dm_checker.specs.declared.arena_copy.HeaderCopy.{HeaderCopy}
+use Rattle.dm_checker.specs.declared.arena_copy.Broken.{Broken}
+use Rattle.dm_checker.specs.declared.arena_copy.ArenaCopy.{ArenaCopy}
+use Rattle.dm_checker.specs.ArenaCopy.{IsBits, IsHeaderCopy, IsBrokenIn, IsArenaCopy}
+use Rattle.dm_checker.specs.inner.ArenaCopy.{IsSeen}
 use Rattle.dm_touches.specs.declared.elements.Elements.{Elements}
-use Rattle.dm_checker.specs.Clear.{is_free_of, is_at, is_high, keeps_writes, is_write_clear}
-use Rattle.dm_checker.specs.inner.Clear.{IsClear}
+use Rattle.dm_checker.specs.Unfound.{is_free_of, is_at, is_high, keeps_writes, is_write_unfound}
+use Rattle.dm_checker.specs.inner.Unfound.{FindsNothing}
 use Rattle.dm_checker.proofs.Unfound.{and_left, and_right, not_false, are_all, elements_all}
 
 -- ---- places
@@ -66,11 +66,11 @@ no_page m b p k less x = (let low : nat_lt b 0xE0000 ≡ true = grind (arith, na
     page_by m b p k (nat_lt b 0xC0000) (nat_lt b 0xD0000) (nat_lt b 0xE0000) _ x low)
 
 -- where a write goes of which nothing is found
-data Goes (m : Memory) (xs : List Watched) (a : ℕ) : Type 0 where
+data Goes (m : Memory) (xs : List HeaderCopy) (a : ℕ) : Type 0 where
   to_ram : place m a ≡ Low a → Goes m xs a
   to_page : (p k : ℕ) → place m a ≡ Page p k → list_any is_high xs ≡ false → Goes m xs a
 
-page_shown : (m : Memory) (xs : List Watched) (a k : ℕ) (o : Option ℕ) → place m a ≡ shown o k →
+page_shown : (m : Memory) (xs : List HeaderCopy) (a k : ℕ) (o : Option ℕ) → place m a ≡ shown o k →
     (is_some o && not (list_any is_high xs)) ≡ true → Goes m xs a
 page_shown m xs a k None x e = absurd (false≢true e)
 page_shown m xs a k (Some p) x e = to_page p k x (not_false _ e)
@@ -80,7 +80,7 @@ PlaceBy m a c d e f g h = if c then Low a else if d then Nothing else if e then 
     shown (slice_index_or m.windows ((a - 0xE0000) / 0x4000) None) ((a - 0xE0000) % 0x4000) else if g then
     Rom (a - 0xF0000) else if h then Low a else Nothing
 
-goes_by : (m : Memory) (xs : List Watched) (a : ℕ) (c d e f g h : Bool) → place m a ≡ PlaceBy m a c d e f g h →
+goes_by : (m : Memory) (xs : List HeaderCopy) (a : ℕ) (c d e f g h : Bool) → place m a ≡ PlaceBy m a c d e f g h →
     (if c then true else if d then false else if e then true else if f then
     is_some (slice_index_or m.windows ((a - 0xE0000) / 0x4000) None) && not (list_any is_high xs) else not g &&
     h) ≡ true → Goes m xs a
@@ -93,7 +93,7 @@ goes_by m xs a false false false false true h x t = absurd (false≢true t)
 goes_by m xs a false false false false false true x t = to_ram x
 goes_by m xs a false false false false false false x t = absurd (false≢true t)
 
-goes : (m : Memory) (xs : List Watched) (a : ℕ) → keeps_writes m xs a ≡ true → Goes m xs a
+goes : (m : Memory) (xs : List HeaderCopy) (a : ℕ) → keeps_writes m xs a ≡ true → Goes m xs a
 unfolding place
 goes m xs a t = goes_by m xs a (nat_lt a 0xC0000) (nat_lt a 0xD0000) (nat_lt a 0xE0000) (nat_lt a 0xF0000)
     (nat_lt a 0x100000) (nat_lt a 0x10FFF0) refl t
@@ -109,7 +109,8 @@ other_paragraph h a k e less same =
     let equal : (h == a / 16) ≡ true = grind (arith, nat_tests) in
     false≢true (sym e ∙ equal)
 
-apart : (m : Memory) (xs : List Watched) (x : Watched) (a k : ℕ) → (list_any is_high xs ≡ false → is_high x ≡ false) →
+apart : (m : Memory) (xs : List HeaderCopy) (x : HeaderCopy) (a k : ℕ) →
+    (list_any is_high xs ≡ false → is_high x ≡ false) →
     (x.header.segment == a / 16) ≡ false → k < 5 → Goes m xs a → place m a ≢ place m (16 * x.header.segment + k)
 apart m xs x a k low other less (to_ram here) same = other_paragraph x.header.segment a k other less
     (at_low m a (16 * x.header.segment + k) (sym same ∙ here))
@@ -125,34 +126,34 @@ or_right true b e = (let z : true ≡ false = e in cc)
 or_right false b e = e
 
 -- x is among the headers ys that are left of xs
-record IsLeft (xs ys : List Watched) : Type 0 where
+record IsLeft (xs ys : List HeaderCopy) : Type 0 where
   low : list_any is_high xs ≡ false → list_any is_high ys ≡ false
   other : (a : ℕ) → list_any (is_at a) xs ≡ false → list_any (is_at a) ys ≡ false
 
-left_tail : (xs : List Watched) (y : Watched) (ys : List Watched) → IsLeft xs (y ∷ ys) → IsLeft xs ys
+left_tail : (xs : List HeaderCopy) (y : HeaderCopy) (ys : List HeaderCopy) → IsLeft xs (y ∷ ys) → IsLeft xs ys
 left_tail xs y ys l = record {
   low = λ e. or_right (is_high y) (list_any is_high ys) (l.low e);
   other = λ a e. or_right (is_at a y) (list_any (is_at a) ys) (l.other a e);
 }
 
 -- none of the bytes that are written is at the place of a byte of the header
-all_apart : (m : Memory) (xs : List Watched) (y : Watched) (ys : List Watched) (k : ℕ) → IsLeft xs (y ∷ ys) → k < 5 →
-    (fs : List FarAddress) → are_all (is_write_clear m xs) m.a20 fs ≡ true →
+all_apart : (m : Memory) (xs : List HeaderCopy) (y : HeaderCopy) (ys : List HeaderCopy) (k : ℕ) → IsLeft xs (y ∷ ys) →
+    k < 5 → (fs : List FarAddress) → are_all (is_write_unfound m xs) m.a20 fs ≡ true →
     All (λ (f : FarAddress). byte_place m f ≢ place m (16 * y.header.segment + k)) fs
 all_apart m xs y ys k l less [] e = All-nil (λ (g : FarAddress). byte_place m g ≢ place m (16 * y.header.segment + k))
 all_apart m xs y ys k l less (f ∷ fs) e =
     let a = linear_of m.a20 f in
-    let here : is_write_clear m xs a ≡ true = and_left (is_write_clear m xs a) _ e in
+    let here : is_write_unfound m xs a ≡ true = and_left (is_write_unfound m xs a) _ e in
     let free : list_any (is_at a) xs ≡ false = not_false _ (and_right (keeps_writes m xs a) _ here) in
     let at : is_at a y ≡ false = or_left (is_at a y) (list_any (is_at a) ys) (l.other a free) in
     let other : (y.header.segment == a / 16) ≡ false = or_right (is_free_of a y) (y.header.segment == a / 16) at in
     All-cons (λ (g : FarAddress). byte_place m g ≢ place m (16 * y.header.segment + k)) f fs
     (apart m xs y a k (λ none. or_left (is_high y) (list_any is_high ys) (l.low none)) other less
     (goes m xs a (and_left (keeps_writes m xs a) _ here)))
-    (all_apart m xs y ys k l less fs (and_right (is_write_clear m xs a) _ e))
+    (all_apart m xs y ys k l less fs (and_right (is_write_unfound m xs a) _ e))
 
-same_byte : (m n : Memory) (xs : List Watched) (y : Watched) (ys : List Watched) (fs : List FarAddress) →
-    KeepsOthers m n fs → are_all (is_write_clear m xs) m.a20 fs ≡ true → IsLeft xs (y ∷ ys) → (k : ℕ) → k < 5 →
+same_byte : (m n : Memory) (xs : List HeaderCopy) (y : HeaderCopy) (ys : List HeaderCopy) (fs : List FarAddress) →
+    KeepsOthers m n fs → are_all (is_write_unfound m xs) m.a20 fs ≡ true → IsLeft xs (y ∷ ys) → (k : ℕ) → k < 5 →
     peek n (16 * y.header.segment + k) ≡ peek m (16 * y.header.segment + k)
 same_byte m n xs y ys fs keeps e l k less =
     let a = 16 * y.header.segment + k in
@@ -172,13 +173,13 @@ bits_kept m n h bits same x = record {
   bytes = λ k less. (let F : ℕ → Type 0 = λ v. v < 256 in subst F (sym (same k less)) (x.bytes k less));
 }
 
-headers_kept : (m n : Memory) (xs ys : List Watched) (fs : List FarAddress) → KeepsOthers m n fs →
-    are_all (is_write_clear m xs) m.a20 fs ≡ true → IsLeft xs ys → All (IsWatched m) ys → All (IsWatched n) ys
-headers_kept m n xs [] fs keeps e l w = All-nil (IsWatched n)
+headers_kept : (m n : Memory) (xs ys : List HeaderCopy) (fs : List FarAddress) → KeepsOthers m n fs →
+    are_all (is_write_unfound m xs) m.a20 fs ≡ true → IsLeft xs ys → All (IsHeaderCopy m) ys → All (IsHeaderCopy n) ys
+headers_kept m n xs [] fs keeps e l w = All-nil (IsHeaderCopy n)
 headers_kept m n xs (y ∷ ys) fs keeps e l w =
-    All-cons (IsWatched n) y ys
-    (bits_kept m n y.header.segment y.bits (same_byte m n xs y ys fs keeps e l) (All-head (IsWatched m) y ys w))
-    (headers_kept m n xs ys fs keeps e (left_tail xs y ys l) (All-tail (IsWatched m) y ys w))
+    All-cons (IsHeaderCopy n) y ys
+    (bits_kept m n y.header.segment y.bits (same_byte m n xs y ys fs keeps e l) (All-head (IsHeaderCopy m) y ys w))
+    (headers_kept m n xs ys fs keeps e (left_tail xs y ys l) (All-tail (IsHeaderCopy m) y ys w))
 
 -- ---- memory still shows what was kept
 
@@ -202,16 +203,16 @@ broken_none : (m : Memory) (o : Option Broken) → o ≡ None → IsBrokenIn m o
 broken_none m None e = tt
 broken_none m (Some b) e = absurd (cc)
 
-pub seen_clear : (upper : Bool) (m n : Memory) (w : Watch) (rs ws : Elements) → IsWatch upper m w →
+pub seen_unfound : (upper : Bool) (m n : Memory) (w : ArenaCopy) (rs ws : Elements) → IsArenaCopy upper m w →
     ((k : ℕ) → IfSome (slice_index_or m.windows k None) (IsPage m)) → KeepsOthers m n (bytes_of ws) →
-    IsClear m w rs ws → IsSeen upper n w
-seen_clear upper m n w rs ws x pages keeps c =
+    FindsNothing m w rs ws → IsSeen upper n w
+seen_unfound upper m n w rs ws x pages keeps c =
     let all : IsLeft w.headers.items w.headers.items = record { low = λ e. e; other = λ a e. e } in
     record {
       setting = sym x.setting;
       windows = keeps.shape.windows ∙ sym x.windows;
       pages = λ k. pages_kept m n keeps.shape k (pages k);
       headers = headers_kept m n w.headers.items w.headers.items (bytes_of ws) keeps
-          (elements_all (is_write_clear m w.headers.items) m.a20 ws c.writes) all x.headers;
+          (elements_all (is_write_unfound m w.headers.items) m.a20 ws c.writes) all x.headers;
       there = broken_none n w.broken c.whole;
     }

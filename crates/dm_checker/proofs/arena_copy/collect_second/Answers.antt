@@ -1,6 +1,6 @@
 use Rattle.std.proofs.Common.{◌∙◌}
 use Rattle.dm_checker.proofs.Shown.{collects_at, second_whole, second_broken}
-use Rattle.dm_checker.proofs.watch.collect_second.Goals as goal
+use Rattle.dm_checker.proofs.arena_copy.collect_second.Goals as goal
 
 pub returns-in-Ok : goal.returns-in-Ok
 returns-in-Ok c = second_whole c.args.space.now.memory c.walk_second.result _ _ _ (c.walk_second.ensures.memory
