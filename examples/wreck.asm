@@ -1,4 +1,4 @@
-; Overwrites the signature of its own arena header and requests a block: the block list is broken,
+; Overwrites the signature of the header of its own block and requests a block: the block list is broken,
 ; so the call returns error 7, which the program prints. Then it restores the header and ends.
         MOV AX,DS
         DEC AX                  ; the header is one paragraph below the prefix

@@ -148,7 +148,7 @@ typedef struct mezguld_event {
     uint8_t number, ah;
 } mezguld_event;
 
-/* A header of the DOS memory arena (a memory control block): its own segment (findings have that of its block, one
+/* A header of a block list of DOS (a memory control block): its own segment (findings have that of its block, one
  * above); the owner of the block, 0 if it is free, 8 for DOS, otherwise the segment of a program's PSP; the size of
  * the block in paragraphs; its signature, 5Ah (`Z`) in the last header of its list, otherwise 4Dh (`M`); and its
  * list: 0 for the first one, 1 for that of upper memory where the first does not lead to it. */
@@ -157,7 +157,7 @@ typedef struct mezguld_block {
     uint8_t signature, list;
 } mezguld_block;
 
-/* How the lists of headers end: whole (`destroyed` is 0), or at the segment `at`, where a header has to be and none
+/* How the block lists end: whole (`destroyed` is 0), or at the segment `at`, where a header has to be and none
  * can. */
 typedef struct mezguld_list_end {
     uint16_t destroyed, at;
@@ -240,7 +240,7 @@ typedef struct mezguld_place {
     uint16_t cs, ip, before;
 } mezguld_place;
 
-/* Bytes 0 to 4 of a header of the arena. */
+/* Bytes 0 to 4 of a header of a block list. */
 typedef struct mezguld_contents {
     uint16_t signature, owner, size;
 } mezguld_contents;
@@ -310,8 +310,8 @@ uint32_t mezguld_version(void);
 
 /* Makes a machine with so many pages of expanded memory (16 KiB each, at most 512), so many KiB of extended memory
  * (at most 15,360), no program, and these variables in the first program's environment: `NAME=VALUE`, each closed by
- * a zero byte, at most 32,767 bytes in all (NULL and 0 for none). Where `upper` is not 0, the DOS memory arena
- * continues in upper memory. `*machine` is the machine then; with any other status than OK it is NULL.
+ * a zero byte, at most 32,767 bytes in all (NULL and 0 for none). Where `upper` is not 0, DOS has a second block list,
+ * in upper memory. `*machine` is the machine then; with any other status than OK it is NULL.
  * BAD_VARIABLES, TOO_LARGE, VARIABLES_TOO_LONG, OUT_OF_MEMORY. */
 MEZGULD_MAKES(1) mezguld_status mezguld_new(mezguld **machine, uint32_t ems_pages, uint32_t xms_kib,
                                             const char *variables, size_t variables_count, uint32_t upper);
@@ -392,10 +392,10 @@ MEZGULD_CALL mezguld_status mezguld_read_linear(const mezguld *machine, uint32_t
  * NO_MACHINE, NOT_LOADED. */
 MEZGULD_CALL mezguld_status mezguld_write_linear(mezguld *machine, uint32_t address, const void *bytes, size_t count);
 
-/* Copies the headers of the DOS memory arena, in the order of their lists, into a buffer: those of the first list,
- * and then, if upper memory belongs to the arena and the first list is whole and does not lead there, those of the
- * second one. Writes how many they are into `*wanted`, and how the lists end into `*end`. (A list is what the
- * program's memory spells: of one that is destroyed, the headers are those before the place where it breaks.)
+/* Copies the headers of the block lists, in their order, into a buffer: those of the first list, and then, if upper
+ * memory has a list and the first one is whole and does not lead there, those of the second one. Writes how many
+ * they are into `*wanted`, and how the lists end into `*end`. (A list is what the program's memory spells: of one
+ * that is destroyed, the headers are those before the place where it breaks.)
  * NO_MACHINE, NOT_LOADED, OUT_OF_MEMORY, TOO_SMALL (then `*wanted` and `*end` alone are written). */
 MEZGULD_CALL mezguld_status mezguld_blocks(const mezguld *machine, mezguld_block *buffer, size_t room, size_t *wanted,
                                            mezguld_list_end *end);

@@ -39,7 +39,7 @@ static void must(mezguld_status status)
     }
 }
 
-/* Whether the debugger's listing of the arena says that a block list is destroyed. */
+/* Whether the debugger's listing says that a block list is destroyed. */
 static int is_broken(const char *text, size_t count)
 {
     static const char word[] = "destroyed";

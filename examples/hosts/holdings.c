@@ -1,5 +1,5 @@
-/* What a guest program holds, from C: its blocks of the DOS memory arena, its handles and pages of expanded memory, and
- * what the memory checker finds when it ends, all as records.
+/* What a guest program holds, from C: its blocks of DOS memory, its handles and pages of expanded memory, and what the
+ * memory checker finds when it ends, all as records.
  *
  * The guest keeps 512 bytes, allocates a block of five paragraphs and two pages of expanded memory, writes "Hi" to the
  * first page through window 0, and ends without freeing the pages. The host stops it before it ends, lists what it has,

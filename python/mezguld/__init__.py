@@ -870,8 +870,8 @@ class Machine:
         """A machine with so many pages of expanded memory (of 16 KiB, at most 512) and so many KiB of extended
         memory (at most 15,360).
 
-        `variables` is the environment of the first program, as `["PATH=C:"]`. With `upper` the DOS memory arena goes
-        on in upper memory. `TooLarge`, `VariablesTooLong` and `OutOfMemory` are raised where no machine is made.
+        `variables` is the environment of the first program, as `["PATH=C:"]`. With `upper` there is a second block
+        list, in upper memory. `TooLarge`, `VariablesTooLong` and `OutOfMemory` are raised where no machine is made.
         """
         ems_pages, xms_kib = operator.index(ems_pages), operator.index(xms_kib)
         for what, size in (("ems_pages", ems_pages), ("xms_kib", xms_kib)):
@@ -1214,8 +1214,8 @@ class Machine:
                 room = wanted.value
 
     def blocks(self) -> Blocks:
-        """The headers of the DOS memory arena, in their order: those of the first list, then those of the list in
-        upper memory, if there is one that is not linked. Of a destroyed list they are those before the bad header,
+        """The headers of the block lists, in their order: those of the first list, then those of the list in upper
+        memory, if there is one that is not linked. Of a destroyed list they are those before the bad header,
         and `destroyed` is its segment. `NotLoaded`."""
         from .records import Block, Blocks  # pylint: disable=import-outside-toplevel
 

@@ -37,7 +37,7 @@ __all__ = [
 
 @dataclass(frozen=True)
 class Block:
-    """A header of the DOS memory arena: its own segment (findings have that of its block, one above); whether it is
+    """A header of a block list of DOS: its own segment (findings have that of its block, one above); whether it is
     signed `Z` as the last of its list; the owner of the block (0: free; 8: DOS; else the segment of a program's
     prefix); the size of the block in paragraphs of 16 bytes; and its list: 0 for the first one, 1 for that of upper
     memory where the first does not lead to it. Its segments print in hexadecimal."""
@@ -56,8 +56,8 @@ class Block:
 
 
 class Blocks(list):
-    """A list of headers. `destroyed` is None, or the segment of the first bad header, at which the list breaks: the
-    headers are those before it."""
+    """The block lists, as a list of headers. `destroyed` is None, or the segment of the first bad header, at which a
+    block list breaks: the headers are those before it."""
 
     def __init__(self, blocks: Iterable[Block] = (), destroyed: int | None = None) -> None:
         super().__init__(blocks)
@@ -186,7 +186,7 @@ class Origin:
 
 @dataclass(frozen=True)
 class Contents:
-    """Bytes 0 to 4 of a header of the arena: signature, owner, and the size of its block in paragraphs."""
+    """Bytes 0 to 4 of a header of a block list: signature, owner, and the size of its block in paragraphs."""
 
     signature: int
     owner: int

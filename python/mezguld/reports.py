@@ -39,8 +39,8 @@ def flag(text: str | None) -> bool:
 # For each kind of finding its text, and the names of the parts in it with how they are read.
 KINDS: list[tuple[str, str, list[Any]]] = [
     ("mapped_away", f"header at {WORD} mapped away", [("header", hexadecimal)]),
-    ("destroyed", f"arena destroyed at {WORD}", [("header", hexadecimal)]),
-    ("whole", "arena whole again", []),
+    ("destroyed", f"block list destroyed at {WORD}", [("header", hexadecimal)]),
+    ("whole", "block list whole again", []),
     ("freed_twice", f"block at {WORD} freed twice", [("block", hexadecimal)]),
     ("division_error", "division error ended the process", []),
     ("not_served", "not served", []),

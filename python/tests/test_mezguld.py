@@ -411,7 +411,8 @@ class Reports(unittest.TestCase):
             (FindingKind.REFUSED, False, 8, 0x0103, Place(0x0103, 0x0113), act, Details(code=7), None, 2, 18),
         )
         self.assertEqual([it.line for it in found], report.splitlines()[:3])
-        self.assertEqual(found[1].line, "error: step 3, 0103:0105 ES MOV BYTE [00000h],000h: arena destroyed at 0102")
+        place = "step 3, 0103:0105 ES MOV BYTE [00000h],000h"
+        self.assertEqual(found[1].line, f"error: {place}: block list destroyed at 0102")
         self.assertEqual(f"{found[0].details}", f"Details(old_contents={old}, new_contents={new}, header=258)")
         self.assertEqual(repr(found[0].at), "Place(cs=0x0103, ip=0x0105, before=False)")
 

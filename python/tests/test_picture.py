@@ -110,7 +110,7 @@ class Records(unittest.TestCase):
                     "text": "header at 0145 overwritten: 4D 0103 0001 became 2A 0103 0001",
                     **once,
                 },
-                {"type": "error", "kind": "destroyed", **place, "text": "arena destroyed at 0145", **once},
+                {"type": "error", "kind": "destroyed", **place, "text": "block list destroyed at 0145", **once},
                 {
                     "type": "note",
                     "kind": "refused",

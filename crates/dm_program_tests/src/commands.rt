@@ -163,7 +163,7 @@ errors: 0, notes: 1
         b"",
         "\
 error: step 4, 0103:0105 MOV [00000h],AL: header at 0102 overwritten: 5A 0103 9EFD became 02 0103 9EFD
-error: step 4, 0103:0105 MOV [00000h],AL: arena destroyed at 0102
+error: step 4, 0103:0105 MOV [00000h],AL: block list destroyed at 0102
 errors: 2, notes: 0
 stopped: destroyed at 0103:010B: INT 21h function 4Ch (End Program)
 ",

@@ -68,8 +68,8 @@ abbrev pub finding_text : Act → Finding → List ℕ
 finding_text a (Overwritten at old new) = codes "header at " ++ four_digits at ++ codes " overwritten: "
     ++ contents_text old ++ codes " became " ++ contents_text new
 finding_text a (MappedAway at) = codes "header at " ++ four_digits at ++ codes " mapped away"
-finding_text a (Destroyed at) = codes "arena destroyed at " ++ four_digits at
-finding_text a Whole = codes "arena whole again"
+finding_text a (Destroyed at) = codes "block list destroyed at " ++ four_digits at
+finding_text a Whole = codes "block list whole again"
 finding_text a (FreedTwice at) = codes "block at " ++ four_digits at ++ codes " freed twice"
 finding_text a (Refused code) = refusal_text a code
 finding_text a (NotAllocated code) = refusal_text a code

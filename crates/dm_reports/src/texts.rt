@@ -267,8 +267,8 @@ fn put_finding(out: &mut Vec<u8>, act: &Act, finding: &Finding) -> Result<(), Al
     match finding {
         Finding::Overwritten(at, old, new) => put_overwritten(out, *at, *old, *new),
         Finding::MappedAway(at) => put_segment(out, b"header at ", *at, b" mapped away"),
-        Finding::Destroyed(at) => put_segment(out, b"arena destroyed at ", *at, b""),
-        Finding::Whole => out.extend_from_slice(b"arena whole again"),
+        Finding::Destroyed(at) => put_segment(out, b"block list destroyed at ", *at, b""),
+        Finding::Whole => out.extend_from_slice(b"block list whole again"),
         Finding::FreedTwice(at) => put_segment(out, b"block at ", *at, b" freed twice"),
         Finding::Refused(code) | Finding::NotAllocated(code) => put_refused(out, act, *code),
         Finding::DivisionError => out.extend_from_slice(b"division error ended the process"),
