@@ -343,7 +343,12 @@ def elsewhere():
         steps=REPEATS,
         parts=REPEATS,
     )
-    for where, segment, setup in (("a window", "0E000h", PAGE), ("D000h", "0D000h", ()), ("B800h", "0B800h", ())):
+    for where, segment, setup in (
+        ("a window", "0E000h", PAGE),
+        ("D000h", "0D000h", ()),
+        ("B800h", "0B800h", ()),
+        ("the high memory area", "0FFFFh", A20),
+    ):
         full = (*setup, f"MOV AX,{segment}", "MOV DS,AX", "MOV ES,AX", *REGISTERS)
         yield f"a step that reads a word in {where}", Sample("MOV", where, "MOV AX,[BX]", setup=full)
         yield f"a step that writes a word in {where}", Sample("MOV", where, "MOV [BX],AX", setup=full)
@@ -355,6 +360,10 @@ def elsewhere():
                 whole, where, "REP", full, before=("MOV SI,1000h", "MOV DI,2000h")
             )
     yield from in_a_window()
+    high = (*A20, "MOV AX,0FFFFh", "MOV DS,AX", *REGISTERS)
+    yield "a step that adds to a word in the high memory area", Sample("ADD", "high", "ADD [BX],AX", setup=high)
+    upper = ("MOV AX,0C801h", "MOV DS,AX", *REGISTERS, "MOV BX,9000h")
+    yield "a step that reads a word in upper memory, by segment C801h", Sample("MOV", "C801h", "MOV AX,[BX]", setup=upper)
     for whole in ("MOVSB", "MOVSW", "STOSB", "STOSW"):
         yield f"a repetition of {whole} upwards, 1,000 of them", repeated(
             whole, "", "REP", (), kind="1,000", repeats=1000
@@ -385,6 +394,14 @@ def elsewhere():
     )
     yield "far CALL and RETF, each, with the function in another segment", Sample(
         "CALL FAR", "far", ("DB 9Ah", "DW 2,1200h"), setup=there, steps=2, parts=2
+    )
+    above = ("MOV AX,0D123h", "MOV ES,AX", "ES MOV BYTE [8000h],0CFh", "ES MOV BYTE [8002h],0CBh")
+    high_vector = ("XOR AX,AX", "MOV ES,AX", "ES MOV WORD [00180h],8000h", "ES MOV WORD [00182h],0D123h")
+    yield "INT 60h and IRET, each, with the handler in upper memory", Sample(
+        "INT", "upper", "INT 60h", setup=(*above, *high_vector), steps=2, parts=2
+    )
+    yield "far CALL and RETF, each, with the function in upper memory", Sample(
+        "CALL FAR", "upper", ("DB 9Ah", "DW 8002h,0D123h"), setup=above, steps=2, parts=2
     )
     pointer = ("MOV WORD [2400h],2", "MOV WORD [2402h],1200h")
     yield "far CALL of memory and RETF, each, with the function in another segment", Sample(

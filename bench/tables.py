@@ -51,6 +51,8 @@ OTHERS = {
     "dividing check": ("the same", "`dm check`, where nothing that interrupt 0 would touch is marked", "{:,.0f}"),
     "repeating run": ("a step of a loop that moves 64 bytes by REP MOVSB, 64 of its 68 steps", "`dm run`", "{:,.0f}"),
     "repeating check": ("the same", "`dm check`, where nothing at DS, SS and ES is marked", "{:,.0f}"),
+    "ahead run": ("the same loop in a block of 2 KiB: free memory is in reach of DS and ES", "`dm run`", "{:,.0f}"),
+    "ahead check": ("the same", "`dm check`, which compares the marks of the paragraphs ahead", "{:,.0f}"),
     "late run": (
         "a step of a loop of nine instructions in segments that are loaded after the last call of a service",
         "`dm run`",
