@@ -1,6 +1,6 @@
 ; Allocates, frees and splits blocks of conventional memory by functions 48h, 49h and 4Ah of INT 21h, and
 ; prints the block list: a line for each header, with its segment, signature, owner and size.
-        MOV AH,4Ah              ; the program keeps 1000h paragraphs: ES is its prefix
+        MOV AH,4Ah              ; the program keeps 1000h paragraphs: ES is its PSP
         MOV BX,1000h
         INT 21h
         MOV AH,48h              ; a block of 10h paragraphs

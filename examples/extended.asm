@@ -1,4 +1,4 @@
-; Gets the address of the extended memory driver, allocates a block of 16 KiB, copies a line into it and back to another
+; Gets the address of the XMS driver, allocates a block of 16 KiB, copies a line into it and back to another
 ; place, frees the block and prints the copy.
         MOV AX,4310h            ; the driver's address
         INT 2Fh

@@ -8,7 +8,7 @@
         INT 67h
         MOV AH,47h              ; saves the map
         INT 67h
-        MOV AX,4310h            ; the extended memory driver's address
+        MOV AX,4310h            ; the XMS driver's address
         INT 2Fh
         MOV [driver],BX
         MOV WORD [driver+2],ES

@@ -1,4 +1,4 @@
-; Looks for the expanded memory driver as programs do, allocates four pages, maps each in the window of its number,
+; Looks for the EMS driver as programs do, allocates four pages, maps each in the window of its number,
 ; writes a letter into each window and reads all four; then maps the last page in the first window too and reads them
 ; again.
         MOV AX,3567h            ; the segment of vector 67h

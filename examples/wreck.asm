@@ -1,7 +1,7 @@
-; Overwrites the signature of the header of its own block and requests a block: the block list is broken,
-; so the call returns error 7, which the program prints. Then it restores the header and ends.
+; Overwrites the signature of the header of its own block and requests a block: the block list is destroyed,
+; so the call returns error code 7, which the program prints. Then it restores the header and ends.
         MOV AX,DS
-        DEC AX                  ; the header is one paragraph below the prefix
+        DEC AX                  ; the header is one paragraph below the PSP
         MOV ES,AX
         ES MOV BYTE [0],0
         MOV AH,48h

@@ -157,8 +157,8 @@ typedef struct mezguld_block {
     uint8_t signature, list;
 } mezguld_block;
 
-/* How the block lists end: whole (`destroyed` is 0), or at the segment `at`, where a header has to be and none
- * can. */
+/* How the block lists end: valid (`destroyed` is 0), or destroyed (1) at the segment `at`, where a header has to be and
+ * none can. */
 typedef struct mezguld_list_end {
     uint16_t destroyed, at;
 } mezguld_list_end;
@@ -184,40 +184,40 @@ typedef struct mezguld_extended_block {
     uint16_t handle, kib;
 } mezguld_extended_block;
 
-/* An upper memory block of the extended memory driver: the segment of its first paragraph, as function 10h returned
- * it, and its size in paragraphs. */
+/* An upper memory block of the XMS driver: the segment of its first paragraph, as function 10h returned it, and its
+ * size in paragraphs. */
 typedef struct mezguld_upper_block {
     uint16_t segment, size;
 } mezguld_upper_block;
 
 /* The kinds of findings, each with the members of `details` that count for it. `dm check --json` has the same words. */
 typedef enum mezguld_finding_kind {
-    MEZGULD_FOUND_OVERWRITTEN = 0,      /* `header`, `old_contents`, `new_contents` */
-    MEZGULD_FOUND_MAPPED_AWAY = 1,      /* `header` */
-    MEZGULD_FOUND_DESTROYED = 2,        /* `header` */
-    MEZGULD_FOUND_WHOLE = 3,            /* none */
-    MEZGULD_FOUND_FREED_TWICE = 4,      /* `block` */
-    MEZGULD_FOUND_REFUSED = 5,          /* `code` */
-    MEZGULD_FOUND_NOT_ALLOCATED = 6,    /* `code` */
-    MEZGULD_FOUND_DIVISION_ERROR = 7,   /* none */
-    MEZGULD_FOUND_SHORT = 8,            /* `code`, `wanted`, `available` */
-    MEZGULD_FOUND_NOT_SERVED = 9,       /* none */
-    MEZGULD_FOUND_FREE_READ = 10,       /* `block`, `segment`, `offset` */
-    MEZGULD_FOUND_FREE_WRITTEN = 11,    /* `block`, `segment`, `offset` */
-    MEZGULD_FOUND_STACK_FREED = 12,     /* `block` */
-    MEZGULD_FOUND_WINDOW_LOST = 13,     /* `window`, `segment`, `offset` */
-    MEZGULD_FOUND_ROM_WRITTEN = 14,     /* `segment`, `offset` */
-    MEZGULD_FOUND_NOTHING_WRITTEN = 15, /* `segment`, `offset` */
-    MEZGULD_FOUND_TAIL_WRITTEN = 16,    /* `header`, `byte` */
-    MEZGULD_FOUND_OTHER_FREED = 17,     /* `block`, `owner` */
-    MEZGULD_FOUND_NOT_RESIZED = 18,     /* `wanted` */
-    MEZGULD_FOUND_HANDLE_KEPT = 19,     /* `handle`, `pages`, `saved`; this and the next ones: left by a program that
-                                         * has ended (an error), or held by one that stays resident (a note) */
-    MEZGULD_FOUND_WINDOW_KEPT = 20,     /* `window` */
-    MEZGULD_FOUND_BLOCK_KEPT = 21,      /* `handle`, `kib`, `locked` */
-    MEZGULD_FOUND_UPPER_KEPT = 22,      /* `block` */
-    MEZGULD_FOUND_AREA_KEPT = 23,       /* none: the high memory area */
-    MEZGULD_FOUND_LINE_KEPT = 24        /* none: address line A20, which is on */
+    MEZGULD_FOUND_OVERWRITTEN = 0,          /* `header`, `old_contents`, `new_contents` */
+    MEZGULD_FOUND_MAPPED_AWAY = 1,          /* `header` */
+    MEZGULD_FOUND_DESTROYED = 2,            /* `header` */
+    MEZGULD_FOUND_VALID = 3,                /* none */
+    MEZGULD_FOUND_FREED_TWICE = 4,          /* `block` */
+    MEZGULD_FOUND_REFUSED = 5,              /* `code` */
+    MEZGULD_FOUND_NOT_ALLOCATED = 6,        /* `code` */
+    MEZGULD_FOUND_DIVISION_ERROR = 7,       /* none */
+    MEZGULD_FOUND_NOT_ENOUGH_MEMORY = 8,    /* `code`, `wanted`, `available` */
+    MEZGULD_FOUND_NOT_SERVED = 9,           /* none */
+    MEZGULD_FOUND_FREE_READ = 10,           /* `block`, `segment`, `offset` */
+    MEZGULD_FOUND_FREE_WRITTEN = 11,        /* `block`, `segment`, `offset` */
+    MEZGULD_FOUND_STACK_FREED = 12,         /* `block` */
+    MEZGULD_FOUND_WINDOW_LOST = 13,         /* `window`, `segment`, `offset` */
+    MEZGULD_FOUND_ROM_WRITTEN = 14,         /* `segment`, `offset` */
+    MEZGULD_FOUND_NO_MEMORY_WRITTEN = 15,   /* `segment`, `offset` */
+    MEZGULD_FOUND_HEADER_BYTE_WRITTEN = 16, /* `header`, `byte` */
+    MEZGULD_FOUND_OTHER_FREED = 17,         /* `block`, `owner` */
+    MEZGULD_FOUND_NOT_RESIZED = 18,         /* `wanted` */
+    MEZGULD_FOUND_HANDLE_KEPT = 19,         /* `handle`, `pages`, `saved`; this and the next ones: left allocated by a
+                                             * program that has ended (an error) or stays resident (a note) */
+    MEZGULD_FOUND_WINDOW_KEPT = 20,         /* `window` */
+    MEZGULD_FOUND_BLOCK_KEPT = 21,          /* `handle`, `kib`, `locked` */
+    MEZGULD_FOUND_UPPER_KEPT = 22,          /* `block` */
+    MEZGULD_FOUND_AREA_KEPT = 23,           /* none: the high memory area */
+    MEZGULD_FOUND_LINE_KEPT = 24            /* none: address line A20, which is on */
 } mezguld_finding_kind;
 
 /* How a step was performed, and the members of a mezguld_act that count then. */
@@ -225,7 +225,7 @@ typedef enum mezguld_how {
     MEZGULD_INSTRUCTION = 0, /* an instruction, which ends before the offset `next` */
     MEZGULD_INTERRUPT = 1,   /* a call by `interrupt` */
     MEZGULD_FUNCTION = 2,    /* a call by `interrupt` with `function` in AH */
-    MEZGULD_FAR_CALL = 3     /* a far call of the extended memory driver with `function` in AH */
+    MEZGULD_FAR_CALL = 3     /* a far call of the XMS driver with `function` in AH */
 } mezguld_how;
 
 /* What was performed in a step. The members that do not count are 0. */
@@ -263,8 +263,8 @@ typedef struct mezguld_details {
 /* A finding of a checked run. */
 typedef struct mezguld_finding {
     uint64_t step;        /* the number of the step; the first step of a machine is 1 */
-    uint64_t more, last;  /* how many findings after it repeat it, and the step of the last that does, or its own */
-    uint64_t origin_step; /* the step that freed what it is about, or allocated what is left or held; 0: not known */
+    uint64_t more, last;  /* how often it occurs again, and the step of the last occurrence, or its own */
+    uint64_t origin_step; /* the step that freed what it is about, or allocated what is left allocated; 0: not known */
     mezguld_finding_kind kind;
     uint32_t is_error;    /* 1 for an error, 0 for a note */
     mezguld_place at, origin_at; /* where the step was performed, and where that of `origin_step` was */
@@ -393,9 +393,9 @@ MEZGULD_CALL mezguld_status mezguld_read_linear(const mezguld *machine, uint32_t
 MEZGULD_CALL mezguld_status mezguld_write_linear(mezguld *machine, uint32_t address, const void *bytes, size_t count);
 
 /* Copies the headers of the block lists, in their order, into a buffer: those of the first list, and then, if upper
- * memory has a list and the first one is whole and does not lead there, those of the second one. Writes how many
+ * memory has a list and the first one is valid and does not lead there, those of the second one. Writes how many
  * they are into `*wanted`, and how the lists end into `*end`. (A list is what the program's memory spells: of one
- * that is destroyed, the headers are those before the place where it breaks.)
+ * that is destroyed, the headers are those before the first bad one.)
  * NO_MACHINE, NOT_LOADED, OUT_OF_MEMORY, TOO_SMALL (then `*wanted` and `*end` alone are written). */
 MEZGULD_CALL mezguld_status mezguld_blocks(const mezguld *machine, mezguld_block *buffer, size_t room, size_t *wanted,
                                            mezguld_list_end *end);
@@ -418,8 +418,8 @@ MEZGULD_CALL mezguld_status mezguld_windows(const mezguld *machine, mezguld_wind
 MEZGULD_CALL mezguld_status mezguld_extended_blocks(const mezguld *machine, mezguld_extended_block *buffer, size_t room,
                                                     size_t *wanted);
 
-/* Copies the upper memory blocks of the extended memory driver, by rising segment, into a buffer, and writes how
- * many they are, at most 64, into `*wanted`.
+/* Copies the upper memory blocks of the XMS driver, by rising segment, into a buffer, and writes how many they are, at
+ * most 64, into `*wanted`.
  * NO_MACHINE, NOT_LOADED, OUT_OF_MEMORY, TOO_SMALL (then `*wanted` alone is written). */
 MEZGULD_CALL mezguld_status mezguld_upper_blocks(const mezguld *machine, mezguld_upper_block *buffer, size_t room,
                                                  size_t *wanted);
@@ -488,8 +488,8 @@ MEZGULD_CALL mezguld_status mezguld_answer(const mezguld *machine, char *buffer,
 MEZGULD_CALL mezguld_status mezguld_findings(const mezguld *machine, mezguld_finding *buffer, size_t room,
                                              size_t *wanted);
 
-/* Writes how many errors and how many notes that report has, repetitions included, into `*errors` and `*notes`, and
- * how many findings it neither lists nor counts as repetitions, since it lists 100 errors and 100 notes, into
+/* Writes how many errors and how many notes that report has, each occurrence counted, into `*errors` and `*notes`, and
+ * how many findings it neither lists nor counts as further occurrences, since it lists 100 errors and 100 notes, into
  * `*omitted`. NO_MACHINE. */
 MEZGULD_CALL mezguld_status mezguld_finding_counts(const mezguld *machine, uint64_t *errors, uint64_t *notes,
                                                    uint64_t *omitted);

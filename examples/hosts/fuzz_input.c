@@ -1,4 +1,4 @@
-/* A libFuzzer harness: feeds console input to a guest program until its block list breaks.
+/* A libFuzzer harness: feeds console input to a guest program until its block list is destroyed.
  *
  * MEZGULD_GUEST names the COM file. The run may make 100,000 steps.
  */
@@ -40,7 +40,7 @@ static void must(mezguld_status status)
 }
 
 /* Whether the debugger's listing says that a block list is destroyed. */
-static int is_broken(const char *text, size_t count)
+static int is_destroyed(const char *text, size_t count)
 {
     static const char word[] = "destroyed";
     for (size_t at = 0; at + sizeof word - 1 <= count; at++)
@@ -61,9 +61,9 @@ int LLVMFuzzerTestOneInput(const uint8_t *data, size_t size)
     must(mezguld_run(machine, 100000, &stopped));
     must(mezguld_command(machine, "M", 1, &wanted));
     must(mezguld_answer(machine, text, sizeof text, &wanted));
-    int broken = is_broken(text, wanted);
+    int destroyed = is_destroyed(text, wanted);
     mezguld_free(machine);
-    if (broken) {
+    if (destroyed) {
         fprintf(stderr, "the block list is destroyed:\n%.*s", (int)wanted, text);
         abort();
     }

@@ -460,20 +460,20 @@ class FindingKind(enum.Enum):
     OVERWRITTEN = 0
     MAPPED_AWAY = 1
     DESTROYED = 2
-    WHOLE = 3
+    VALID = 3
     FREED_TWICE = 4
     REFUSED = 5
     NOT_ALLOCATED = 6
     DIVISION_ERROR = 7
-    SHORT = 8
+    NOT_ENOUGH_MEMORY = 8
     NOT_SERVED = 9
     FREE_READ = 10
     FREE_WRITTEN = 11
     STACK_FREED = 12
     WINDOW_LOST = 13
     ROM_WRITTEN = 14
-    NOTHING_WRITTEN = 15
-    TAIL_WRITTEN = 16
+    NO_MEMORY_WRITTEN = 15
+    HEADER_BYTE_WRITTEN = 16
     OTHER_FREED = 17
     NOT_RESIZED = 18
     HANDLE_KEPT = 19
@@ -486,7 +486,7 @@ class FindingKind(enum.Enum):
 
 class How(enum.Enum):
     """How a step was performed: as an instruction, as a call by an interrupt, by an interrupt with the number of a
-    function in AH, or by a far call of the extended memory driver with that of a function."""
+    function in AH, or by a far call of the XMS driver with that of a function."""
 
     INSTRUCTION = 0
     INTERRUPT = 1

@@ -168,7 +168,7 @@ def report_of(lines: list[str], code: int) -> Report:
 
 
 def key_of(finding: dict[str, Any]) -> str:
-    """What a finding and the line about its repetitions have alike."""
+    """What a finding and the line about its further occurrences have alike."""
     return json.dumps([value for name, value in finding.items() if name not in ("type", "more", "last")])
 
 
@@ -726,12 +726,12 @@ def dos_refused(after: Values) -> int:
 
 
 def expanded_refused(after: Values) -> int:
-    """The status of a call of the expanded memory driver."""
+    """The status of a call of the EMS driver."""
     return after[AX] >> 8
 
 
 def extended_refused(after: Values) -> int:
-    """The code with which a call of the extended memory driver was refused, or 0."""
+    """The code with which a call of the XMS driver was refused, or 0."""
     return 0 if after[AX] else (after[BX] & 0xFF) or 0x80
 
 

@@ -38,9 +38,9 @@ __all__ = [
 @dataclass(frozen=True)
 class Block:
     """A header of a block list of DOS: its own segment (findings have that of its block, one above); whether it is
-    signed `Z` as the last of its list; the owner of the block (0: free; 8: DOS; else the segment of a program's
-    prefix); the size of the block in paragraphs of 16 bytes; and its list: 0 for the first one, 1 for that of upper
-    memory where the first does not lead to it. Its segments print in hexadecimal."""
+    signed `Z` as the last of its list; the owner of the block (0: free; 8: DOS; else the segment of a program's PSP);
+    the size of the block in paragraphs of 16 bytes; and its list: 0 for the first one, 1 for that of upper memory
+    where the first does not lead to it. Its segments print in hexadecimal."""
 
     segment: int
     last: bool
@@ -56,8 +56,8 @@ class Block:
 
 
 class Blocks(list):
-    """The block lists, as a list of headers. `destroyed` is None, or the segment of the first bad header, at which a
-    block list breaks: the headers are those before it."""
+    """The block lists, as a list of headers. `destroyed` is None, or the segment of the first bad header of a
+    destroyed list: the headers are those before it."""
 
     def __init__(self, blocks: Iterable[Block] = (), destroyed: int | None = None) -> None:
         super().__init__(blocks)
@@ -110,8 +110,8 @@ class ExtendedBlock:
 
 @dataclass(frozen=True)
 class UpperBlock:
-    """An upper memory block of the extended memory driver: the segment of its first paragraph, as function 10h
-    returned it, and its size in paragraphs. Its segment prints in hexadecimal."""
+    """An upper memory block of the XMS driver: the segment of its first paragraph, as function 10h returned it, and
+    its size in paragraphs. Its segment prints in hexadecimal."""
 
     segment: int
     size: int
@@ -177,8 +177,8 @@ class Place:
 
 @dataclass(frozen=True)
 class Origin:
-    """The step that freed the memory that a finding is about, or allocated what a program has left or holds, and its
-    place."""
+    """The step that freed the memory that a finding is about, or allocated what a program leaves allocated, and
+    its place."""
 
     step: int
     at: Place
@@ -201,7 +201,7 @@ class Details:
     - `header`: the segment of a header; `old_contents` and `new_contents`: what it held before the step and after it;
       `byte`: which byte of it was written, 5 to 15.
     - `block`: the segment of a block's first paragraph, as the call that allocated it returned it, one above that of
-      its header, if it has one; `owner`: the prefix of the process that owns it.
+      its header, if it has one; `owner`: the PSP of the process that owns it.
     - `segment`, `offset`: the address of the first byte that an instruction touches there.
     - `window`: a window of the page frame, 0 to 3.
     - `handle`: a handle; `pages`: how many pages of 16 KiB it has; `saved`: whether the windows are saved under it;
@@ -234,9 +234,9 @@ class Details:
 @dataclass(frozen=True)
 class Finding:
     """A finding of a checked run: its kind, whether it is an error (else a note), the step, the process (the segment
-    of its prefix), the place of the step, what was performed, what the finding is about, the step that freed or
-    allocated that (`None` where it is not known), how often it came again (`more`), the step of the last time, and
-    its line in the report."""
+    of its PSP), the place of the step, what was performed, what the finding is about, the step that freed or
+    allocated that (`None` where it is not known), how often it occurred again (`more`), the step of the last
+    occurrence, and its line in the report."""
 
     kind: FindingKind
     is_error: bool
@@ -273,14 +273,14 @@ _DETAILS = {
     FindingKind.FREED_TWICE: "block",
     FindingKind.REFUSED: "code",
     FindingKind.NOT_ALLOCATED: "code",
-    FindingKind.SHORT: "code wanted available",
+    FindingKind.NOT_ENOUGH_MEMORY: "code wanted available",
     FindingKind.FREE_READ: "block segment offset",
     FindingKind.FREE_WRITTEN: "block segment offset",
     FindingKind.STACK_FREED: "block",
     FindingKind.WINDOW_LOST: "window segment offset",
     FindingKind.ROM_WRITTEN: "segment offset",
-    FindingKind.NOTHING_WRITTEN: "segment offset",
-    FindingKind.TAIL_WRITTEN: "header byte",
+    FindingKind.NO_MEMORY_WRITTEN: "segment offset",
+    FindingKind.HEADER_BYTE_WRITTEN: "header byte",
     FindingKind.OTHER_FREED: "block owner",
     FindingKind.NOT_RESIZED: "wanted",
     FindingKind.HANDLE_KEPT: "handle pages saved",

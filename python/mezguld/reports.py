@@ -11,7 +11,7 @@ from typing import Any, Dict
 
 Members = Dict[str, Any]
 
-# What stands before the words of what a resident program holds.
+# What stands before the words of what a resident program leaves allocated.
 RESIDENT = "kept resident: "
 WORD = r"([0-9A-F]{4})"
 ADDRESS = f"{WORD}:{WORD}"
@@ -40,12 +40,12 @@ def flag(text: str | None) -> bool:
 KINDS: list[tuple[str, str, list[Any]]] = [
     ("mapped_away", f"header at {WORD} mapped away", [("header", hexadecimal)]),
     ("destroyed", f"block list destroyed at {WORD}", [("header", hexadecimal)]),
-    ("whole", "block list whole again", []),
+    ("valid", "block list valid again", []),
     ("freed_twice", f"block at {WORD} freed twice", [("block", hexadecimal)]),
     ("division_error", "division error ended the process", []),
     ("not_served", "not served", []),
     (
-        "short",
+        "not_enough_memory",
         "refused with code ([0-9A-F]{2})h, not enough memory: ([0-9]+) paragraphs? wanted, ([0-9]+) available",
         [("code", hexadecimal), ("wanted", int), ("available", int)],
     ),
@@ -61,7 +61,7 @@ KINDS: list[tuple[str, str, list[Any]]] = [
         "XMS handle ([0-9]+): ([0-9]+) KiB not freed(, locked)?",
         [("handle", int), ("kib", int), ("locked", flag)],
     ),
-    ("upper_kept", f"upper block at {WORD} not freed", [("block", hexadecimal)]),
+    ("upper_kept", f"upper memory block at {WORD} not freed", [("block", hexadecimal)]),
     ("area_kept", "HMA not released", []),
     ("line_kept", "A20 left on", []),
     ("free_read", f"reads {ADDRESS} in the free block at {WORD}", ["address", ("block", hexadecimal)]),
@@ -69,8 +69,8 @@ KINDS: list[tuple[str, str, list[Any]]] = [
     ("stack_freed", f"the stack is in the free block at {WORD}", [("block", hexadecimal)]),
     ("window_lost", f"writes {ADDRESS} in window ([0-9]+), which shows no page", ["address", ("window", int)]),
     ("rom_written", f"writes {ADDRESS} in the ROM", ["address"]),
-    ("nothing_written", f"writes {ADDRESS}, where there is no memory", ["address"]),
-    ("tail_written", f"byte ([0-9]+) of the header at {WORD} written", [("byte", int), ("header", hexadecimal)]),
+    ("no_memory_written", f"writes {ADDRESS}, where there is no memory", ["address"]),
+    ("header_byte_written", f"byte ([0-9]+) of the header at {WORD} written", [("byte", int), ("header", hexadecimal)]),
     ("other_freed", f"block at {WORD} of process {WORD} freed", [("block", hexadecimal), ("owner", hexadecimal)]),
     ("not_resized", "block not resized to ([0-9]+) paragraphs?", [("wanted", int)]),
 ]

@@ -79,7 +79,7 @@ PLANTED = (
     ("docs/proved.md", "`put_omitted`", "`put_told`, `put_pages`", "dm_reports has no public `put_pages`"),
     ("docs/manual.md", "| 51h, 62h | gets", "| 51h | gets", "the table of INT 21h lacks one of"),
     ("docs/manual.md", "| `tail too long` |", "| `tail is too long` |", "no table under Faults has `tail too long`"),
-    ("docs/manual.md", "| `tail_written` |", "| `tail_wrote` |", "no table under A report in JSON has `tail_written`"),
+    ("docs/manual.md", "| `other_freed` |", "| `other_frees` |", "no table under A report in JSON has `other_freed`"),
     (
         "docs/recipes.md",
         "        parts.cpu.bx = 0;\n",

@@ -158,7 +158,7 @@ pub extern "C" fn dm_c_findings(
 }
 
 /// Sets `errors` and `notes` to how many of each the last checked run had, and `omitted` to how many findings its
-/// report neither lists nor counts as repetitions. No program need be loaded.
+/// report neither lists nor counts as further occurrences of one that it lists. No program need be loaded.
 #[unsafe(no_mangle)]
 pub extern "C" fn dm_c_finding_counts(
     alloc: Global,

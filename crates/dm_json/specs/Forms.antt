@@ -34,7 +34,7 @@ line_in form l = found_in form l.found
 abbrev pub lines_in : Format → List Listed → List ℕ
 lines_in form ls = flat_map (line_in form) ls
 
--- what follows those lines: the lines about repetitions, about what is left out, and of all errors and notes
+-- what follows those lines: the lines about further occurrences, about what is left out, and of all errors and notes
 abbrev pub summary_in : Format → Reported → List ℕ
 summary_in Text r = summary_text r
 summary_in Json r = summary_objects r

@@ -111,13 +111,13 @@ abbrev pub kind_word : Finding → List ℕ
 kind_word (Overwritten at old new) = codes "overwritten"
 kind_word (MappedAway at) = codes "mapped_away"
 kind_word (Destroyed at) = codes "destroyed"
-kind_word Whole = codes "whole"
+kind_word Whole = codes "valid"
 kind_word (FreedTwice at) = codes "freed_twice"
 kind_word (Refused code) = codes "refused"
 kind_word (NotAllocated code) = codes "not_allocated"
 kind_word DivisionError = codes "division_error"
 kind_word NotServed = codes "not_served"
-kind_word (Short asked largest) = codes "short"
+kind_word (Short asked largest) = codes "not_enough_memory"
 kind_word (NotFreed k) = kept_word k
 kind_word (Held k) = kept_word k
 kind_word (FreeRead block segment offset) = codes "free_read"
@@ -125,8 +125,8 @@ kind_word (FreeWritten block segment offset) = codes "free_written"
 kind_word (StackFreed block) = codes "stack_freed"
 kind_word (WindowLost window segment offset) = codes "window_lost"
 kind_word (RomWritten segment offset) = codes "rom_written"
-kind_word (NothingWritten segment offset) = codes "nothing_written"
-kind_word (TailWritten at byte) = codes "tail_written"
+kind_word (NothingWritten segment offset) = codes "no_memory_written"
+kind_word (TailWritten at byte) = codes "header_byte_written"
 kind_word (OtherFreed at owner) = codes "other_freed"
 kind_word (NotResized asked) = codes "not_resized"
 
@@ -173,7 +173,7 @@ detail_members (TailWritten at byte) = number_member (codes "header") at ++ numb
 detail_members (OtherFreed at owner) = number_member (codes "block") at ++ number_member (codes "owner") owner
 detail_members (NotResized asked) = number_member (codes "wanted") asked
 
--- the name of the step that turned on or allocated what is left or held
+-- the name of the step that turned on or allocated what is left allocated
 abbrev pub kept_name : Kept → List ℕ
 kept_name kept.Line = codes "turned_on_by"
 kept_name _ = codes "allocated_by"
@@ -212,12 +212,12 @@ object_end = codes "}" ++ 10 ∷ []
 unfoldable pub found_object : Found → List ℕ
 found_object f = opening (kind_text (is_error f.finding)) ++ found_members f ++ object_end
 
--- the line about the repetitions of a finding: how many they are, and the step of the last
+-- the line about the further occurrences of a finding: how many they are, and the step of the last
 unfoldable pub repeated_object : Listed → List ℕ
 repeated_object l = opening (codes "again") ++ found_members l.found ++ number_member (codes "more") l.more
     ++ number_member (codes "last") l.last ++ object_end
 
--- the line about the repetitions of a finding that the report lists; none if there are none
+-- the line about the further occurrences of a finding that the report lists; none if there are none
 abbrev pub again_object : Listed → List ℕ
 again_object l = if l.more == 0 then [] else repeated_object l
 
@@ -229,7 +229,7 @@ left_out_object n = opening (codes "omitted") ++ number_member (codes "findings"
 abbrev pub omitted_object : ℕ → List ℕ
 omitted_object n = if n == 0 then [] else left_out_object n
 
--- what follows the lines of the findings: a line for each finding that is repeated; a line about those that are left
+-- what follows the lines of the findings: a line for each finding that occurs again; a line about those that are left
 -- out, if there are any; and a line with the numbers of all errors and notes
 unfoldable pub summary_objects : Reported → List ℕ
 summary_objects r =

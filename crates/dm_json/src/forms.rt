@@ -63,8 +63,8 @@ pub fn put_lines_in(
     Ok(())
 }
 
-/// Appends what follows the lines of the findings that a report lists: the lines about repetitions, about what is left
-/// out, and of all errors and notes.
+/// Appends what follows the lines of the findings that a report lists: the lines about further occurrences, about what
+/// is left out, and of all errors and notes.
 ///
 /// # Errors
 ///

@@ -43,21 +43,21 @@ fn word_of(finding: &Finding) -> &'static [u8]
         Finding::Overwritten(_, _, _) => b"overwritten",
         Finding::MappedAway(_) => b"mapped_away",
         Finding::Destroyed(_) => b"destroyed",
-        Finding::Whole => b"whole",
+        Finding::Whole => b"valid",
         Finding::FreedTwice(_) => b"freed_twice",
         Finding::Refused(_) => b"refused",
         Finding::NotAllocated(_) => b"not_allocated",
         Finding::DivisionError => b"division_error",
         Finding::NotServed => b"not_served",
-        Finding::Short(_, _) => b"short",
+        Finding::Short(_, _) => b"not_enough_memory",
         Finding::NotFreed(kept) | Finding::Held(kept) => kept_word(kept),
         Finding::FreeRead(_, _, _) => b"free_read",
         Finding::FreeWritten(_, _, _) => b"free_written",
         Finding::StackFreed(_) => b"stack_freed",
         Finding::WindowLost(_, _, _) => b"window_lost",
         Finding::RomWritten(_, _) => b"rom_written",
-        Finding::NothingWritten(_, _) => b"nothing_written",
-        Finding::TailWritten(_, _) => b"tail_written",
+        Finding::NothingWritten(_, _) => b"no_memory_written",
+        Finding::TailWritten(_, _) => b"header_byte_written",
         Finding::OtherFreed(_, _) => b"other_freed",
         Finding::NotResized(_) => b"not_resized",
     }
@@ -213,7 +213,7 @@ fn put_act_members(out: &mut Vec<u8>, alloc: Global, act: &Act) -> Result<(), Al
     }
 }
 
-/// The name of the step that turned on or allocated what is left or held.
+/// The name of the step that turned on or allocated what is left allocated.
 fn kept_name(kept: &Kept) -> &'static [u8]
     ensures { result.now ≡ kept_name kept.now }
 {
@@ -223,8 +223,8 @@ fn kept_name(kept: &Kept) -> &'static [u8]
     }
 }
 
-/// The name of the step that did something to what a finding is about: it allocated what is left or held, or turned it
-/// on, and freed memory.
+/// The name of the step that did something to what a finding is about: it allocated what is left allocated, or turned
+/// it on, and freed memory.
 fn origin_name(finding: &Finding) -> &'static [u8]
     ensures { result.now ≡ origin_name finding.now }
 {
@@ -301,7 +301,7 @@ pub(crate) fn put_found_object(
     out.extend_from_slice(b"}\n")
 }
 
-/// Appends the line about the repetitions of a finding: how many they are, and the step of the last.
+/// Appends the line about the further occurrences of a finding: how many they are, and the step of the last.
 #[tactic(auto, unfolding(crate::specs::Objects::repeated_object))]
 fn put_repeated_object(out: &mut Vec<u8>, alloc: Global, listed: &Listed) -> Result<(), AllocError>
     ensures { OnOk result (out.new.items ≡ out.old.items ++ repeated_object listed.now) }
@@ -313,7 +313,7 @@ fn put_repeated_object(out: &mut Vec<u8>, alloc: Global, listed: &Listed) -> Res
     out.extend_from_slice(b"}\n")
 }
 
-/// Appends the line about the repetitions of a finding, if it is repeated.
+/// Appends the line about the further occurrences of a finding, if there are any.
 fn put_again_object(out: &mut Vec<u8>, alloc: Global, listed: &Listed) -> Result<(), AllocError>
     ensures { OnOk result (out.new.items ≡ out.old.items ++ again_object listed.now) }
 {
@@ -323,7 +323,7 @@ fn put_again_object(out: &mut Vec<u8>, alloc: Global, listed: &Listed) -> Result
     put_repeated_object(out, alloc, listed)
 }
 
-/// Appends a line about each finding that is repeated, in their order.
+/// Appends a line about each finding that occurs again, in their order.
 fn put_all_again_objects(
     out: &mut Vec<u8>,
     alloc: Global,

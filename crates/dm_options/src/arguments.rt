@@ -47,7 +47,7 @@ Lines of a session (s:o is a segment and an offset, as 0103:0100; numbers are he
   B s:o, BC s:o, BL  Set a breakpoint, clear it, list all
   M                  Print the block list of DOS memory
   P                  Print the handles and windows of expanded memory
-  X                  Print the blocks of extended memory, upper blocks, A20 and the HMA
+  X                  Print the blocks of extended memory, upper memory blocks, A20 and the HMA
   O                  Print the console output so far
   Q                  End the session
 

@@ -9,7 +9,7 @@ use Rattle.dm_reports.specs.Texts.{count_text, found_line, repeated_line}
 abbrev pub listed_line : Listed → List ℕ
 listed_line l = found_line l.found
 
--- the line about the repetitions of a finding that the report lists; none if there are none
+-- the line about the further occurrences of a finding that the report lists; none if there are none
 abbrev pub again_line : Listed → List ℕ
 again_line l = if l.more == 0 then [] else repeated_line l
 
@@ -25,7 +25,7 @@ omitted_line n = if n == 0 then [] else left_out_line n
 abbrev pub lines_text : List Listed → List ℕ
 lines_text ls = flat_map listed_line ls
 
--- what follows those lines: a line for each finding that is repeated; a line about those that are left out, if there
+-- what follows those lines: a line for each finding that occurs again; a line about those that are left out, if there
 -- are any; and a line with the numbers of all errors and notes
 unfoldable pub summary_text : Reported → List ℕ
 summary_text r =

@@ -59,7 +59,7 @@ kept_text (kept.Handle handle pages saved) = codes "EMS handle " ++ decimal hand
 kept_text (kept.Window window) = codes "window " ++ decimal window ++ codes " still mapped"
 kept_text (kept.Block handle kib locked) = codes "XMS handle " ++ decimal handle ++ codes ": " ++ decimal kib
     ++ codes " KiB not freed" ++ lock_text locked
-kept_text (kept.Upper at) = codes "upper block at " ++ four_digits at ++ codes " not freed"
+kept_text (kept.Upper at) = codes "upper memory block at " ++ four_digits at ++ codes " not freed"
 kept_text kept.Area = codes "HMA not released"
 kept_text kept.Line = codes "A20 left on"
 
@@ -69,7 +69,7 @@ finding_text a (Overwritten at old new) = codes "header at " ++ four_digits at +
     ++ contents_text old ++ codes " became " ++ contents_text new
 finding_text a (MappedAway at) = codes "header at " ++ four_digits at ++ codes " mapped away"
 finding_text a (Destroyed at) = codes "block list destroyed at " ++ four_digits at
-finding_text a Whole = codes "block list whole again"
+finding_text a Whole = codes "block list valid again"
 finding_text a (FreedTwice at) = codes "block at " ++ four_digits at ++ codes " freed twice"
 finding_text a (Refused code) = refusal_text a code
 finding_text a (NotAllocated code) = refusal_text a code
@@ -107,12 +107,13 @@ abbrev pub site_text : Site → List ℕ
 site_text (At segment offset) = address_text segment offset
 site_text (Before segment offset) = codes "before " ++ address_text segment offset
 
--- what a step did to what is left or held: it turned A20 on, and allocated the rest
+-- what a step did to what is left allocated: it turned A20 on, and allocated the rest
 abbrev pub kept_verb : Kept → List ℕ
 kept_verb kept.Line = codes "turned on"
 kept_verb _ = codes "allocated"
 
--- what a step did to what the finding is about: it allocated what is left or held, or turned it on, and freed memory
+-- what a step did to what the finding is about: it allocated what is left allocated, or turned it on, and freed
+-- memory
 abbrev pub origin_verb : Finding → List ℕ
 origin_verb (NotFreed k) = kept_verb k
 origin_verb (Held k) = kept_verb k
@@ -139,7 +140,7 @@ found_text f =
 unfoldable pub found_line : Found → List ℕ
 found_line f = kind_text (is_error f.finding) ++ codes ": " ++ found_text f ++ 10 ∷ []
 
--- the line about the repetitions of a finding: how many they are, and the step of the last
+-- the line about the further occurrences of a finding: how many they are, and the step of the last
 unfoldable pub repeated_line : Listed → List ℕ
 repeated_line l = codes "again: " ++ found_text l.found ++ codes ": " ++ decimal l.more
     ++ codes " more, the last at step " ++ decimal l.last ++ 10 ∷ []

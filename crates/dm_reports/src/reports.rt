@@ -22,7 +22,7 @@ pub fn put_lines(out: &mut Vec<u8>, lines: &[Listed]) -> Result<(), AllocError>
     Ok(())
 }
 
-/// Appends the line about the repetitions of a finding, if it is repeated.
+/// Appends the line about the further occurrences of a finding, if there are any.
 fn put_again(out: &mut Vec<u8>, line: &Listed) -> Result<(), AllocError>
     ensures { OnOk result (out.new.items ≡ out.old.items ++ again_line line.now) }
 {
@@ -32,7 +32,7 @@ fn put_again(out: &mut Vec<u8>, line: &Listed) -> Result<(), AllocError>
     put_repeated(out, line)
 }
 
-/// Appends a line about each finding that is repeated, in their order.
+/// Appends a line about each finding that occurs again, in their order.
 fn put_all_again(out: &mut Vec<u8>, lines: &[Listed]) -> Result<(), AllocError>
     ensures { OnOk result (out.new.items ≡ out.old.items ++ flat_map again_line lines.now) }
 {

@@ -169,13 +169,13 @@ fn put_kept(out: &mut Vec<u8>, kept: &Kept) -> Result<(), AllocError>
         Kept::Handle(handle, pages, saved) => put_handle_kept(out, *handle, *pages, *saved),
         Kept::Window(window) => put_count(out, b"window ", *window as u16, b" still mapped"),
         Kept::Block(handle, kib, locked) => put_block_kept(out, *handle, *kib, *locked),
-        Kept::Upper(at) => put_segment(out, b"upper block at ", *at, b" not freed"),
+        Kept::Upper(at) => put_segment(out, b"upper memory block at ", *at, b" not freed"),
         Kept::Area => out.extend_from_slice(b"HMA not released"),
         Kept::Line => out.extend_from_slice(b"A20 left on"),
     }
 }
 
-/// Appends what a resident program holds.
+/// Appends what a resident program leaves allocated.
 fn put_held(out: &mut Vec<u8>, kept: &Kept) -> Result<(), AllocError>
     ensures { OnOk result (out.new.items ≡ out.old.items ++ (codes "kept resident: " ++ kept_text kept.now)) }
 {
@@ -268,7 +268,7 @@ fn put_finding(out: &mut Vec<u8>, act: &Act, finding: &Finding) -> Result<(), Al
         Finding::Overwritten(at, old, new) => put_overwritten(out, *at, *old, *new),
         Finding::MappedAway(at) => put_segment(out, b"header at ", *at, b" mapped away"),
         Finding::Destroyed(at) => put_segment(out, b"block list destroyed at ", *at, b""),
-        Finding::Whole => out.extend_from_slice(b"block list whole again"),
+        Finding::Whole => out.extend_from_slice(b"block list valid again"),
         Finding::FreedTwice(at) => put_segment(out, b"block at ", *at, b" freed twice"),
         Finding::Refused(code) | Finding::NotAllocated(code) => put_refused(out, act, *code),
         Finding::DivisionError => out.extend_from_slice(b"division error ended the process"),
@@ -352,7 +352,7 @@ fn put_site(out: &mut Vec<u8>, site: Site) -> Result<(), AllocError>
     }
 }
 
-/// What a step did to what is left or held: it turned A20 on, and allocated the rest.
+/// What a step did to what is left allocated: it turned A20 on, and allocated the rest.
 fn kept_verb(kept: &Kept) -> &'static [u8]
     ensures { result.now ≡ kept_verb kept.now }
 {
@@ -362,7 +362,7 @@ fn kept_verb(kept: &Kept) -> &'static [u8]
     }
 }
 
-/// What a step did to what a finding is about: it allocated what is left or held, or turned it on, and freed memory.
+/// What a step did to what a finding is about: it allocated what is left allocated, or turned it on, and freed memory.
 fn verb_of(finding: &Finding) -> &'static [u8]
     ensures { result.now ≡ origin_verb finding.now }
 {
@@ -436,7 +436,7 @@ pub fn put_found(out: &mut Vec<u8>, found: &Found) -> Result<(), AllocError>
     out.extend_from_slice(b"\n")
 }
 
-/// Appends the line about the repetitions of a finding: how many they are, and the step of the last.
+/// Appends the line about the further occurrences of a finding: how many they are, and the step of the last.
 #[tactic(auto, unfolding(crate::specs::Texts::repeated_line))]
 pub(crate) fn put_repeated(out: &mut Vec<u8>, listed: &Listed) -> Result<(), AllocError>
     ensures { OnOk result (out.new.items ≡ out.old.items ++ repeated_line listed.now) }

@@ -1,5 +1,5 @@
 ; Allocates two blocks of one paragraph and writes 17 bytes into the first: the last one overwrites the header of the
-; second. The next call detects it and returns error 7; `dm check` reports the step that does it.
+; second. The next call detects it and returns error code 7; `dm check` reports the step that does it.
         MOV SP,400h             ; puts the stack into the block that the program keeps
         MOV AH,4Ah              ; the program keeps 40h paragraphs
         MOV BX,40h

@@ -104,7 +104,7 @@ FindingsTo h before after wanted_before wanted status g =
     (after ≡ before) × (wanted ≡ wanted_before))) × (g ≡ h)
 
 -- `dm_c_finding_counts`: how many errors and notes the last checked run had, and how many findings its report neither
--- lists nor counts as repetitions
+-- lists nor counts as further occurrences of one that it lists
 abbrev pub FindingCountsTo : Hosted → ℕ → ℕ → ℕ → ℕ → Hosted → Type 0
 FindingCountsTo h errors notes omitted status g = (status ≡ 0) × (errors ≡ h.report.errors) ×
     (notes ≡ h.report.notes) × (omitted ≡ h.report.omitted) × (g ≡ h)

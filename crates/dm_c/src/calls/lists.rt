@@ -142,7 +142,7 @@ pub fn findings(alloc: Global, host: &Host, buffer: &mut [FoundRecord], wanted: 
 }
 
 /// Sets `errors` and `notes` to how many of each the last checked run had, and `omitted` to how many findings its
-/// report neither lists nor counts as repetitions.
+/// report neither lists nor counts as further occurrences of one that it lists.
 pub fn finding_counts(host: &Host, errors: &mut u64, notes: &mut u64, omitted: &mut u64) -> u32
     ensures { FindingCountsTo host.now errors.new notes.new omitted.new result host.now }
 {
