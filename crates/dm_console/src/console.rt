@@ -165,8 +165,8 @@ impl Console {
         self.taken += count;
     }
 
-    /// How many bytes of the input are not read yet.
-    pub fn unread(&self) -> usize
+    /// How many bytes of the input are left.
+    pub fn left(&self) -> usize
         ensures { result ≡ length self.now.input }
     {
         self.input.len() - self.taken

@@ -16,7 +16,7 @@ impl Machine {
     pub fn input_left(&self) -> usize
         ensures { result ≡ length self.now.console.input }
     {
-        self.parts.console.unread()
+        self.parts.console.left()
     }
 
     /// Says that more console input may come. From then on a read by handle (INT 21h function 3Fh) that finds no byte

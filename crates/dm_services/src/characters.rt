@@ -94,7 +94,7 @@ pub(crate) fn direct_character(parts: &mut Parts) -> Option<Stop>
 fn status(parts: &Parts) -> u8
     ensures { result ≡ input_status parts.now.console.input }
 {
-    if parts.console.unread() == 0 { 0 } else { 0xFF }
+    if parts.console.left() == 0 { 0 } else { 0xFF }
 }
 
 /// 0Bh: AL becomes FFh if console input is left, else 0. No input is taken, and the machine never stops.

@@ -24,7 +24,7 @@ fn bad_handle(parts: &mut Parts)
 fn waits(parts: &Parts) -> bool
     ensures { result ≡ waits parts.now }
 {
-    parts.console.more() && parts.console.unread() == 0 && parts.cpu.cx > 0
+    parts.console.more() && parts.console.left() == 0 && parts.cpu.cx > 0
 }
 
 /// 3Fh: takes the next CX bytes of the console input, or all if fewer are left, and writes them from DS:DX up. AX
@@ -42,7 +42,7 @@ pub(crate) fn read_handle(parts: &mut Parts) -> Option<Stop>
     if waits(parts) {
         return Some(Stop::InputEnded);
     }
-    let count = parts.console.unread().min(parts.cpu.cx as usize);
+    let count = parts.console.left().min(parts.cpu.cx as usize);
     parts.space.write_bytes(parts.cpu.ds, parts.cpu.dx, &parts.console.input()[..count]);
     parts.console.consume(count);
     parts.cpu.ax = count as u16;

@@ -17,7 +17,7 @@ fn room_is_taken_byte_by_byte(rt: HostRuntime) -> Result<(), Fail> {
     console.put(b'h');
     same(&rt, "room", console.room(), 1);
     same(&rt, "output", console.output(), b"h".as_slice());
-    same(&rt, "input left", console.unread(), 1);
+    same(&rt, "input left", console.left(), 1);
     same(&rt, "reserved", console.reserve_within_capacity(1), true);
     same(
         &rt,
@@ -30,6 +30,6 @@ fn room_is_taken_byte_by_byte(rt: HostRuntime) -> Result<(), Fail> {
     same(&rt, "output", console.output(), b"hi".as_slice());
     same(&rt, "next", console.next(), Some(b'x'));
     same(&rt, "next", console.next(), None);
-    same(&rt, "input left", console.unread(), 0);
+    same(&rt, "input left", console.left(), 0);
     Ok(())
 }
